@@ -1,0 +1,22 @@
+use borrow.Author.Needs.{needs}
+use Rattle.script.proofs.Tests.{tests}
+use Rattle.script.proofs.command.read_lengths.Statement.{statement}
+use Rattle.script.proofs.command.read_lengths.Tie as tie
+use Rattle.script.proofs.command.read_lengths.Reads as reads
+use Rattle.script.proofs.command.read_lengths.Lts as lts
+use Rattle.script.proofs.command.number_at.Reads as number-at-reads
+
+returns : tie.Need-returns
+returns c = search tests
+
+number-at-requires : tie.Need-number-at-requires
+number-at-requires c κs = search needs
+
+number-at-requires-2 : tie.Need-number-at-requires-2
+number-at-requires-2 c κs = search needs
+
+returns-2 : tie.Need-returns-2
+returns-2 c = search tests
+
+pub read-lengths-spec : {M : Type 1} → statement M
+read-lengths-spec = tie.close (tie.spec returns number-at-requires number-at-requires-2 returns-2)

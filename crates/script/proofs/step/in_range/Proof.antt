@@ -1,0 +1,15 @@
+use borrow.Author.Needs.{needs}
+use Rattle.script.proofs.Tests.{tests}
+use Rattle.script.proofs.step.in_range.Statement.{statement}
+use Rattle.script.proofs.step.in_range.Tie as tie
+use Rattle.script.proofs.step.in_range.Reads as reads
+use Rattle.script.proofs.step.in_range.Lts as lts
+
+returns : tie.Need-returns
+returns c = search tests
+
+returns-2 : tie.Need-returns-2
+returns-2 c = search tests
+
+pub in-range-spec : {M : Type 1} → statement M
+in-range-spec = tie.close (tie.spec returns returns-2)

@@ -1,0 +1,15 @@
+use borrow.Author.Needs.{needs}
+use Rattle.script.proofs.Tests.{tests}
+use Rattle.script.proofs.step.judge_cut_short.Statement.{statement}
+use Rattle.script.proofs.step.judge_cut_short.Tie as tie
+use Rattle.script.proofs.step.judge_cut_short.Reads as reads
+use Rattle.script.proofs.step.judge_cut_short.Lts as lts
+
+returns : tie.Need-returns
+returns c = search tests
+
+returns-2 : tie.Need-returns-2
+returns-2 c = search tests
+
+pub judge-cut-short-spec : {M : Type 1} → statement M
+judge-cut-short-spec = tie.close (tie.spec returns returns-2)

@@ -1,0 +1,31 @@
+use mathlib.Core.Path.{sym, _∙_}
+use borrow.Author.Tests.{not-true, not-false}
+use borrow.Author.Needs.{needs}
+use Rattle.script.proofs.step.judge_lengths.Statement.{statement}
+use Rattle.script.proofs.step.judge_lengths.Tie as tie
+use Rattle.script.proofs.step.judge_lengths.Reads as reads
+use Rattle.script.proofs.step.judge_lengths.Lts as lts
+use Rattle.script.proofs.step.in_range.Reads as in-range-reads
+
+in-range-requires : tie.Need-in-range-requires
+in-range-requires c κs = search needs
+
+returns : tie.Need-returns
+returns c = rw (sym (c .before .in-range .ensures) ∙ not-true _ (c .if1 .taken))
+
+in-range-requires-2 : tie.Need-in-range-requires-2
+in-range-requires-2 c κs = search needs
+
+returns-2 : tie.Need-returns-2
+returns-2 c =
+    let p-fits = sym (c .before .before .before .in-range .ensures) ∙ not-false _ (c .before .before .if1 .left) in
+    rw (p-fits, sym (c .before .in-range2 .ensures) ∙ not-true _ (c .if2 .taken))
+
+returns-3 : tie.Need-returns-3
+returns-3 c =
+    let p-fits = sym (c .before .before .before .in-range .ensures) ∙ not-false _ (c .before .before .if1 .left) in
+    rw (p-fits, sym (c .before .in-range2 .ensures) ∙ not-false _ (c .if2 .left))
+
+pub judge-lengths-spec : {M : Type 1} → statement M
+judge-lengths-spec =
+    tie.close (tie.spec in-range-requires returns in-range-requires-2 returns-2 returns-3)

@@ -1,0 +1,39 @@
+-- What stands at the start of a remainder of the script. TO READ: contracts mean what stands here.
+--     numberAt s at     the number in the four bytes from the offset at
+--     commandOf s       the command that s starts with
+-- 01, "The script". Assumes nothing.
+use Prim.Native.Nat.{ℕ, _+_, _*_}
+use mathlib.Core.Bool.{Bool, true, false, cond}
+use mathlib.Core.List.{List}
+use lib.ListN.{length, getD}
+use lib.Dec.{ltb, eqb}
+use Rattle.script.specs.declared.command.Match.{Match}
+use Rattle.script.specs.declared.command.Command.{Command}
+use Rattle.script.specs.declared.command.Command.the-variants.{Missing, Unknown, Lengths, LengthsCutShort, Pairing, MatchCutShort, End, EndThenMore}
+
+-- "unsigned, four bytes, least byte first"
+abbrev pub numberAt : List ℕ → ℕ → ℕ
+numberAt s at =
+    getD s at 0 + 256 * getD s (at + 1) 0 + 65536 * getD s (at + 2) 0 + 16777216 * getD s (at + 3) 0
+
+-- "lengths: p, then q": nine bytes with the command byte
+abbrev pub lengthsOf : List ℕ → Command
+lengthsOf s = cond (ltb (length s) 9) LengthsCutShort (Lengths (numberAt s 1) (numberAt s 5))
+
+-- "direct match; reversed match: left-A, left-B, length": thirteen bytes with the command byte
+abbrev pub matchOf : Bool → List ℕ → Command
+matchOf reversed s =
+    cond (ltb (length s) 13) MatchCutShort
+    (Pairing (record { «left_a» = numberAt s 1; «left_b» = numberAt s 5; length = numberAt s 9; reversed = reversed }))
+
+-- "end. No operand, nothing after it."
+abbrev pub endOf : List ℕ → Command
+endOf s = cond (ltb 1 (length s)) EndThenMore End
+
+-- "A command is one byte with operands of fixed width": 4C lengths, 44 direct match, 52 reversed match, 45 end
+abbrev pub commandOf : List ℕ → Command
+commandOf s =
+    let code = getD s 0 0 in
+    cond (eqb (length s) 0) Missing
+    (cond (eqb code 0x4C) (lengthsOf s)
+    (cond (eqb code 0x44) (matchOf false s) (cond (eqb code 0x52) (matchOf true s) (cond (eqb code 0x45) (endOf s) Unknown))))

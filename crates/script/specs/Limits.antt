@@ -1,0 +1,11 @@
+-- 01's limits, each in one place. TO READ: contracts mean what stands here.
+-- 01, "The script". Assumes nothing.
+use Prim.Native.Nat.{ℕ}
+
+-- "p and q are 1 to 1,000,000,000."
+abbrev pub longest : ℕ
+longest = 1_000_000_000
+
+-- "A script has 0 to 2,048 matches."
+abbrev pub mostMatches : ℕ
+mostMatches = 2048

@@ -1,0 +1,42 @@
+-- 01's number and place for each refusal. TO READ: contracts mean what stands here.
+--     numberOf r     the number in 01's table
+--     placeOf r      the place returned beside it
+-- 01, "Refused scripts and calls". Assumes nothing.
+use Prim.Native.Nat.{ℕ}
+use Rattle.script.specs.declared.refusal.Refusal.{Refusal}
+use Rattle.script.specs.declared.refusal.Refusal.the-variants.{Headless, UnknownCommand, CutShort, SecondLengths, LengthOutOfRange, TooManyMatches, EmptyMatch, BeyondA, BeyondB, Tail, WorkTooShort, TooManyPieces, NoSuchMatch, OffTheMatch}
+
+-- the rows of the table, in its order
+abbrev pub numberOf : Refusal → ℕ
+numberOf Headless = 1
+numberOf (UnknownCommand at) = 2
+numberOf (CutShort at) = 3
+numberOf (SecondLengths at) = 4
+numberOf LengthOutOfRange = 5
+numberOf (TooManyMatches at) = 6
+numberOf (EmptyMatch at) = 7
+numberOf (BeyondA at) = 8
+numberOf (BeyondB at) = 9
+numberOf (Tail at) = 10
+numberOf WorkTooShort = 11
+numberOf TooManyPieces = 12
+numberOf NoSuchMatch = 13
+numberOf OffTheMatch = 14
+
+-- "The place is the command byte's offset for 1 to 9, the script's length for bytes that ran out where a command was due,
+-- the first extra byte for 10, and 0 for 11 to 14." 1 and 5 are met at the first command only, whose offset is 0.
+abbrev pub placeOf : Refusal → ℕ
+placeOf Headless = 0
+placeOf (UnknownCommand at) = at
+placeOf (CutShort at) = at
+placeOf (SecondLengths at) = at
+placeOf LengthOutOfRange = 0
+placeOf (TooManyMatches at) = at
+placeOf (EmptyMatch at) = at
+placeOf (BeyondA at) = at
+placeOf (BeyondB at) = at
+placeOf (Tail at) = at
+placeOf WorkTooShort = 0
+placeOf TooManyPieces = 0
+placeOf NoSuchMatch = 0
+placeOf OffTheMatch = 0

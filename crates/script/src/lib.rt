@@ -1,0 +1,5 @@
+// The reader of match scripts.
+pub mod command;
+pub mod limits;
+pub mod refusal;
+mod step;

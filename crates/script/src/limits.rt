@@ -1,0 +1,7 @@
+// 01's limits, each in one place; specs/Limits.antt has them for the definitions.
+
+// The longest sequence, in letters.
+pub const LONGEST: u32 = 1_000_000_000;
+
+// The most matches of a script, and so the length of a column.
+pub const MOST_MATCHES: usize = 2048;
