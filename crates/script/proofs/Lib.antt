@@ -1,1 +1,5 @@
 pub mod Tests
+pub mod Seen
+pub mod Judged
+pub mod Outcome
+pub mod Progress

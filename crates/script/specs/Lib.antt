@@ -2,3 +2,5 @@ pub mod Limits
 pub mod Refusals
 pub mod Commands
 pub mod Steps
+pub mod Reading
+pub mod Outcomes
