@@ -33,17 +33,21 @@ module _ (p q count at : ℕ) (m : Match) where
   pub judged : Judged p q count at m (matchStep p q count at m)
   judged =
       elim (decLe mostMatches count) [
-        yes h ↦ rw (le-leb mostMatches count h) (too-many h)
-      | no n ↦ let room = lt-of-not-le n in
-        rw (lt-leb mostMatches count room) (elim (ℕ-discrete (m .length) 0) [
-          yes e ↦ rw (eq-eqb (m .length) 0 e) (empty room e)
-        | no n0 ↦ let some : 1 ≤ m .length = omega arith in
-          rw (ne-eqb (m .length) 0 n0) (elim (decLe (m .«left_a» + m .length) p) [
-            no na ↦ rw (lt-ltb p (m .«left_a» + m .length) (lt-of-not-le na)) (beyond-a room some (lt-of-not-le na))
-          | yes a ↦ rw (le-ltb p (m .«left_a» + m .length) a) (elim (decLe (m .«left_b» + m .length) q) [
-              no nb ↦ rw (lt-ltb q (m .«left_b» + m .length) (lt-of-not-le nb)) (beyond-b room some a (lt-of-not-le nb))
-            | yes b ↦ rw (le-ltb q (m .«left_b» + m .length) b)
-              (good room (record { some = some; in-a = a; in-b = b })) ]) ]) ]) ]
+        | yes h ↦ rw (le-leb mostMatches count h) (too-many h)
+        | no n ↦ let room = lt-of-not-le n in
+            rw (lt-leb mostMatches count room) (elim (ℕ-discrete (m .length) 0) [
+              | yes e ↦ rw (eq-eqb (m .length) 0 e) (empty room e)
+              | no n0 ↦ let some : 1 ≤ m .length = omega arith in
+                  rw (ne-eqb (m .length) 0 n0) (elim (decLe (m .«left_a» + m .length) p) [
+                    | no na ↦ rw (lt-ltb p (m .«left_a» + m .length) (lt-of-not-le na)) (beyond-a room some (lt-of-not-le na))
+                    | yes a ↦ rw (le-ltb p (m .«left_a» + m .length) a) (elim (decLe (m .«left_b» + m .length) q) [
+                      | no nb ↦ rw (lt-ltb q (m .«left_b» + m .length) (lt-of-not-le nb)) (beyond-b room some a (lt-of-not-le nb))
+                      | yes b ↦ rw (le-ltb q (m .«left_b» + m .length) b)
+                          (good room (record { some = some; in-a = a; in-b = b }))
+                    ])
+                  ])
+            ])
+      ]
 
 pub judged-step : {p q count at : ℕ} {m : Match} {t : Step} → Judged p q count at m t → matchStep p q count at m ≡ t
 judged-step {count} (too-many h) = rw (le-leb mostMatches count h)
@@ -55,13 +59,15 @@ judged-step {p} {q} {count} {m} (beyond-b h k a b) =
       lt-leb mostMatches count h,
       ne-eqb (m .length) 0 (omega arith),
       le-ltb p (m .«left_a» + m .length) a,
-      lt-ltb q (m .«left_b» + m .length) b)
+      lt-ltb q (m .«left_b» + m .length) b,
+    )
 judged-step {p} {q} {count} {m} (good h w) =
     rw (
       lt-leb mostMatches count h,
       ne-eqb (m .length) 0 (omega (arith, w .some)),
       le-ltb p (m .«left_a» + m .length) (w .in-a),
-      le-ltb q (m .«left_b» + m .length) (w .in-b))
+      le-ltb q (m .«left_b» + m .length) (w .in-b),
+    )
 
 -- ---- a match whose operands are incomplete
 
@@ -83,11 +89,13 @@ data Ranged (n : ℕ) : Type 0 where
 ranged : (n : ℕ) → Ranged n
 ranged n =
     elim (ℕ-discrete n 0) [
-      yes e ↦ outside (λ r. omega (arith, r .some)) (rw (le-ltb 0 n (omega arith)))
-    | no z ↦ let some : 0 < n = omega arith in
-      elim (decLe n longest) [
-        yes h ↦ inside (record { some = some; few = h })
-      | no h ↦ outside (λ r. h (r .few)) (rw (lt-ltb 0 n some, lt-leb n longest (lt-of-not-le h))) ] ]
+      | yes e ↦ outside (λ r. omega (arith, r .some)) (rw (le-ltb 0 n (omega arith)))
+      | no z ↦ let some : 0 < n = omega arith in
+          elim (decLe n longest) [
+            | yes h ↦ inside (record { some = some; few = h })
+            | no h ↦ outside (λ r. h (r .few)) (rw (lt-ltb 0 n some, lt-leb n longest (lt-of-not-le h)))
+          ]
+    ]
 
 pub data Opens (p q : ℕ) : Opening → Type 0 where
   open-them : InRange p → InRange q → Opens p q (Opening.Open p q)

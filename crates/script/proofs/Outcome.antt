@@ -2,6 +2,7 @@
 -- exactly one row applies to each string of bytes.
 --     reach-place         the offset behind n matches is 9 + 13 n, and there are at most 2,048 of them
 --     reach-inside        and lies within the script
+--     reach-range         p and q are in range
 --     reach-within        each of them lies within p and q
 --     reach-read          good commands passed, reading goes on behind them
 --     reach-ends          and comes to what the next command does
@@ -44,6 +45,10 @@ module _ {s : List ℕ} {p q : ℕ} where
   pub reach-inside : {at : ℕ} {ms : List Match} → Reach s p q at ms → at ≤ length s
   reach-inside (opened l _ _) = l .whole
   reach-inside (taken r _ d _) = d .whole
+
+  pub reach-range : {at : ℕ} {ms : List Match} → Reach s p q at ms → InRange p × InRange q
+  reach-range (opened _ a b) = (a, b)
+  reach-range (taken r _ _ _) = reach-range r
 
   pub reach-within : {at : ℕ} {ms : List Match} → Reach s p q at ms → {m : Match} → List·Memᴰ m ms → Within p q m
   reach-within (opened _ _ _) x = absurd (List·Memᴰ·not-nil x)
@@ -118,14 +123,16 @@ outcome-alone (Outcome.unknown-command r h n1 n2 n3 n4) = reach-ends r (Seen.unk
 outcome-alone (Outcome.cut-short h) = short-alone h
 outcome-alone {s} (Outcome.second-lengths {at} r b) =
     elim (decLe (at + 9) (length s)) [
-      yes w ↦ reach-ends r (Seen.lengths b w) refl
-    | no w ↦ reach-ends r (Seen.lengths-short b (lt-of-not-le w)) refl ]
+      | yes w ↦ reach-ends r (Seen.lengths b w) refl
+      | no w ↦ reach-ends r (Seen.lengths-short b (lt-of-not-le w)) refl
+    ]
 outcome-alone {s} (Outcome.length-out-of-range l n) = opening-at s (lengths-seen l) (opens-step (Opens.out-of-range n))
 outcome-alone {s} (Outcome.too-many-matches {at} {ms} r e b) =
     let full : mostMatches ≤ length ms = omega arith in
     elim (decLe (at + 13) (length s)) [
-      yes w ↦ full-alone r full (whole-match b w)
-    | no w ↦ reach-ends r (Seen.pairing-short b (lt-of-not-le w)) (short-full full) ]
+      | yes w ↦ full-alone r full (whole-match b w)
+      | no w ↦ reach-ends r (Seen.pairing-short b (lt-of-not-le w)) (short-full full)
+    ]
 outcome-alone (Outcome.empty-match r room d e) =
     reach-ends r (Seen.pairing d) (judged-step (Judged.empty room e))
 outcome-alone (Outcome.beyond-a r room d k a) =
@@ -141,9 +148,10 @@ short-stated : {s : List ℕ} {p q at : ℕ} {ms : List Match} {way : Bool} → 
     → length s < at + 13 → (onward : Match → Reading) → Outcome s (afterStep p q ms (cutShortStep (length ms) at) onward)
 short-stated {ms} r b h onward =
     elim (decLe mostMatches (length ms)) [
-      yes f ↦ rw (short-full f) (Outcome.too-many-matches r (omega (arith, reach-place r)) b)
-    | no f ↦ let room = lt-of-not-le f in
-      rw (short-room room) (Outcome.cut-short (Short.pairing r room b h)) ]
+      | yes f ↦ rw (short-full f) (Outcome.too-many-matches r (omega (arith, reach-place r)) b)
+      | no f ↦ let room = lt-of-not-le f in
+          rw (short-room room) (Outcome.cut-short (Short.pairing r room b h))
+    ]
 
 match-stated : {s : List ℕ} {p q at : ℕ} {ms : List Match} {m : Match} {t : Step} → Reach s p q at ms → MatchAt s at m
     → Judged p q (length ms) at m t → (onward : Match → Reading)

@@ -61,7 +61,8 @@ columns-taken {ms} {count} h m room =
       left-a-held = rw (h .left-a-held, ← h .counted) (column-taken 0 (λ m. m .«left_a») ms m room);
       left-b-held = rw (h .left-b-held, ← h .counted) (column-taken 0 (λ m. m .«left_b») ms m room);
       letters-held = rw (h .letters-held, ← h .counted) (column-taken 0 (λ m. m .length) ms m room);
-      reversed-held = rw (h .reversed-held, ← h .counted) (column-taken false (λ m. m .reversed) ms m room) }
+      reversed-held = rw (h .reversed-held, ← h .counted) (column-taken false (λ m. m .reversed) ms m room);
+    }
 
 -- ---- the commands passed
 
@@ -88,8 +89,9 @@ step-next r (Seen.lengths-short _ _) = tt
 step-next {p} {q} {at} {ms} r (Seen.pairing {m} d) = match-next r d (judged p q (length ms) at m)
 step-next {ms} r (Seen.pairing-short _ _) =
     elim (decLe mostMatches (length ms)) [
-      yes full ↦ rw (short-full full) tt
-    | no room ↦ rw (short-room (lt-of-not-le room)) tt ]
+      | yes full ↦ rw (short-full full) tt
+      | no room ↦ rw (short-room (lt-of-not-le room)) tt
+    ]
 step-next r (Seen.end _ _) = tt
 step-next r (Seen.end-then-more _ _) = tt
 
@@ -150,7 +152,8 @@ module _ {s : List ℕ} {p q : ℕ} {left-a left-b letters : List ℕ} {reversed
         «left_a» = left-a;
         «left_b» = left-b;
         length = letters;
-        reversed = reversed }
+        reversed = reversed;
+      }
       ≡ scriptOf (readScript s)
   progress-finished e =
       let held = h .columns in
@@ -160,7 +163,8 @@ module _ {s : List ℕ} {p q : ℕ} {left-a left-b letters : List ℕ} {reversed
         held .left-a-held,
         held .left-b-held,
         held .letters-held,
-        held .reversed-held)
+        held .reversed-held,
+      )
 
   pub progress-taken : {m : Match} → stepOf p q (length (h .matches)) at (commandOf (drop at s)) ≡ Step.Take m
       → Progress s p q (set left-a count (m .«left_a»)) (set left-b count (m .«left_b»))
@@ -169,4 +173,5 @@ module _ {s : List ℕ} {p q : ℕ} {left-a left-b letters : List ℕ} {reversed
       record {
         matches = h .matches ++ m ∷ [];
         reach = next-reach (h .reach) e;
-        columns = columns-taken (h .columns) m (omega (arith, reach-place (next-reach (h .reach) e) .1, length-append (h .matches) (m ∷ []))) }
+        columns = columns-taken (h .columns) m (omega (arith, reach-place (next-reach (h .reach) e) .1, length-append (h .matches) (m ∷ [])));
+      }

@@ -46,7 +46,8 @@ pub whole-match : {s : List ℕ} {at : ℕ} {way : Bool} → MatchByte s at way 
       «left_a» = numberAt s (at + 1);
       «left_b» = numberAt s (at + 5);
       length = numberAt s (at + 9);
-      reversed = way })
+      reversed = way;
+    })
 whole-match b w = record { code = b; whole = w; left-a = refl; left-b = refl; letters = refl }
 
 module _ (s : List ℕ) (at : ℕ) where
@@ -56,47 +57,56 @@ module _ (s : List ℕ) (at : ℕ) where
   seen-lengths : Byte s at 0x4C → Seen s at (lengthsOf (drop at s))
   seen-lengths b =
       elim (decLe (at + 9) (length s)) [
-        yes w ↦ rw (le-ltb (length (drop at s)) 9 (omega (arith, left)), number-drop at 1 s, number-drop at 5 s) (lengths b w)
-      | no w ↦ let short = lt-of-not-le w in
-        rw (lt-ltb (length (drop at s)) 9 (omega (arith, left, short))) (lengths-short b short) ]
+        | yes w ↦ rw (le-ltb (length (drop at s)) 9 (omega (arith, left)), number-drop at 1 s, number-drop at 5 s) (lengths b w)
+        | no w ↦ let short = lt-of-not-le w in
+            rw (lt-ltb (length (drop at s)) 9 (omega (arith, left, short))) (lengths-short b short)
+      ]
 
   seen-match : {way : Bool} → MatchByte s at way → Seen s at (matchOf way (drop at s))
   seen-match {way} b =
       elim (decLe (at + 13) (length s)) [
-        yes w ↦ rw (
+        | yes w ↦ rw (
           le-ltb (length (drop at s)) 13 (omega (arith, left)),
           number-drop at 1 s,
           number-drop at 5 s,
-          number-drop at 9 s)
-        (pairing (whole-match b w))
-      | no w ↦ let short = lt-of-not-le w in
-        rw (lt-ltb (length (drop at s)) 13 (omega (arith, left, short))) (pairing-short b short) ]
+          number-drop at 9 s,
+        )
+            (pairing (whole-match b w))
+        | no w ↦ let short = lt-of-not-le w in
+            rw (lt-ltb (length (drop at s)) 13 (omega (arith, left, short))) (pairing-short b short)
+      ]
 
   seen-end : Byte s at 0x45 → Seen s at (endOf (drop at s))
   seen-end b =
       elim (decLe (length s) (at + 1)) [
-        yes w ↦ rw (le-ltb 1 (length (drop at s)) (omega (arith, left))) (end b (omega (arith, b .inside)))
-      | no w ↦ let more = lt-of-not-le w in
-        rw (lt-ltb 1 (length (drop at s)) (omega (arith, left, more))) (end-then-more b more) ]
+        | yes w ↦ rw (le-ltb 1 (length (drop at s)) (omega (arith, left))) (end b (omega (arith, b .inside)))
+        | no w ↦ let more = lt-of-not-le w in
+            rw (lt-ltb 1 (length (drop at s)) (omega (arith, left, more))) (end-then-more b more)
+      ]
 
   seen-code : at < length s → Seen s at (commandOf (drop at s))
   seen-code h =
       rw (ne-eqb (length (drop at s)) 0 (omega (arith, left)), code-drop s at)
       (elim (ℕ-discrete (getD s at 0) 0x4C) [
-        yes e ↦ rw (eq-eqb (getD s at 0) 0x4C e) (seen-lengths (record { inside = h; is = e }))
-      | no n1 ↦ rw (ne-eqb (getD s at 0) 0x4C n1) (elim (ℕ-discrete (getD s at 0) 0x44) [
-          yes e ↦ rw (eq-eqb (getD s at 0) 0x44 e) (seen-match (MatchByte.direct (record { inside = h; is = e })))
-        | no n2 ↦ rw (ne-eqb (getD s at 0) 0x44 n2) (elim (ℕ-discrete (getD s at 0) 0x52) [
-            yes e ↦ rw (eq-eqb (getD s at 0) 0x52 e) (seen-match (MatchByte.backward (record { inside = h; is = e })))
-          | no n3 ↦ rw (ne-eqb (getD s at 0) 0x52 n3) (elim (ℕ-discrete (getD s at 0) 0x45) [
-              yes e ↦ rw (eq-eqb (getD s at 0) 0x45 e) (seen-end (record { inside = h; is = e }))
-            | no n4 ↦ rw (ne-eqb (getD s at 0) 0x45 n4) (unknown h n1 n2 n3 n4) ]) ]) ]) ])
+        | yes e ↦ rw (eq-eqb (getD s at 0) 0x4C e) (seen-lengths (record { inside = h; is = e }))
+        | no n1 ↦ rw (ne-eqb (getD s at 0) 0x4C n1) (elim (ℕ-discrete (getD s at 0) 0x44) [
+          | yes e ↦ rw (eq-eqb (getD s at 0) 0x44 e) (seen-match (MatchByte.direct (record { inside = h; is = e })))
+          | no n2 ↦ rw (ne-eqb (getD s at 0) 0x44 n2) (elim (ℕ-discrete (getD s at 0) 0x52) [
+            | yes e ↦ rw (eq-eqb (getD s at 0) 0x52 e) (seen-match (MatchByte.backward (record { inside = h; is = e })))
+            | no n3 ↦ rw (ne-eqb (getD s at 0) 0x52 n3) (elim (ℕ-discrete (getD s at 0) 0x45) [
+              | yes e ↦ rw (eq-eqb (getD s at 0) 0x45 e) (seen-end (record { inside = h; is = e }))
+              | no n4 ↦ rw (ne-eqb (getD s at 0) 0x45 n4) (unknown h n1 n2 n3 n4)
+            ])
+          ])
+        ])
+      ])
 
   pub seen : Seen s at (commandOf (drop at s))
   seen =
       elim (decLe (length s) at) [
-        yes h ↦ rw (eq-eqb (length (drop at s)) 0 (omega (arith, left))) (missing h)
-      | no h ↦ seen-code (lt-of-not-le h) ]
+        | yes h ↦ rw (eq-eqb (length (drop at s)) 0 (omega (arith, left))) (missing h)
+        | no h ↦ seen-code (lt-of-not-le h)
+      ]
 
   -- the command goes by its byte alone
   by-code : {code : ℕ} → Byte s at code → (length (drop at s) ≡ 0 → ⊥) × (getD (drop at s) 0 0 ≡ code)
@@ -121,7 +131,8 @@ module _ (s : List ℕ) (at : ℕ) where
         ne-eqb (getD s at 0) 0x4C n1,
         ne-eqb (getD s at 0) 0x44 n2,
         ne-eqb (getD s at 0) 0x52 n3,
-        ne-eqb (getD s at 0) 0x45 n4)
+        ne-eqb (getD s at 0) 0x45 n4,
+      )
   seen-command (lengths b w) =
       lengths-command b
       ∙ rw (le-ltb (length (drop at s)) 9 (omega (arith, left)), number-drop at 1 s, number-drop at 5 s)
@@ -136,7 +147,8 @@ module _ (s : List ℕ) (at : ℕ) where
         number-drop at 9 s,
         ← d .left-a,
         ← d .left-b,
-        ← d .letters)
+        ← d .letters,
+      )
   seen-command (pairing-short b h) =
       match-command b ∙ rw (lt-ltb (length (drop at s)) 13 (omega (arith, left)))
   seen-command (end b h) = end-command b ∙ rw (le-ltb 1 (length (drop at s)) (omega (arith, left)))

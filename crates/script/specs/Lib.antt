@@ -4,3 +4,4 @@ pub mod Commands
 pub mod Steps
 pub mod Reading
 pub mod Outcomes
+pub mod Finding

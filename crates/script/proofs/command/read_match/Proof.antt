@@ -1,11 +1,10 @@
+-- `read_match` meets its contract: the one test is the definition's, and the three numbers are read where it has them.
+-- Assumes nothing.
 use borrow.Author.Needs.{needs}
 use borrow.Author.Tests.{le-ltb}
 use Rattle.script.proofs.Tests.{tests}
 use Rattle.script.proofs.command.read_match.Statement.{statement}
 use Rattle.script.proofs.command.read_match.Tie as tie
-use Rattle.script.proofs.command.read_match.Reads as reads
-use Rattle.script.proofs.command.read_match.Lts as lts
-use Rattle.script.proofs.command.number_at.Reads as number-at-reads
 
 returns : tie.Need-returns
 returns c = search tests

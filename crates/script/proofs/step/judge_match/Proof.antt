@@ -1,9 +1,8 @@
+-- `judge_match` meets its contract: the tests are the definition's, in its order. Assumes nothing.
 use borrow.Author.Needs.{needs}
 use Rattle.script.proofs.Tests.{tests}
 use Rattle.script.proofs.step.judge_match.Statement.{statement}
 use Rattle.script.proofs.step.judge_match.Tie as tie
-use Rattle.script.proofs.step.judge_match.Reads as reads
-use Rattle.script.proofs.step.judge_match.Lts as lts
 
 returns : tie.Need-returns
 returns c = search tests

@@ -1,10 +1,7 @@
+-- `judge_opening` meets its contract, arm by arm. Assumes nothing.
 use borrow.Author.Needs.{needs}
-use Rattle.script.proofs.Tests.{tests}
 use Rattle.script.proofs.step.judge_opening.Statement.{statement}
 use Rattle.script.proofs.step.judge_opening.Tie as tie
-use Rattle.script.proofs.step.judge_opening.Reads as reads
-use Rattle.script.proofs.step.judge_opening.Lts as lts
-use Rattle.script.proofs.step.judge_lengths.Reads as judge-lengths-reads
 
 enum-told : tie.Need-enum-told
 enum-told c = search needs

@@ -1,0 +1,52 @@
+-- `notchergrey_read` meets its contract: the verdict tells the reading. Assumes nothing.
+use borrow.Author.Needs.{needs}
+use Rattle.script.proofs.Admitted.{holds-admitted, reading-refused}
+use Rattle.capi.proofs.notchergrey_read.Statement.{statement}
+use Rattle.capi.proofs.notchergrey_read.Tie as tie
+use Rattle.capi.proofs.notchergrey_read.Reads as reads
+use Rattle.capi.proofs.notchergrey_read.Lts as lts
+use Rattle.script.proofs.read.Reads as read-reads
+use Rattle.script.proofs.refusal.number_of.Reads as number-of-reads
+use Rattle.script.proofs.refusal.place_of.Reads as place-of-reads
+
+read-requires : tie.Need-read-requires
+read-requires c κs = search needs
+
+enum-known-verdict : tie.Need-enum-known-verdict
+enum-known-verdict c = search needs
+
+enum-known-verdict-2 : tie.Need-enum-known-verdict-2
+enum-known-verdict-2 c = search needs
+
+place-of-requires : tie.Need-place-of-requires
+place-of-requires c κs = search needs
+
+number-of-requires : tie.Need-number-of-requires
+number-of-requires c κs = search needs
+
+returns : tie.Need-returns
+returns c =
+    let bytes = c .before .before .before .before .before .args .script .now in
+    let held = holds-admitted bytes (c .before .before .before .read .ensures) (c .before .verdict .given .1) in
+    rw (held .read, held .counted)
+
+returns-2 : tie.Need-returns-2
+returns-2 c =
+    let told = c .before .before .before in
+    let bytes = told .before .before .before .before .args .script .now in
+    rw (
+      reading-refused bytes (told .before .before .read .ensures) (told .verdict2 .given .1),
+      c .before .place-of .ensures,
+      c .number-of .ensures)
+
+pub notchergrey-read-spec : {M : Type 1} → statement M
+notchergrey-read-spec =
+    tie.close
+    (tie.spec
+    read-requires
+    enum-known-verdict
+    enum-known-verdict-2
+    place-of-requires
+    number-of-requires
+    returns
+    returns-2)

@@ -1,0 +1,31 @@
+-- One match of a script, by its number. TO READ: contracts mean what stands here.
+--     findingOf r number     the match, or the refusal: the script's own, or "no such match: number 0 or above the count"
+-- 01, "Matches are numbered from 1 in script order." Assumes nothing.
+use Prim.Native.Nat.{ℕ, zero, suc}
+use mathlib.Core.Bool.{false}
+use mathlib.Core.List.{List, [], _∷_}
+use lib.ListN.{getD}
+use Rattle.script.specs.Reading.{Reading, admitted, refused}
+use Rattle.script.specs.declared.refusal.Refusal.the-variants.{NoSuchMatch}
+use Rattle.script.specs.declared.command.Match.{Match}
+use Rattle.script.specs.declared.find.Finding.{Finding}
+use Rattle.script.specs.declared.Script.{Script}
+
+abbrev pub foundIn : List Match → ℕ → Finding
+foundIn [] number = Finding.Refused NoSuchMatch
+foundIn (m ∷ ms) zero = Finding.Refused NoSuchMatch
+foundIn (m ∷ ms) (suc zero) = Finding.Found m
+foundIn (m ∷ ms) (suc (suc number)) = foundIn ms (suc number)
+
+abbrev pub findingOf : Reading → ℕ → Finding
+findingOf (refused r) number = Finding.Refused r
+findingOf (admitted p q ms) number = foundIn ms number
+
+-- what stands at an index of the columns
+abbrev pub matchIn : Script → ℕ → Match
+matchIn r index =
+    record {
+      «left_a» = getD (r .«left_a») index 0;
+      «left_b» = getD (r .«left_b») index 0;
+      length = getD (r .length) index 0;
+      reversed = getD (r .reversed) index false }
