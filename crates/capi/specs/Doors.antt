@@ -1,9 +1,11 @@
 -- What each door returns and leaves behind its pointers. TO READ: contracts mean what stands here.
 -- Assumes nothing.
 use Prim.Native.Nat.{ℕ}
+use mathlib.Core.Bool.{Bool, true, false}
 use lib.ListN.{length}
 use Rattle.script.specs.Refusals.{numberOf, placeOf}
 use Rattle.script.specs.Reading.{Reading, admitted, refused}
+use Rattle.script.specs.declared.find.Finding.{Finding}
 
 -- the number returned, and what stands behind the pointers
 pub record ReadReply : Type 0 where
@@ -17,3 +19,35 @@ pub record ReadReply : Type 0 where
 abbrev pub readDoor : Reading → ReadReply → ReadReply
 readDoor (admitted p q ms) was = record { number = 0; place = was .place; p = p; q = q; count = length ms }
 readDoor (refused r) was = record { number = numberOf r; place = placeOf r; p = was .p; q = was .q; count = was .count }
+
+-- "direction (0 direct, 1 reversed)"
+abbrev pub bitOf : Bool → ℕ
+bitOf true = 1
+bitOf false = 0
+
+pub record MatchReply : Type 0 where
+  pub number : ℕ
+  pub place : ℕ
+  pub left-a : ℕ
+  pub left-b : ℕ
+  pub letters : ℕ
+  pub reversed : ℕ
+
+-- a match that is there: 0 and its numbers; else the refusal's number and place; the rest as it was
+abbrev pub matchDoor : Finding → MatchReply → MatchReply
+matchDoor (Finding.Found m) was =
+    record {
+      number = 0;
+      place = was .place;
+      left-a = m .«left_a»;
+      left-b = m .«left_b»;
+      letters = m .length;
+      reversed = bitOf (m .reversed) }
+matchDoor (Finding.Refused r) was =
+    record {
+      number = numberOf r;
+      place = placeOf r;
+      left-a = was .left-a;
+      left-b = was .left-b;
+      letters = was .letters;
+      reversed = was .reversed }

@@ -1,11 +1,21 @@
 // Doors for C and Rust: plain functions over the library, prefix notchergrey_. Each returns 0 or the refusal's number and
 // hands the rest out through pointers. Like a call of the library, a refused one alters no lent number but `place`.
+use script::find::find_match;
+use script::find::Finding;
 use script::refusal::number_of;
 use script::refusal::place_of;
 use script::Verdict;
 ghost use mathlib.Core.Path.{_≡_};
 ghost use Rattle.script.specs.Reading.{readScript};
-ghost use Rattle.capi.specs.Doors.{readDoor};
+ghost use Rattle.script.specs.Finding.{findingOf};
+ghost use Rattle.capi.specs.Doors.{bitOf, readDoor, matchDoor};
+
+// 01's number for a direction: 0 direct, 1 reversed.
+fn bit(reversed: bool) -> u32
+    ensures { λ r. ⌜ r ≡ bitOf reversed ⌝ }
+{
+    if reversed { 1 } else { 0 }
+}
 
 // Reads a script: p, q and the count of matches.
 #[no_mangle]
@@ -35,6 +45,49 @@ pub extern "C" fn notchergrey_read(
             0
         }
         Verdict::Refused(refusal) => {
+            *place = place_of(refusal);
+            number_of(refusal)
+        }
+    }
+}
+
+// One match of a script, by its number from 1; `reversed` becomes 0 or 1.
+#[no_mangle]
+pub extern "C" fn notchergrey_match(
+    script: &[u8],
+    number: u32,
+    place: &mut usize,
+    left_a: &mut u32,
+    left_b: &mut u32,
+    length: &mut u32,
+    reversed: &mut u32,
+) -> u32
+    ensures { λ r. ⌜
+      record {
+        number = r;
+        place = now (place .exit);
+        left-a = now («left_a» .exit);
+        left-b = now («left_b» .exit);
+        letters = now (length .exit);
+        reversed = now (reversed .exit) }
+      ≡ matchDoor (findingOf (readScript (now (script .entry))) number)
+      (record {
+        number = 0;
+        place = now (place .entry);
+        left-a = now («left_a» .entry);
+        left-b = now («left_b» .entry);
+        letters = now (length .entry);
+        reversed = now (reversed .entry) }) ⌝ }
+{
+    match find_match(script, number) {
+        Finding::Found(found) => {
+            *left_a = found.left_a;
+            *left_b = found.left_b;
+            *length = found.length;
+            *reversed = bit(found.reversed);
+            0
+        }
+        Finding::Refused(refusal) => {
             *place = place_of(refusal);
             number_of(refusal)
         }

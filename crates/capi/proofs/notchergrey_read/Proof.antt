@@ -3,11 +3,6 @@ use borrow.Author.Needs.{needs}
 use Rattle.script.proofs.Admitted.{holds-admitted, reading-refused}
 use Rattle.capi.proofs.notchergrey_read.Statement.{statement}
 use Rattle.capi.proofs.notchergrey_read.Tie as tie
-use Rattle.capi.proofs.notchergrey_read.Reads as reads
-use Rattle.capi.proofs.notchergrey_read.Lts as lts
-use Rattle.script.proofs.read.Reads as read-reads
-use Rattle.script.proofs.refusal.number_of.Reads as number-of-reads
-use Rattle.script.proofs.refusal.place_of.Reads as place-of-reads
 
 read-requires : tie.Need-read-requires
 read-requires c κs = search needs
