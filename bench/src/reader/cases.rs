@@ -1,0 +1,66 @@
+//! The scripts that are timed.
+
+use compare::draft::{Draft, DraftMatch};
+use compare::random::Random;
+use compare::slow::script::{LONGEST_SEQUENCE, MOST_MATCHES};
+
+const P: u32 = LONGEST_SEQUENCE as u32;
+const Q: u32 = P - 1;
+
+/// Matches of both directions come in no order, so that a branch on the direction has its price.
+const BOTH: [bool; 2] = [false, true];
+const DIRECT_ONLY: [bool; 1] = [false];
+
+/// Several scripts of one kind: of a single one the processor would learn every branch.
+pub struct Case {
+    pub name: String,
+    pub scripts: Vec<Vec<u8>>,
+    pub calls: usize,
+}
+
+pub fn all() -> Vec<Case> {
+    let mut random = Random::from_seed(2002);
+    let admitted = [0, 10, 100, MOST_MATCHES].map(|matches| {
+        let name = format!("{matches} matches");
+        case(name, matches, || start(&mut random, matches, &BOTH).end())
+    });
+    let direct = case(
+        format!("{MOST_MATCHES} direct matches"),
+        MOST_MATCHES,
+        || start(&mut random, MOST_MATCHES, &DIRECT_ONLY).end(),
+    );
+    let refused = case(
+        format!("{MOST_MATCHES} matches, the last beyond B"),
+        MOST_MATCHES,
+        || {
+            let good = start(&mut random, MOST_MATCHES - 1, &BOTH);
+            good.direct(0, Q, 1).end()
+        },
+    );
+    admitted.into_iter().chain([direct, refused]).collect()
+}
+
+fn case(name: String, matches: usize, script: impl FnMut() -> Vec<u8>) -> Case {
+    Case {
+        name,
+        scripts: std::iter::repeat_with(script).take(16).collect(),
+        calls: 16 * (1 + 100 / (matches + 10)),
+    }
+}
+
+/// Lengths and good matches, with no end yet.
+fn start(random: &mut Random, matches: usize, directions: &[bool]) -> Draft {
+    (0..matches).fold(Draft::lengths(P, Q), |draft, _| {
+        draft.matching(good_match(random, directions))
+    })
+}
+
+fn good_match(random: &mut Random, directions: &[bool]) -> DraftMatch {
+    let length = random.between(1, 1_000_000);
+    DraftMatch {
+        left_a: random.between(0, P - length),
+        left_b: random.between(0, Q - length),
+        length,
+        reversed: random.one_of(directions),
+    }
+}

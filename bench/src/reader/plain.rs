@@ -1,0 +1,121 @@
+//! A good plain Rust reader: one pass over the bytes, into fixed arrays. It is written to be fast,
+//! and it is another reader than the slow one of the comparison.
+
+use compare::slow::refusal::{Refusal, Word};
+use compare::slow::script::{DIRECT, END, LENGTHS, LONGEST_SEQUENCE, MOST_MATCHES, REVERSED};
+use std::hint::black_box;
+
+/// The matches of a script, a fixed array for each field.
+pub struct Columns {
+    pub left_a: [u32; MOST_MATCHES],
+    pub left_b: [u32; MOST_MATCHES],
+    pub length: [u32; MOST_MATCHES],
+    pub reversed: [bool; MOST_MATCHES],
+}
+
+impl Columns {
+    pub const ZEROS: Columns = Columns {
+        left_a: [0; MOST_MATCHES],
+        left_b: [0; MOST_MATCHES],
+        length: [0; MOST_MATCHES],
+        reversed: [false; MOST_MATCHES],
+    };
+}
+
+/// What is known of an admitted script beside its matches.
+#[derive(Clone, Copy, Debug, PartialEq, Eq)]
+pub struct Admitted {
+    pub p: u32,
+    pub q: u32,
+    pub count: usize,
+}
+
+/// Reads into arrays of its own, which are zero at first.
+#[inline(never)]
+pub fn read_into_own(script: &[u8]) -> Result<Admitted, Refusal> {
+    let mut columns = Columns::ZEROS;
+    let answer = read(script, black_box(&mut columns));
+    black_box(&columns);
+    answer
+}
+
+/// Reads straight into `columns`. The matches before a fault stay there when it refuses.
+#[inline(never)]
+pub fn read(script: &[u8], columns: &mut Columns) -> Result<Admitted, Refusal> {
+    let (p, q) = read_lengths(script)?;
+    let mut rest = &script[9..];
+    let mut count = 0;
+    loop {
+        let place = script.len() - rest.len();
+        let refused = |word| Err(Refusal { word, place });
+        let Some((&command, behind)) = rest.split_first() else {
+            return refused(Word::CutShort);
+        };
+        match command {
+            DIRECT | REVERSED => {
+                if count >= MOST_MATCHES {
+                    return refused(Word::TooManyMatches);
+                }
+                let Some((operands, next)) = behind.split_first_chunk() else {
+                    return refused(Word::CutShort);
+                };
+                let [left_a, left_b, length] = match read_operands(operands, p, q) {
+                    Ok(numbers) => numbers,
+                    Err(word) => return refused(word),
+                };
+                columns.left_a[count] = left_a;
+                columns.left_b[count] = left_b;
+                columns.length[count] = length;
+                columns.reversed[count] = command == REVERSED;
+                count += 1;
+                rest = next;
+            }
+            END if behind.is_empty() => return Ok(Admitted { p, q, count }),
+            END => {
+                let place = place + 1;
+                let word = Word::Tail;
+                return Err(Refusal { word, place });
+            }
+            LENGTHS => return refused(Word::SecondLengths),
+            _ => return refused(Word::UnknownCommand),
+        }
+    }
+}
+
+fn read_lengths(script: &[u8]) -> Result<(u32, u32), Refusal> {
+    let refused = |word| Err(Refusal { word, place: 0 });
+    let Some((&LENGTHS, behind)) = script.split_first() else {
+        return refused(Word::Headless);
+    };
+    let Some(operands) = behind.first_chunk::<8>() else {
+        return refused(Word::CutShort);
+    };
+    let p = number(operands, 0);
+    let q = number(operands, 4);
+    let in_range = |letters: u32| letters != 0 && u64::from(letters) <= LONGEST_SEQUENCE;
+    if in_range(p) && in_range(q) {
+        Ok((p, q))
+    } else {
+        refused(Word::LengthOutOfRange)
+    }
+}
+
+fn read_operands(operands: &[u8; 12], p: u32, q: u32) -> Result<[u32; 3], Word> {
+    let left_a = number(operands, 0);
+    let left_b = number(operands, 4);
+    let length = number(operands, 8);
+    if length == 0 {
+        return Err(Word::EmptyMatch);
+    }
+    if u64::from(left_a) + u64::from(length) > u64::from(p) {
+        return Err(Word::BeyondA);
+    }
+    if u64::from(left_b) + u64::from(length) > u64::from(q) {
+        return Err(Word::BeyondB);
+    }
+    Ok([left_a, left_b, length])
+}
+
+fn number(operands: &[u8], at: usize) -> u32 {
+    u32::from_le_bytes(operands[at..at + 4].try_into().expect("four bytes"))
+}

@@ -1,0 +1,195 @@
+//! A good plain Rust refiner: matches sorted by their left ends, a set of cuts for each side, and a
+//! list of the cuts that are still to be carried.
+
+use crate::reader::plain::{read, Columns};
+use compare::slow::refusal::{Refusal, Word};
+use compare::slow::table::NUMBERS_OF_A_ROW;
+use std::collections::{BTreeSet, HashSet};
+use std::hash::{BuildHasherDefault, Hasher};
+
+/// The cuts of one side.
+pub trait Cuts: Default {
+    /// Says whether the cut is new.
+    fn add(&mut self, cut: u32) -> bool;
+    fn rising(self) -> Vec<u32>;
+}
+
+pub type Ordered = BTreeSet<u32>;
+pub type Hashed = HashSet<u32, BuildHasherDefault<Mixer>>;
+
+impl Cuts for Ordered {
+    fn add(&mut self, cut: u32) -> bool {
+        self.insert(cut)
+    }
+
+    fn rising(self) -> Vec<u32> {
+        self.into_iter().collect()
+    }
+}
+
+impl Cuts for Hashed {
+    fn add(&mut self, cut: u32) -> bool {
+        self.insert(cut)
+    }
+
+    fn rising(self) -> Vec<u32> {
+        let mut cuts: Vec<u32> = self.into_iter().collect();
+        cuts.sort_unstable();
+        cuts
+    }
+}
+
+/// A hash of one number by a multiplication, much faster than the standard one.
+#[derive(Default)]
+pub struct Mixer {
+    mixed: u64,
+}
+
+impl Hasher for Mixer {
+    fn write(&mut self, bytes: &[u8]) {
+        for &byte in bytes {
+            self.write_u32(byte.into());
+        }
+    }
+
+    fn write_u32(&mut self, number: u32) {
+        let mixed = (self.mixed ^ u64::from(number)).wrapping_mul(0x9E37_79B9_7F4A_7C15);
+        self.mixed = mixed ^ (mixed >> 32);
+    }
+
+    fn finish(&self) -> u64 {
+        self.mixed
+    }
+}
+
+const A: usize = 0;
+const B: usize = 1;
+
+#[derive(Clone, Copy)]
+struct Match {
+    left: [u32; 2],
+    length: u32,
+    reversed: bool,
+}
+
+impl Match {
+    fn right(&self, side: usize) -> u32 {
+        self.left[side] + self.length
+    }
+
+    fn carry(&self, from: usize, cut: u32) -> u32 {
+        let inside = cut - self.left[from];
+        let to = self.left[1 - from];
+        if self.reversed {
+            to + self.length - inside
+        } else {
+            to + inside
+        }
+    }
+}
+
+/// The rows of the least resolved refinement go to the table's start. The sets are made in the
+/// call: plain Rust has no use for a work buffer.
+#[inline(never)]
+pub fn refine<C: Cuts>(script: &[u8], table: &mut [u32]) -> Result<usize, Refusal> {
+    let capacity = table.len() / NUMBERS_OF_A_ROW;
+    let too_many_pieces = Refusal::of_the_call(Word::TooManyPieces);
+    let matches = read_matches(script)?;
+    let cuts_on_a = closed_cuts::<C>(&matches, capacity).ok_or(too_many_pieces)?;
+    let rows = write_rows(&matches, &cuts_on_a.rising(), table);
+    Ok(rows)
+}
+
+fn read_matches(script: &[u8]) -> Result<Vec<Match>, Refusal> {
+    let mut columns = Columns::ZEROS;
+    let count = read(script, &mut columns)?.count;
+    let one_match = |i: usize| Match {
+        left: [columns.left_a[i], columns.left_b[i]],
+        length: columns.length[i],
+        reversed: columns.reversed[i],
+    };
+    Ok((0..count).map(one_match).collect())
+}
+
+/// The cuts on A, or none as soon as it is sure that they make too many pieces: of each match they
+/// make one piece less than it spans cuts.
+fn closed_cuts<C: Cuts>(matches: &[Match], capacity: usize) -> Option<C> {
+    let by_left = [ByLeft::new(matches, A), ByLeft::new(matches, B)];
+    let mut cuts = [C::default(), C::default()];
+    let mut to_carry = Vec::new();
+    for m in matches {
+        for side in [A, B] {
+            for end in [m.left[side], m.right(side)] {
+                if cuts[side].add(end) {
+                    to_carry.push((side, end));
+                }
+            }
+        }
+    }
+    let mut spanned = [0; 2];
+    while let Some((from, cut)) = to_carry.pop() {
+        let to = 1 - from;
+        for m in by_left[from].spanning(cut) {
+            spanned[from] += 1;
+            if spanned[from] > capacity + matches.len() {
+                return None;
+            }
+            let carried = m.carry(from, cut);
+            if cuts[to].add(carried) {
+                to_carry.push((to, carried));
+            }
+        }
+    }
+    let [cuts_on_a, _] = cuts;
+    Some(cuts_on_a)
+}
+
+/// Matches sorted by the left end on a side. `furthest[i]` is the furthest right end up to match i.
+struct ByLeft {
+    side: usize,
+    matches: Vec<Match>,
+    furthest: Vec<u32>,
+}
+
+impl ByLeft {
+    fn new(matches: &[Match], side: usize) -> ByLeft {
+        let mut matches = matches.to_vec();
+        matches.sort_unstable_by_key(|m| m.left[side]);
+        let furthest = matches.iter().scan(0, |furthest, m| {
+            *furthest = m.right(side).max(*furthest);
+            Some(*furthest)
+        });
+        ByLeft {
+            side,
+            furthest: furthest.collect(),
+            matches,
+        }
+    }
+
+    fn spanning(&self, cut: u32) -> impl Iterator<Item = &Match> {
+        let side = self.side;
+        let begun = self.matches.partition_point(|m| m.left[side] <= cut);
+        let begun = self.matches[..begun].iter().zip(&self.furthest[..begun]);
+        let near = begun
+            .rev()
+            .take_while(move |&(_, &furthest)| furthest >= cut);
+        near.map(|(m, _)| m).filter(move |m| m.right(side) >= cut)
+    }
+}
+
+fn write_rows(matches: &[Match], cuts: &[u32], table: &mut [u32]) -> usize {
+    let mut rows = 0;
+    let mut free = table.chunks_exact_mut(NUMBERS_OF_A_ROW);
+    for (number, m) in (1..).zip(matches) {
+        let first = cuts.partition_point(|&cut| cut < m.left[A]);
+        let behind = cuts.partition_point(|&cut| cut <= m.right(A));
+        for pair in cuts[first..behind].windows(2) {
+            let [left, right] = [pair[0], pair[1]];
+            let left_b = m.carry(A, if m.reversed { right } else { left });
+            let row = free.next().expect("rows that were counted");
+            row.copy_from_slice(&[number, left, left_b, right - left, m.reversed.into()]);
+            rows += 1;
+        }
+    }
+    rows
+}

@@ -1,0 +1,175 @@
+//! `notchergrey_refine` beside the slow program.
+
+use crate::door::{self, Refining};
+use crate::groups;
+use crate::part::{same, same_all, Part};
+use crate::random::Random;
+use crate::slow::refinement;
+use crate::slow::refusal::Refusal;
+use crate::slow::report::ROWS;
+use crate::slow::script;
+use crate::slow::table::{self, NUMBERS_OF_A_ROW, WORK_OF_A_ROW};
+use crate::tally::{Need, Tally, REFUSALS_OF_SCRIPTS};
+
+pub const PART: Part<u8> = Part {
+    name: "notchergrey_refine",
+    once: &[groups::EDGES, groups::EVERY_TINY_SCRIPT, groups::LARGE],
+    each_round: &[groups::SHAPES, groups::FAULTS],
+    least: 50_000,
+    compare: compare_around_the_rows,
+    needs: &[
+        &[
+            Need::success(50_000, 150),
+            Need::success_with(0),
+            Need::success_with(ROWS),
+            Need::refused(11, 10_000, 1),
+            Need::refused(12, 10_000, 1),
+        ],
+        REFUSALS_OF_SCRIPTS,
+    ],
+};
+
+pub const PART_OF_ALL_LENGTHS: Part<u8> = Part {
+    name: "notchergrey_refine, buffers of every small length",
+    once: &[groups::FEW_ROWS],
+    each_round: &[],
+    least: 0,
+    compare: compare_all_lengths,
+    needs: &[&[
+        Need::success(1_000, 5),
+        Need::refused(11, 1_000, 1),
+        Need::refused(12, 1_000, 1),
+    ]],
+};
+
+/// How many numbers are lent.
+#[derive(Clone, Copy)]
+struct Lengths {
+    table: usize,
+    work: usize,
+}
+
+fn compare_around_the_rows(
+    bytes: &[u8],
+    random: &mut Random,
+    tally: &mut Tally,
+) -> Result<(), String> {
+    for lengths in lengths_around_the_rows(bytes, random) {
+        compare_one(bytes, lengths, random, tally)?;
+    }
+    Ok(())
+}
+
+fn compare_all_lengths(bytes: &[u8], random: &mut Random, tally: &mut Tally) -> Result<(), String> {
+    for table in 0..=43 {
+        for work in 0..=37 {
+            compare_one(bytes, Lengths { table, work }, random, tally)?;
+        }
+    }
+    Ok(())
+}
+
+fn lengths_around_the_rows(bytes: &[u8], random: &mut Random) -> Vec<Lengths> {
+    let Ok(script) = script::read(bytes) else {
+        return vec![any_lengths(random, 8), any_lengths(random, 8)];
+    };
+    let Some(pieces) = refinement::least(&script.matches, ROWS) else {
+        return vec![just_enough(ROWS), any_lengths(random, 8)];
+    };
+    const MANY: usize = 100;
+    let rows = pieces.len();
+    let edges = [
+        just_enough(rows),
+        one_too_few(random, rows),
+        work_too_short(random, rows),
+    ];
+    let others = [
+        more_than_enough(random, rows),
+        any_lengths(random, rows),
+        any_lengths(random, rows),
+    ];
+    let few_others = if rows < MANY { &others[..] } else { &[] };
+    [&edges, few_others].concat()
+}
+
+fn just_enough(rows: usize) -> Lengths {
+    Lengths {
+        table: rows * NUMBERS_OF_A_ROW,
+        work: rows * WORK_OF_A_ROW,
+    }
+}
+
+/// A table that lacks a number or a row, and work that suffices for it.
+fn one_too_few(random: &mut Random, rows: usize) -> Lengths {
+    let less = random.count_between(1, NUMBERS_OF_A_ROW);
+    Lengths {
+        table: (rows * NUMBERS_OF_A_ROW).saturating_sub(less),
+        work: (rows.saturating_sub(1)) * WORK_OF_A_ROW + random.count_between(0, 3),
+    }
+}
+
+fn work_too_short(random: &mut Random, rows: usize) -> Lengths {
+    let capacity = rows + random.count_between(0, 1);
+    let less = random.one_of(&[1, 1, 2, 4, 5]);
+    Lengths {
+        table: capacity * NUMBERS_OF_A_ROW + random.count_between(0, 4),
+        work: (capacity * WORK_OF_A_ROW).saturating_sub(less),
+    }
+}
+
+fn more_than_enough(random: &mut Random, rows: usize) -> Lengths {
+    let capacity = rows + random.count_between(0, 3);
+    Lengths {
+        table: capacity * NUMBERS_OF_A_ROW + random.count_between(0, 4),
+        work: capacity * WORK_OF_A_ROW + random.count_between(0, 20),
+    }
+}
+
+fn any_lengths(random: &mut Random, rows: usize) -> Lengths {
+    let most = just_enough(rows + 2);
+    Lengths {
+        table: random.count_between(0, most.table),
+        work: random.count_between(0, most.work),
+    }
+}
+
+/// Both programs are lent the same rubbish and must leave the same numbers.
+fn compare_one(
+    bytes: &[u8],
+    lengths: Lengths,
+    random: &mut Random,
+    tally: &mut Tally,
+) -> Result<(), String> {
+    let mut table = random.any_numbers(lengths.table);
+    let mut work = random.any_numbers(lengths.work);
+    let mut lent = Refining {
+        place: random.any_usize(),
+        rows: random.any_usize(),
+    };
+    let (mut slow_table, mut slow_work) = (table.clone(), work.clone());
+    let slow = table::refine(bytes, &mut slow_table, &mut slow_work);
+    let wanted = wanted(lent, slow);
+    tally.met(slow);
+
+    let answer = door::refine(bytes, &mut table, &mut work, &mut lent);
+    same("the answer", Refusal::number_in(&slow), answer)
+        .and_then(|()| same("place", wanted.place, lent.place))
+        .and_then(|()| same("rows", wanted.rows, lent.rows))
+        .and_then(|()| same_all("table", &slow_table, &table))
+        .and_then(|()| same_all("work", &slow_work, &work))
+        .map_err(|what| {
+            let Lengths { table, work } = lengths;
+            format!("with {table} numbers of table and {work} of work, {what}")
+        })
+}
+
+/// Success leaves the place as it was, and a refusal the count of rows.
+fn wanted(before: Refining, slow: Result<usize, Refusal>) -> Refining {
+    match slow {
+        Ok(rows) => Refining { rows, ..before },
+        Err(refusal) => Refining {
+            place: refusal.place,
+            ..before
+        },
+    }
+}

@@ -1,0 +1,73 @@
+//! `notchergrey_report` beside the slow program: whole printed texts, byte for byte.
+
+use crate::door;
+use crate::groups;
+use crate::part::{same, same_all, Part};
+use crate::random::Random;
+use crate::slow::report::{run, text_of, ROWS};
+use crate::tally::{Need, Outcome, Tally, REFUSALS_OF_SCRIPTS};
+
+pub const PART: Part<u8> = Part {
+    name: "notchergrey_report",
+    once: &[groups::EDGES, groups::LARGE],
+    each_round: &[groups::SHAPES, groups::FAULTS],
+    least: 22_000,
+    compare,
+    needs: &[
+        &[
+            Need::success(20_000, 100),
+            Need::success_with(0),
+            Need::success_with(ROWS),
+            Need::refused(12, 20, 1),
+            Need::text_too_long(20_000, 100),
+        ],
+        REFUSALS_OF_SCRIPTS,
+    ],
+};
+
+fn compare(bytes: &[u8], random: &mut Random, tally: &mut Tally) -> Result<(), String> {
+    let slow = run(bytes);
+    let text = text_of(&slow);
+    let rows = slow.map(|refined| refined.rows);
+    let just_enough = text.len();
+    for room in [just_enough, just_enough + random.count_between(1, 100)] {
+        tally.met(rows);
+        compare_printed(bytes, text.as_bytes(), room, random)
+            .map_err(|what| format!("with {room} bytes of text, {what}"))?;
+    }
+    for room in [just_enough - 1, random.count_between(0, just_enough - 1)] {
+        tally.met_outcome(Outcome::TextTooLong, room);
+        compare_unprinted(bytes, room, random)
+            .map_err(|what| format!("with {room} bytes of text, {what}"))?;
+    }
+    Ok(())
+}
+
+/// The text is written, and bytes behind it are kept.
+fn compare_printed(
+    bytes: &[u8],
+    text: &[u8],
+    room: usize,
+    random: &mut Random,
+) -> Result<(), String> {
+    let mut got = random.any_bytes(room);
+    let mut length = random.any_usize();
+    let wanted = [text, &got[text.len()..]].concat();
+    let answer = door::report(bytes, &mut got, &mut length);
+    same("the answer", 0, answer)?;
+    same("the length", text.len(), length)?;
+    same_all("text", &wanted, &got)
+}
+
+/// A text too long for the buffer leaves everything as it was.
+fn compare_unprinted(bytes: &[u8], room: usize, random: &mut Random) -> Result<(), String> {
+    let before = random.any_bytes(room);
+    let length_before = random.any_usize();
+    let (mut got, mut length) = (before.clone(), length_before);
+    let answer = door::report(bytes, &mut got, &mut length);
+    if answer == 0 {
+        return Err("the text is said to fit".to_string());
+    }
+    same("the length", length_before, length)?;
+    same_all("text", &before, &got)
+}

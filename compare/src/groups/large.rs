@@ -1,0 +1,92 @@
+//! Scripts of many rows, most of them within the 3,000 of the program's table.
+
+use super::good::LONGEST;
+use super::shapes::{cutter, match_up_to, script, staircase, zigzag};
+use crate::draft::DraftMatch;
+use crate::random::Random;
+use crate::slow::report::ROWS;
+use crate::slow::script::MOST_MATCHES;
+
+const MOST: u32 = MOST_MATCHES as u32;
+
+pub fn zigzags(random: &mut Random) -> Vec<Vec<u8>> {
+    let lengths = [100, 200, 499, 500, ROWS as u32 / 2];
+    let mut zigzag = |length| {
+        let (on_a, reversed) = (random.any_bool(), random.any_bool());
+        script(&zigzag(on_a, length, 1, reversed))
+    };
+    lengths.into_iter().map(&mut zigzag).collect()
+}
+
+pub fn staircases(random: &mut Random) -> Vec<Vec<u8>> {
+    let sizes = [
+        (100, 5, 1),
+        (300, 100, 4),
+        (999, 3, 1),
+        (1_400, 9, 1),
+        (2_047, 4, 0),
+    ];
+    let mut staircase = |(steps, length, cutters)| {
+        let mut matches = staircase(random, steps, length);
+        for _ in 0..cutters {
+            matches.push(cutter(random, length, steps * length));
+        }
+        script(&matches)
+    };
+    sizes.into_iter().map(&mut staircase).collect()
+}
+
+/// Matches and zigzags that stand apart, with just so many rows in all.
+pub fn blocks(random: &mut Random) -> Vec<Vec<u8>> {
+    let any = [(); 3].map(|()| random.count_between(1_000, ROWS));
+    let around_the_most = [ROWS - 1, ROWS, ROWS, ROWS + 1, ROWS + 1];
+    let counts = [any.as_slice(), &around_the_most].concat();
+    let blocks = |rows| script(&blocks_of(random, rows));
+    counts.into_iter().map(blocks).collect()
+}
+
+fn blocks_of(random: &mut Random, rows: usize) -> Vec<DraftMatch> {
+    let mut matches: Vec<DraftMatch> = Vec::new();
+    let (mut left_a, mut left_b) = (0, 0);
+    let mut to_come = rows as u32;
+    while to_come > 0 {
+        let length = random.between(1, 20);
+        let block = if to_come < 2 * length {
+            to_come -= 1;
+            vec![DraftMatch::direct(0, 0, length)]
+        } else {
+            to_come -= 2 * length;
+            zigzag(random.any_bool(), length, 1, random.any_bool())
+        };
+        matches.extend(block.iter().map(|m| DraftMatch {
+            left_a: left_a + m.left_a,
+            left_b: left_b + m.left_b,
+            ..*m
+        }));
+        left_a += length + 1 + random.between(0, 2);
+        left_b += length + 1 + random.between(0, 2);
+    }
+    matches
+}
+
+/// Matches that lie anywhere and are short enough to overlap seldom.
+pub fn few_overlaps(random: &mut Random) -> Vec<Vec<u8>> {
+    let few_overlaps = |count| {
+        let longest = LONGEST / (4 * count);
+        let any_match = |_| match_up_to(random, LONGEST, longest);
+        script(&(0..count).map(any_match).collect::<Vec<_>>())
+    };
+    let counts = [50, 100, 200, 400, 800, 1_200, MOST];
+    counts.map(few_overlaps).to_vec()
+}
+
+/// Matches that all overlap, with few cuts and a great many pieces.
+pub fn too_many_pieces(_: &mut Random) -> Vec<Vec<u8>> {
+    let nested = |i| DraftMatch::direct(i, i, 2 * (MOST - i));
+    let centred = |i| DraftMatch::direct(MOST - i, MOST - i, 2 * i + 1);
+    let sliding = |i| DraftMatch::direct(i, 2 * i, MOST);
+    let kinds: [fn(u32) -> DraftMatch; 3] = [nested, centred, sliding];
+    kinds
+        .map(|nth| script(&(0..MOST).map(nth).collect::<Vec<_>>()))
+        .to_vec()
+}

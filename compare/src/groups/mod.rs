@@ -1,0 +1,119 @@
+//! The inputs of the differential run, in groups.
+
+mod changed;
+mod edges;
+mod faults;
+mod good;
+mod large;
+mod many;
+mod noise;
+pub mod shapes;
+mod tables;
+mod tiny;
+
+use crate::part::{Group, Groups};
+use crate::random::Random;
+
+const fn group<Element>(
+    name: &'static str,
+    draw: fn(&mut Random) -> Vec<Vec<Element>>,
+) -> Group<Element> {
+    Group { name, draw }
+}
+
+pub const READING_ONCE: Groups<u8> = &[
+    group("the lines of 01", edges::lines_of_01),
+    group("every byte where a command is due", edges::command_bytes),
+    group(
+        "lengths at the limits, whole and cut short",
+        edges::lengths_at_the_limits,
+    ),
+    group(
+        "operands of a match at the limits",
+        edges::operands_at_the_limits,
+    ),
+    group(
+        "2,047 to 2,049 matches, whole, cut short and faulty",
+        many::around_the_most_matches,
+    ),
+    group("one change in a script of 2,048 matches", many::changed),
+    group("scripts past 26,635 bytes", many::past_the_longest),
+];
+
+pub const READING_EACH_ROUND: Groups<u8> = &[
+    group("few good matches", good::few_matches),
+    group("many good matches", good::many_matches),
+    group("good scripts cut short at every byte", changed::cut_short),
+    group("one byte changed", changed::byte_changed),
+    group("one byte put in or taken out", changed::byte_moved),
+    group("noise", noise::noise),
+    group(
+        "a good beginning, then noise",
+        noise::behind_a_good_beginning,
+    ),
+    group("one fault behind good matches", faults::one_fault),
+    group("several faults at one command", faults::several_faults),
+    group("tails", faults::tails),
+];
+
+pub const LONGEST: Groups<u8> = &[group("2,047 and 2,048 matches", many::longest)];
+
+pub const EDGES: Groups<u8> = &[
+    group("the lines of 01", edges::lines_of_01),
+    group(
+        "2,047 to 2,049 matches, whole, cut short and faulty",
+        many::around_the_most_matches,
+    ),
+    group("scripts past 26,635 bytes", many::past_the_longest),
+];
+
+pub const EVERY_TINY_SCRIPT: Groups<u8> = &[
+    group("every script of two matches in 5 letters", tiny::every_pair),
+    group(
+        "every script of three matches in 3 letters",
+        tiny::every_triple,
+    ),
+];
+
+/// Scripts whose rows are few enough to try buffers of every length.
+pub const FEW_ROWS: Groups<u8> = &[
+    group("the lines of 01", edges::lines_of_01),
+    group("a few tiny scripts", tiny::a_few),
+];
+
+pub const LARGE: Groups<u8> = &[
+    group("zigzags of up to 3,000 rows", large::zigzags),
+    group("staircases of up to 2,048 matches", large::staircases),
+    group("1,000 to 3,001 rows in blocks", large::blocks),
+    group("many matches, few overlaps", large::few_overlaps),
+    group("more pieces than any table holds", large::too_many_pieces),
+];
+
+pub const SHAPES: Groups<u8> = &[
+    group("up to five matches in 5 letters", tiny::sampled),
+    group("overlaps", shapes::overlaps),
+    group("nested matches", shapes::nested),
+    group("the same match several times", shapes::identical),
+    group("palindromes", shapes::palindromes),
+    group("zigzags", shapes::zigzags),
+    group("staircases", shapes::staircases),
+    group("long matches and few cuts", shapes::long_matches),
+];
+
+pub const FAULTS: Groups<u8> = &[
+    group("good scripts cut short at every byte", changed::cut_short),
+    group("one byte changed", changed::byte_changed),
+    group("one fault behind good matches", faults::one_fault),
+    group("several faults at one command", faults::several_faults),
+    group("tails", faults::tails),
+];
+
+pub const TABLES: Groups<u32> = &[
+    group("rows of few numbers", tables::few_numbers),
+    group("any numbers", tables::any_numbers),
+    group("lengths around powers of two", tables::powers_of_two),
+    group("tables of the slow program", tables::of_scripts),
+    group("every length up to three rows", tables::every_small_length),
+];
+
+pub const LONG_TABLES: Groups<u32> = &[group("3,000 rows and more", tables::long)];

@@ -1,0 +1,11 @@
+//! A slow, plain program written from the paper 01 alone, and what sets the proved program beside
+//! it.
+
+pub mod calls;
+pub mod door;
+pub mod draft;
+pub mod groups;
+pub mod part;
+pub mod random;
+pub mod slow;
+pub mod tally;

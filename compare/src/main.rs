@@ -1,0 +1,89 @@
+//! The differential run: the same inputs to the slow program and to the proved one.
+//!
+//! Its last line is `compare: N calls, 0 differences` and its exit status 0 only if all answers
+//! agreed and every outcome was met often enough.
+
+use compare::calls;
+use compare::part::{Element, Part};
+use std::env;
+use std::process::ExitCode;
+
+const USAGE: &str = "usage: compare [--seed N] [--times N]";
+
+struct Options {
+    seed: u64,
+    times: usize,
+}
+
+fn main() -> ExitCode {
+    let Some(options) = options(env::args().skip(1)) else {
+        eprintln!("{USAGE}");
+        return ExitCode::from(2);
+    };
+    match all_parts(&options) {
+        Ok(calls) => {
+            println!("compare: {calls} calls, 0 differences");
+            ExitCode::SUCCESS
+        }
+        Err(failure) => {
+            println!("{failure}");
+            println!("compare: failed with seed {}", options.seed);
+            ExitCode::FAILURE
+        }
+    }
+}
+
+/// The options among the words of the command line, or none if a word is not understood.
+fn options(mut words: impl Iterator<Item = String>) -> Option<Options> {
+    let mut options = Options {
+        seed: 2002,
+        times: 1,
+    };
+    while let Some(word) = words.next() {
+        let value = words.next()?;
+        match word.as_str() {
+            "--seed" => options.seed = value.parse().ok()?,
+            "--times" => options.times = value.parse().ok()?,
+            _ => return None,
+        }
+    }
+    Some(options)
+}
+
+/// The number of calls of all parts together.
+fn all_parts(options: &Options) -> Result<usize, String> {
+    let mut calls = 0;
+    calls += one_part(&calls::read::PART, options)?;
+    calls += one_part(&calls::one_match::PART, options)?;
+    calls += one_part(&calls::one_match::PART_OF_ALL_MATCHES, options)?;
+    #[cfg(feature = "refine")]
+    {
+        calls += one_part(&calls::refine::PART, options)?;
+        calls += one_part(&calls::refine::PART_OF_ALL_LENGTHS, options)?;
+    }
+    #[cfg(feature = "carry")]
+    {
+        calls += one_part(&calls::carry::PART, options)?;
+    }
+    #[cfg(feature = "table")]
+    {
+        calls += one_part(&calls::rows_of::PART, options)?;
+        calls += one_part(&calls::summary::PART, options)?;
+    }
+    #[cfg(feature = "report")]
+    {
+        calls += one_part(&calls::report::PART, options)?;
+    }
+    Ok(calls)
+}
+
+fn one_part<E: Element>(part: &Part<E>, options: &Options) -> Result<usize, String> {
+    let tally = part
+        .run(options.seed, options.times)
+        .map_err(|difference| difference.to_string())?;
+    print!("{tally}");
+    match tally.too_seldom() {
+        Some(outcome) => Err(format!("{outcome}, so this run shows too little")),
+        None => Ok(tally.calls()),
+    }
+}

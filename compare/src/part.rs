@@ -1,0 +1,144 @@
+//! A part of the differential run: one door, the inputs that are put to it and to the slow program,
+//! and what must be met before the part says anything.
+
+use crate::random::Random;
+use crate::tally::{Need, Tally};
+use std::fmt;
+
+/// An input is a list of `Element`s: the bytes of a script or the numbers of a table.
+pub struct Part<Element: 'static> {
+    /// The door's name.
+    pub name: &'static str,
+    /// Groups that a run needs once.
+    pub once: &'static [Groups<Element>],
+    /// Groups that are drawn anew until there were enough inputs.
+    pub each_round: &'static [Groups<Element>],
+    /// At least so many inputs are compared.
+    pub least: usize,
+    pub compare: Compare<Element>,
+    pub needs: &'static [&'static [Need]],
+}
+
+pub type Groups<Element> = &'static [Group<Element>];
+
+pub struct Group<Element> {
+    pub name: &'static str,
+    pub draw: fn(&mut Random) -> Vec<Vec<Element>>,
+}
+
+/// Puts an input to both programs, lends rubbish from the generator, and counts what was met. The
+/// error says what differs.
+pub type Compare<Element> = fn(&[Element], &mut Random, &mut Tally) -> Result<(), String>;
+
+/// What an input consists of, and how an input is shown to people.
+pub trait Element: Sized {
+    fn shown(input: &[Self]) -> String;
+}
+
+/// Two answers that should be the same and are not.
+#[derive(Debug)]
+pub struct Difference {
+    part: &'static str,
+    group: &'static str,
+    input: String,
+    what: String,
+}
+
+impl<E: Element> Part<E> {
+    /// Runs the part at `times` its least number of inputs. The inputs and the rubbish come from
+    /// two generators, so that one seed gives the same inputs whatever is lent.
+    pub fn run(&self, seed: u64, times: usize) -> Result<Tally, Difference> {
+        let mut for_inputs = Random::from_seed(seed);
+        let mut for_rubbish = Random::from_seed(!seed);
+        let mut tally = Tally::new(self.name, self.needs);
+        let once = self.once.iter().copied().flatten();
+        for group in once {
+            self.run_group(group, &mut for_inputs, &mut for_rubbish, &mut tally)?;
+        }
+        let each_round = self.each_round.iter().copied().flatten();
+        while tally.inputs() < self.least * times {
+            for group in each_round.clone() {
+                self.run_group(group, &mut for_inputs, &mut for_rubbish, &mut tally)?;
+            }
+        }
+        Ok(tally)
+    }
+
+    fn run_group(
+        &self,
+        group: &Group<E>,
+        for_inputs: &mut Random,
+        for_rubbish: &mut Random,
+        tally: &mut Tally,
+    ) -> Result<(), Difference> {
+        for input in (group.draw)(for_inputs) {
+            tally.begin(group.name);
+            (self.compare)(&input, for_rubbish, tally).map_err(|what| Difference {
+                part: self.name,
+                group: group.name,
+                input: E::shown(&input),
+                what,
+            })?;
+        }
+        Ok(())
+    }
+}
+
+/// Holds one number to what was wanted.
+pub fn same<T: PartialEq + fmt::Display>(name: &str, wanted: T, got: T) -> Result<(), String> {
+    if wanted == got {
+        return Ok(());
+    }
+    Err(format!("{name} is {got}, wanted {wanted}"))
+}
+
+/// Holds each number of a lent buffer to what was wanted.
+pub fn same_all<T: PartialEq + fmt::Display>(
+    name: &str,
+    wanted: &[T],
+    got: &[T],
+) -> Result<(), String> {
+    let different = wanted
+        .iter()
+        .zip(got)
+        .position(|(wanted, got)| wanted != got);
+    different.map_or(Ok(()), |i| {
+        same(&format!("{name}[{i}]"), &wanted[i], &got[i])
+    })
+}
+
+impl fmt::Display for Difference {
+    fn fmt(&self, f: &mut fmt::Formatter<'_>) -> fmt::Result {
+        writeln!(f, "{}, in the group \"{}\"", self.part, self.group)?;
+        writeln!(f, "{}", self.input)?;
+        write!(f, "the first difference: {}", self.what)
+    }
+}
+
+impl Element for u8 {
+    /// All bytes of a short script; of a long one its beginning and its end.
+    fn shown(script: &[u8]) -> String {
+        const SHOWN: usize = 100;
+        let bytes = if script.len() <= 2 * SHOWN {
+            hex(script)
+        } else {
+            let (first, last) = (&script[..SHOWN], &script[script.len() - SHOWN..]);
+            format!("{}.. .. {}", hex(first), hex(last))
+        };
+        format!("script ({} bytes): {bytes}", script.len())
+    }
+}
+
+impl Element for u32 {
+    /// All numbers of a short table, the first ones of a long one.
+    fn shown(table: &[u32]) -> String {
+        const SHOWN: usize = 200;
+        let first = &table[..table.len().min(SHOWN)];
+        let numbers: String = first.iter().map(|number| format!("{number} ")).collect();
+        format!("table ({} numbers): {numbers}", table.len())
+    }
+}
+
+fn hex(bytes: &[u8]) -> String {
+    bytes.iter().map(|byte| format!("{byte:02X} ")).collect()
+}

@@ -1,0 +1,10 @@
+//! The slow program: the paper 01 taken sentence by sentence, in the plainest Rust. It shares no
+//! code and no layout with the proved program, so that a misreading of 01 would have to be made
+//! twice to pass unseen.
+
+pub mod carrying;
+pub mod refinement;
+pub mod refusal;
+pub mod report;
+pub mod script;
+pub mod table;

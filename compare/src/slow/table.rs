@@ -1,0 +1,93 @@
+//! 01, "The table and its buffers": the refining call, the pieces of one match, the summary.
+
+use super::refinement::{self, Piece};
+use super::refusal::{Refusal, Word};
+use super::script;
+use std::collections::BTreeSet;
+use std::ops::Range;
+
+/// "A row is five 32-bit numbers."
+pub const NUMBERS_OF_A_ROW: usize = 5;
+/// "The work buffer needs four numbers for each row of the capacity."
+pub const WORK_OF_A_ROW: usize = 4;
+/// "c from 0 to 29"
+pub const CLASSES: usize = 30;
+
+/// The refining call: the count of rows. "Refining: the script, 11, 12."
+pub fn refine(bytes: &[u8], table: &mut [u32], work: &mut [u32]) -> Result<usize, Refusal> {
+    let script = script::read(bytes)?;
+    let capacity = table.len() / NUMBERS_OF_A_ROW;
+    if work.len() < WORK_OF_A_ROW * capacity {
+        return Err(Refusal::of_the_call(Word::WorkTooShort));
+    }
+    // "The work buffer is all zero after success and after refusal 12."
+    work.fill(0);
+    let too_many_pieces = Refusal::of_the_call(Word::TooManyPieces);
+    let pieces = refinement::least(&script.matches, capacity).ok_or(too_many_pieces)?;
+    for (row, piece) in table.chunks_mut(NUMBERS_OF_A_ROW).zip(&pieces) {
+        row.copy_from_slice(&numbers_of(piece));
+    }
+    Ok(pieces.len())
+}
+
+/// "match number, left-A, left-B, length, direction (0 direct, 1 reversed)"
+fn numbers_of(piece: &Piece) -> [u32; NUMBERS_OF_A_ROW] {
+    [
+        piece.number,
+        piece.left_a as u32,
+        piece.left_b as u32,
+        piece.length as u32,
+        piece.reversed.into(),
+    ]
+}
+
+/// The part of the table that holds the pieces of one match, counted in numbers: "from the first
+/// row with that number, through the rows with that number following without a break; the empty
+/// part at its start if there is none."
+pub fn rows_of(table: &[u32], number: u32) -> Range<usize> {
+    let mut part = 0..0;
+    for (row, numbers) in rows(table).enumerate() {
+        let found = !part.is_empty();
+        if numbers[0] == number {
+            if !found {
+                part.start = row * NUMBERS_OF_A_ROW;
+            }
+            part.end = (row + 1) * NUMBERS_OF_A_ROW;
+        } else if found {
+            break;
+        }
+    }
+    part
+}
+
+/// "numbers at the end that form no row are ignored"
+fn rows(table: &[u32]) -> impl Iterator<Item = &[u32]> {
+    table.chunks_exact(NUMBERS_OF_A_ROW)
+}
+
+#[derive(Clone, Debug, PartialEq, Eq)]
+pub struct Summary {
+    pub pieces: usize,
+    pub distinct: usize,
+    pub letters: u64,
+    pub classes: [u64; CLASSES],
+}
+
+/// "The summary counts pieces, distinct pieces (same left-A, left-B and length), letters (the sum
+/// of all lengths, modulo 2^64), and, as thirty class counts beside them, the pieces whose length
+/// is at least 2^c and below 2^(c+1)".
+pub fn summary(table: &[u32]) -> Summary {
+    let lengths = || rows(table).map(|row| u64::from(row[3]));
+    let distinct: BTreeSet<&[u32]> = rows(table).map(|row| &row[1..4]).collect();
+    let mut classes = [0; CLASSES];
+    for (c, count) in classes.iter_mut().enumerate() {
+        let class = 1 << c..1 << (c + 1);
+        *count = lengths().filter(|length| class.contains(length)).count() as u64;
+    }
+    Summary {
+        pieces: rows(table).count(),
+        distinct: distinct.len(),
+        letters: lengths().fold(0, u64::wrapping_add),
+        classes,
+    }
+}

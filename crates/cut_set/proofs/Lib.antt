@@ -1,0 +1,10 @@
+-- The lemmas that belong to no one function. Each file cites only those before it; Laws and Lists are for the crates
+-- above.
+pub mod Moving
+pub mod Membership
+pub mod Searching
+pub mod Merging
+pub mod Rearranging
+pub mod Storing
+pub mod Laws
+pub mod Lists

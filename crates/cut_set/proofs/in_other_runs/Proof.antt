@@ -1,0 +1,35 @@
+-- `cut_set::in_other_runs` meets its contract: a run answers for itself, and its answers are joined run by run.
+-- Assumes nothing.
+use Rattle.cut_set.proofs.Membership.{in-wide}
+use Rattle.cut_set.proofs.Searching.{answers-yes, answers-later}
+use borrow.Author.Needs.{needs}
+use Rattle.cut_set.proofs.in_other_runs.Statement.{statement}
+use Rattle.cut_set.proofs.in_other_runs.Tie as tie
+
+has-requires : tie.Need-has-requires
+has-requires c κs = search needs
+
+returns : tie.Need-returns
+returns c =
+    answers-yes (in-wide (search needs) (search needs) (c .before .has .ensures .when (c .if1 .taken)))
+
+has-requires-2 : tie.Need-has-requires-2
+has-requires-2 c κs = search needs
+
+returns-2 : tie.Need-returns-2
+returns-2 c = answers-yes (in-wide (search needs) (search needs) (c .before .has2 .ensures .when (c .if2 .taken)))
+
+has-requires-3 : tie.Need-has-requires-3
+has-requires-3 c κs = search needs
+
+returns-3 : tie.Need-returns-3
+returns-3 c =
+    let g = c .before .before .before .before .before .before .pre in
+    answers-later (g .finished-long .order)
+    (c .before .before .before .before .has .ensures .unless (c .before .before .before .if1 .left))
+    (answers-later (g .finished-short .order) (c .before .before .has2 .ensures .unless (c .before .if2 .left))
+    (c .has3 .ensures))
+
+pub in-other-runs-spec : {M : Type 1} → statement M
+in-other-runs-spec =
+    tie.close (tie.spec has-requires returns has-requires-2 returns-2 has-requires-3 returns-3)

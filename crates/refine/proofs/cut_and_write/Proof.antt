@@ -1,0 +1,71 @@
+-- `cut_and_write` meets its contract: the closure's set holds all cuts of A, and the rows between them are the least table.
+-- Assumes nothing.
+use mathlib.Core.Path.{refl}
+use Rattle.refine.proofs.Calls.{told-cuts, cuts-writable, rows-tabled}
+use borrow.Author.Needs.{needs}
+use Rattle.refine.proofs.cut_and_write.Statement.{statement}
+use Rattle.refine.proofs.cut_and_write.Tie as tie
+
+close-requires : tie.Need-close-requires
+close-requires c κs = search needs
+
+enum-told : tie.Need-enum-told
+enum-told c = search needs
+
+enum-known-set : tie.Need-enum-known-set
+enum-known-set c = search needs
+
+join-requires : tie.Need-join-requires
+join-requires c κs =
+    let answered = c .before .before .before .before .before .before in
+    told-cuts (answered .close .ensures) (c .before .before .set .given .1) .good
+
+write-rows-requires : tie.Need-write-rows-requires
+write-rows-requires c κs =
+    let joined = c .before .before .before .before in
+    let set = joined .before .before .before in
+    let answered = set .before .before .before .before in
+    let start = answered .before .before .before .before .before .before .before .before in
+    let cuts = told-cuts (answered .close .ensures) (set .set .given .1) in (
+      start .pre .0,
+      cuts-writable (start .pre .0) (start .args .table .now) cuts (joined .join .ensures) (start .pre .1 .1),
+    )
+
+same-length : tie.Need-same-length
+same-length c = search needs
+
+returns : tie.Need-returns
+returns c =
+    let answered = c .before .before .before .before in
+    (refl, rw (c .enum-told .given .1) at (answered .close .ensures), refl)
+
+same-length-2 : tie.Need-same-length-2
+same-length-2 c = search needs
+
+same-length-3 : tie.Need-same-length-3
+same-length-3 c = search needs
+
+returns-2 : tie.Need-returns-2
+returns-2 c =
+    let written = c .before .before in
+    let joined = written .before .before .before .before .before in
+    let set = joined .before .before .before in
+    let answered = set .before .before .before .before in
+    let start = answered .before .before .before .before .before .before .before .before in
+    let cuts = told-cuts (answered .close .ensures) (set .set .given .1) in
+    rows-tabled (start .pre .0) (start .args .table .now) cuts (joined .join .ensures) (written .write-rows .ensures)
+
+pub cut-and-write-spec : {M : Type 1} → statement M
+cut-and-write-spec =
+    tie.close
+    (tie.spec
+    close-requires
+    enum-told
+    enum-known-set
+    join-requires
+    write-rows-requires
+    same-length
+    returns
+    same-length-2
+    same-length-3
+    returns-2)

@@ -1,0 +1,125 @@
+-- `carry_match` meets its contract. The loop keeps `Walked`; its measure is what is left of the run. Assumes nothing.
+use Prim.Native.Nat.{_-_}
+use Rattle.refine.proofs.Walking.{Walked, walk-start, walk-step, walk-too-much, walk-over, walk-break}
+use native.Mathlib.Omega.{arith}
+use mathlib.Core.Path.{sym, _∙_}
+use borrow.Author.Needs.{needs}
+use borrow.Author.Tests.{not-true, not-false}
+use Rattle.refine.proofs.worker.carry_match.Statement.{statement}
+use Rattle.refine.proofs.worker.carry_match.Tie as tie
+
+abbrev Inv-loop : tie.InvT-loop
+Inv-loop work₀ left other length reversed hits most used set₀ count₀ at₀ work set count at =
+    Walked left other length reversed work₀ set₀ hits most at₀ used work set count at
+
+abbrev μ-loop : tie.MeasureT-loop
+μ-loop work₀ left other length reversed hits most used set₀ count₀ at₀ work set count at = used - at
+
+first-found-requires : tie.Need-first-found-requires Inv-loop μ-loop
+first-found-requires c κs = search needs
+
+loop-holds : tie.Need-loop-holds Inv-loop μ-loop
+loop-holds c =
+    let start = c .before .before .before in
+    walk-start (start .pre .0) (c .first-found .ensures) (start .pre .1 .1 .1)
+
+mul-cut : tie.Need-mul-cut Inv-loop μ-loop
+mul-cut c = search needs
+
+slice-read-cut : tie.Need-slice-read-cut Inv-loop μ-loop
+slice-read-cut c = omega (arith, c .before .before .loop .inv .lengths)
+
+spans-requires : tie.Need-spans-requires Inv-loop μ-loop
+spans-requires c κs = search needs
+
+carry-one-requires : tie.Need-carry-one-requires Inv-loop μ-loop
+carry-one-requires c κs =
+    let spans = c .before .before .spans in
+    let inv = c .before .before .before .before .before .loop .inv in
+    let spanned = sym (spans .ensures) ∙ not-false (spans .result) (c .before .if1 .left) in
+    (inv .stored .good, (spanned, (search needs, inv .few)))
+
+enum-known-t : tie.Need-enum-known-t Inv-loop μ-loop
+enum-known-t c = search needs
+
+enum-told : tie.Need-enum-told Inv-loop μ-loop
+enum-told c = search needs
+
+same-length : tie.Need-same-length Inv-loop μ-loop
+same-length c = search needs
+
+returns : tie.Need-returns Inv-loop μ-loop
+returns c =
+    let called = c .before .before .before .before in
+    let test = called .before .before in
+    let spans = test .before .spans in
+    let in-loop = test .before .before .before in
+    let found = in-loop .before .before in
+    let start = found .before .before .before in
+    let full = rw (c .enum-told .given .1) at (called .carry-one .ensures) in
+    walk-too-much (start .pre .0) (start .pre .1 .0) (found .first-found .ensures) (in-loop .before .loop .inv)
+    (in-loop .loop-test .taken) (sym (spans .ensures) ∙ not-false (spans .result) (test .if1 .left)) full
+
+add-at : tie.Need-add-at Inv-loop μ-loop
+add-at c = search needs
+
+loop-less : tie.Need-loop-less Inv-loop μ-loop
+loop-less c = search needs
+
+loop-again : tie.Need-loop-again Inv-loop μ-loop
+loop-again c =
+    let called = c .before .before .before .before .before in
+    let test = called .before .before in
+    let spans = test .before .spans in
+    let in-loop = test .before .before .before in
+    let found = in-loop .before .before in
+    let start = found .before .before .before in
+    let held = rw (c .before .t .given .1) at (called .carry-one .ensures) in
+    walk-step (start .pre .0) (start .pre .1 .0) (found .first-found .ensures) (in-loop .before .loop .inv)
+    (in-loop .loop-test .taken) (sym (spans .ensures) ∙ not-false (spans .result) (test .if1 .left)) (search needs) held
+
+same-length-2 : tie.Need-same-length-2 Inv-loop μ-loop
+same-length-2 c = search needs
+
+returns-2 : tie.Need-returns-2 Inv-loop μ-loop
+returns-2 c =
+    let found = c .before .before in
+    let start = found .before .before .before in
+    walk-over (start .pre .0) (start .pre .1 .0) (found .first-found .ensures) (c .before .loop .inv)
+    (c .loop-test .left)
+
+same-length-3 : tie.Need-same-length-3 Inv-loop μ-loop
+same-length-3 c = search needs
+
+returns-3 : tie.Need-returns-3 Inv-loop μ-loop
+returns-3 c =
+    let spans = c .before .spans in
+    let in-loop = c .before .before .before in
+    let found = in-loop .before .before in
+    let start = found .before .before .before in
+    walk-break (start .pre .0) (start .pre .1 .0) (found .first-found .ensures) (in-loop .before .loop .inv)
+    (in-loop .loop-test .taken) (sym (spans .ensures) ∙ not-true (spans .result) (c .if1 .taken))
+
+pub carry-match-spec : {M : Type 1} → statement M
+carry-match-spec =
+    tie.close
+    (tie.spec
+    Inv-loop
+    μ-loop
+    first-found-requires
+    loop-holds
+    mul-cut
+    slice-read-cut
+    spans-requires
+    carry-one-requires
+    enum-known-t
+    enum-told
+    same-length
+    returns
+    add-at
+    loop-less
+    loop-again
+    same-length-2
+    returns-2
+    same-length-3
+    returns-3)

@@ -1,0 +1,124 @@
+// Refining and carrying: the calls that stand above the reader, the theory and the store of cuts.
+pub mod answers;
+pub mod carrying;
+mod closure;
+mod rows;
+mod steps;
+mod worker;
+
+use answers::Refined;
+use closure::Closed;
+use closure::close;
+use rows::write_rows;
+use script::Refusal;
+use script::Verdict;
+ghost use mathlib.Core.Path.{_≡_};
+ghost use Prim.Native.Nat.{_≤_, _<_};
+ghost use lib.ListN.{length};
+ghost use Rattle.refine.specs.Columns.{Fit, matchesOf};
+ghost use Rattle.refine.specs.Refining.{workNeeded, zeroed, refiningOf};
+ghost use Rattle.refine.specs.Writing.{Tabled, Refines};
+ghost use Rattle.refine.specs.Demands.{answerOf, Demand1, Demand2, Demand3};
+
+// Sets every number of the work buffer to zero, those past what refining needs too.
+fn clear(work: &mut [u32])
+    ensures { λ _. ⌜ now (work .exit) ≡ zeroed (now (work .entry)) ⌝ }
+{
+    let mut k = 0;
+    while k < work.len() {
+        work[k] = 0;
+        k += 1;
+    }
+}
+
+// Finds the cuts and writes the rows, if the table has room for them. The table is not touched before that is known.
+fn cut_and_write(
+    left_a: &[u32],
+    left_b: &[u32],
+    lengths: &[u32],
+    reversed: &[bool],
+    table: &mut [u32],
+    work: &mut [u32],
+) -> Refined
+    requires { ⌜ Fit (now «left_a») (now «left_b») (now lengths) (now reversed) ⌝ }
+    requires { ⌜ workNeeded (now table) ≤ length (now work) ⌝ }
+    requires { ⌜ length (now lengths) < 4294967296 ⌝ }
+    ensures { λ r. ⌜
+        Tabled (matchesOf (now («left_a» .entry)) (now («left_b» .entry)) (now (lengths .entry)) (now (reversed .entry)))
+        (now (table .entry)) (now (table .exit)) r ⌝ }
+{
+    match close(left_a, left_b, lengths, reversed, work, table.len() / 5) {
+        Closed::TooMany => Refined::Refused(Refusal::TooManyPieces),
+        Closed::CutsOfA(set) => {
+            let cuts = cut_set::join(work, set);
+            Refined::Rows(write_rows(
+                left_a,
+                left_b,
+                lengths,
+                reversed,
+                work,
+                cuts.base,
+                cuts.used,
+                table,
+            ))
+        }
+    }
+}
+
+// The matches of an admitted script: 11, then 12, then the rows.
+fn refine_matches(
+    left_a: &[u32],
+    left_b: &[u32],
+    lengths: &[u32],
+    reversed: &[bool],
+    table: &mut [u32],
+    work: &mut [u32],
+) -> Refined
+    requires { ⌜ Fit (now «left_a») (now «left_b») (now lengths) (now reversed) ⌝ }
+    requires { ⌜ length (now lengths) < 4294967296 ⌝ }
+    ensures { λ r. ⌜
+        Refines (matchesOf (now («left_a» .entry)) (now («left_b» .entry)) (now (lengths .entry)) (now (reversed .entry)))
+        (now (table .entry)) (now (work .entry)) r (now (table .exit)) (now (work .exit)) ⌝ }
+{
+    if work.len() < 4 * (table.len() / 5) {
+        return Refined::Refused(Refusal::WorkTooShort);
+    }
+    let answer = cut_and_write(left_a, left_b, lengths, reversed, table, work);
+    clear(work);
+    answer
+}
+
+// Makes the piece table of a script. Success gives the count of rows, which stand from the table's start.
+pub fn refine(script: &[u8], table: &mut [u32], work: &mut [u32]) -> Refined
+    ensures reply { λ r. ⌜ r ≡ refiningOf (now (script .entry)) (now (table .entry)) (now (work .entry)) .reply ⌝ }
+    ensures table { λ _. ⌜
+        now (table .exit) ≡ refiningOf (now (script .entry)) (now (table .entry)) (now (work .entry)) .table ⌝ }
+    ensures work { λ _. ⌜
+        now (work .exit) ≡ refiningOf (now (script .entry)) (now (table .entry)) (now (work .entry)) .work ⌝ }
+    ensures demand1 { λ r. ⌜
+        Demand1 (now (script .entry)) (now (table .entry)) (now (work .entry)) (answerOf r) (now (table .exit)) (now (work .exit)) ⌝ }
+    ensures demand2 { λ r. ⌜
+        Demand2 (now (script .entry)) (now (table .entry)) (now (work .entry)) (answerOf r) (now (table .exit)) ⌝ }
+    ensures demand3 { λ r. ⌜
+        Demand3 (now (script .entry)) (now (table .entry)) (now (work .entry)) (answerOf r) (now (table .exit)) ⌝ }
+{
+    let read = script::read(script);
+    let verdict = read.verdict;
+    match verdict {
+        Verdict::Refused(refusal) => Refined::Refused(refusal),
+        Verdict::Admitted { p: _, q: _, count } => {
+            let left_a = read.left_a;
+            let left_b = read.left_b;
+            let lengths = read.length;
+            let reversed = read.reversed;
+            refine_matches(
+                &left_a[..count],
+                &left_b[..count],
+                &lengths[..count],
+                &reversed[..count],
+                table,
+                work,
+            )
+        }
+    }
+}

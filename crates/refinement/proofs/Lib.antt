@@ -1,0 +1,11 @@
+pub mod Lists
+pub mod Geometry
+pub mod Tiling
+pub mod Resolved
+pub mod Table
+pub mod Minimal
+pub mod Closure
+pub mod Theorem
+pub mod Count
+pub mod Paper
+pub mod Lines

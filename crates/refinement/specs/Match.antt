@@ -1,0 +1,72 @@
+-- A match, its positions, and where it carries them. TO READ: contracts mean what stands here.
+--     Match            a match, or a piece of one: a stretch of one track beside an equally long one of another
+--     left, right      the ends of a match on a side
+--     Place, place     a position of a track; the position h of a match's side
+--     Spans m s h      the position h lies on the side s of m, the two ends among them
+--     spanned i d h    the same as a test
+--     carry m s h      where m carries h to, which is on the other side
+-- 01, "Positions and carrying". Differs: a match names its two tracks, where 01 has A (track 0) and B (track 1).
+-- Assumes nothing.
+use Prim.Native.Nat.{ℕ, _+_, _-_, _≤_}
+use mathlib.Core.Bool.{Bool, true, false, _&&_}
+use lib.Dec.{leb}
+use Rattle.refinement.specs.declared.Side.{Side}
+use Rattle.refinement.specs.declared.Side.the-variants.{A, B}
+
+-- 01, "The script": a match has a left-A, a left-B, a length and a direction; "matches are numbered from 1".
+pub record Match : Type 0 where
+  pub number : ℕ
+  pub trackA : ℕ
+  pub leftA : ℕ
+  pub trackB : ℕ
+  pub leftB : ℕ
+  pub length : ℕ
+  pub reversed : Bool
+
+-- a match of the first edition, between the sequences A and B
+abbrev pub matchAB : ℕ → ℕ → ℕ → ℕ → Bool → Match
+matchAB n i k d b = record { number = n; trackA = 0; leftA = i; trackB = 1; leftB = k; length = d; reversed = b }
+
+abbrev pub other : Side → Side
+other A = B
+other B = A
+
+-- of two numbers, one for A and one for B, the one for the side
+abbrev pub onSide : Side → ℕ → ℕ → ℕ
+onSide A a b = a
+onSide B a b = b
+
+abbrev pub track : Match → Side → ℕ
+track m s = onSide s (m .trackA) (m .trackB)
+
+abbrev pub left : Match → Side → ℕ
+left m s = onSide s (m .leftA) (m .leftB)
+
+abbrev pub right : Match → Side → ℕ
+right m s = left m s + m .length
+
+-- 01: "Positions lie between letters".
+pub record Place : Type 0 where
+  pub track : ℕ
+  pub position : ℕ
+
+abbrev pub place : Match → Side → ℕ → Place
+place m s h = record { track = track m s; position = h }
+
+-- 01: a match "spans i to i + d on A and k to k + d on B, both ends included".
+pub record Spans (m : Match) (s : Side) (h : ℕ) : Type 0 where
+  pub from-left : left m s ≤ h
+  pub to-right : h ≤ right m s
+
+-- the same as a test of a match with the left end i and the length d (law spanned-iff)
+abbrev pub spanned : ℕ → ℕ → ℕ → Bool
+spanned i d h = leb i h && leb h (i + d)
+
+-- 01: "Direct: position h on A carries to k + (h − i). Reversed: h carries to k + d − (h − i)."
+abbrev pub carryOver : Bool → ℕ → ℕ → ℕ → ℕ → ℕ
+carryOver false i k d h = k + (h - i)
+carryOver true i k d h = k + d - (h - i)
+
+-- 01: "Carrying from B to A is the inverse", which is the same formula with the sides exchanged (law carry-back).
+abbrev pub carry : Match → Side → ℕ → ℕ
+carry m s h = carryOver (m .reversed) (left m s) (left m (other s)) (m .length) h

@@ -1,0 +1,56 @@
+-- The rows of one match in a table. TO READ: contracts mean what stands here.
+--     leading p rs     how many rows rs starts with that pass the test p
+--     numbered n r, numberedElse n r     r has the number n, or another
+--     before n rs      how many rows of rs stand before the first with the number n
+--     run n rs         how many rows with the number n rs starts with
+--     startOf n t      where the part begins, in numbers from the start of t
+--     sizeOf n t       how many numbers it has
+--     partOf n t       the part
+--     further i p      the place i numbers behind the place p
+-- 01, "The table and its buffers". Assumes nothing.
+use Prim.Native.Nat.{ℕ, suc, _+_, _*_}
+use mathlib.Core.Bool.{Bool, not, cond}
+use mathlib.Core.List.{List, [], _∷_}
+use lib.ListN.{length, take, drop}
+use lib.Dec.{eqb, ltb}
+use Rattle.table.specs.Rows.{rowWidth, rowsOf}
+use Rattle.table.specs.declared.rows.Row.{Row}
+
+-- how many rows pass the test before the first that fails it
+unfoldable pub leading : (Row → Bool) → List Row → ℕ
+leading p [] = 0
+leading p (r ∷ rs) = cond (p r) (suc (leading p rs)) 0
+
+-- a row "with that number"
+abbrev pub numbered : ℕ → Row → Bool
+numbered n r = eqb (r .number) n
+
+-- a row with another
+abbrev pub numberedElse : ℕ → Row → Bool
+numberedElse n r = not (numbered n r)
+
+-- "from the first row with that number": the rows before it, or all where there is none
+abbrev pub before : ℕ → List Row → ℕ
+before n rs = leading (numberedElse n) rs
+
+-- "through the rows with that number following without a break"
+abbrev pub run : ℕ → List Row → ℕ
+run n rs = leading (numbered n) rs
+
+-- "the empty part at its start if there is none"
+abbrev pub startOf : ℕ → List ℕ → ℕ
+startOf n t =
+    let skipped = before n (rowsOf t) in
+    cond (ltb skipped (length (rowsOf t))) (rowWidth * skipped) 0
+
+-- the rows of the run behind the rows before it; none where no row has the number
+abbrev pub sizeOf : ℕ → List ℕ → ℕ
+sizeOf n t = rowWidth * run n (drop (before n (rowsOf t)) (rowsOf t))
+
+-- "the very part of the caller's table that holds them"
+abbrev pub partOf : ℕ → List ℕ → List ℕ
+partOf n t = take (sizeOf n t) (drop (startOf n t) t)
+
+-- a place in memory is a block and a count of bytes; a number of the table has four
+abbrev pub further : ℕ → ℕ × ℕ → ℕ × ℕ
+further i p = (p .0, p .1 + 4 * i)

@@ -1,0 +1,5 @@
+pub mod Rows
+pub mod Finding
+pub mod Distinct
+pub mod Summing
+pub mod Store

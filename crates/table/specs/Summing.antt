@@ -1,0 +1,65 @@
+-- The summary of a table. TO READ: contracts mean what stands here.
+--     total f rs       the sum of what f gives for each row of rs
+--     count p rs       how many rows of rs pass the test p
+--     lettersOf rs     the sum of all lengths
+--     classCount       the number of classes
+--     inClass c r      r is in class c, by its length
+--     classesOf rs     how many rows of rs each class has
+--     summaryOf t      the summary of the table t
+-- 01, "The table and its buffers". Assumes nothing.
+use Prim.Native.Nat.{ℕ, zero, suc, _+_, _%_, _^_}
+use mathlib.Core.Bool.{Bool, cond, _&&_}
+use mathlib.Core.List.{List, [], _∷_}
+use lib.ListN.{length}
+use lib.Dec.{leb, ltb}
+use Rattle.table.specs.Rows.{rowsOf}
+use Rattle.table.specs.Distinct.{firstOfEach}
+use Rattle.table.specs.declared.rows.Row.{Row}
+use Rattle.table.specs.declared.summing.Summary.{Summary}
+
+-- what f gives for each row, added up
+unfoldable pub total : (Row → ℕ) → List Row → ℕ
+total f [] = 0
+total f (r ∷ rs) = f r + total f rs
+
+-- how many rows pass the test
+abbrev pub count : (Row → Bool) → List Row → ℕ
+count p rs = total (λ r. cond (p r) 1 0) rs
+
+-- "letters (the sum of all lengths, modulo 2^64)": the sum
+abbrev pub lettersOf : List Row → ℕ
+lettersOf rs = total (λ r. r .length) rs
+
+-- "thirty class counts"
+abbrev pub classCount : ℕ
+classCount = 30
+
+-- "the pieces whose length is at least 2^c and below 2^(c+1)"
+abbrev pub lengthInClass : ℕ → ℕ → Bool
+lengthInClass c letters = leb (2 ^ c) letters && ltb letters (2 ^ (c + 1))
+
+abbrev pub inClass : ℕ → Row → Bool
+inClass c r = lengthInClass c (r .length)
+
+-- n counts, from that of class c on
+unfoldable pub classesFrom : ℕ → ℕ → List Row → List ℕ
+classesFrom zero c rs = []
+classesFrom (suc n) c rs = count (inClass c) rs ∷ classesFrom n (suc c) rs
+
+-- "c from 0 to 29"; "a row whose length fits no class is in none"
+abbrev pub classesOf : List Row → List ℕ
+classesOf rs = classesFrom classCount 0 rs
+
+-- "The summary counts pieces, distinct pieces, letters, and, as thirty class counts beside them, the pieces .."
+abbrev pub summaryOfRows : List Row → Summary
+summaryOfRows rs =
+    record {
+      pieces = length rs;
+      distinct = length (firstOfEach rs);
+      letters = lettersOf rs % 2 ^ 64;
+      classes = classesOf rs;
+    }
+
+-- "It too takes arbitrary contents"
+abbrev pub summaryOf : List ℕ → Summary
+summaryOf t = summaryOfRows (rowsOf t)

@@ -1,0 +1,10 @@
+// Piece tables in a lent slice of numbers, with any contents: the rows of one match, and the summary of a table.
+// A caller hands over its finished rows alone, `&table[..n * ROW_WIDTH]`: what stands behind them is read as rows too.
+mod distinct;
+pub mod finding;
+pub mod rows;
+pub mod summing;
+
+pub use finding::rows_of;
+pub use summing::Summary;
+pub use summing::sum_up;

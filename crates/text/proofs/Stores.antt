@@ -1,0 +1,26 @@
+-- Storing a list from a place on, one element after the other.
+--     sets-append     storing joined lists
+--     sets-next       storing one element more
+--     sets-whole      storing all of them
+-- Assumes nothing.
+use Prim.Native.Nat.{ℕ, suc, _+_, _≤_, _<_}
+use mathlib.Core.Path.{_≡_, refl, sym, ap, _∙_}
+use mathlib.Core.List.{List, [], _∷_, _++_}
+use native.Mathlib.Omega.{arith}
+use native.Mathlib.Numerals.{add-one}
+use lib.ListN.{length, getD, take, set, length-take}
+use lib.Seq.{sets, take-suc, take-all, length-take-le}
+
+pub sets-append : (l : List ℕ) (i : ℕ) (us vs : List ℕ) → sets l i (us ++ vs) ≡ sets (sets l i us) (i + length us) vs
+sets-append l i [] vs = ap (λ (k : ℕ). sets l k vs) (omega arith)
+sets-append l i (u ∷ us) vs = sets-append (set l i u) (suc i) us vs ∙ ap (λ (k : ℕ). sets (sets (set l i u) (suc i) us) k vs) (omega arith)
+
+pub sets-next : (l : List ℕ) (i : ℕ) (vs : List ℕ) (k : ℕ) → k < length vs
+    → sets l i (take (k + 1) vs) ≡ set (sets l i (take k vs)) (i + k) (getD vs k 0)
+sets-next l i vs k h =
+    rw (add-one, take-suc vs k 0)
+    (sets-append l i (take k vs) (getD vs k 0 ∷ [])
+    ∙ ap (λ (n : ℕ). set (sets l i (take k vs)) (i + n) (getD vs k 0)) (length-take-le k vs (omega arith)))
+
+pub sets-whole : (l : List ℕ) (i : ℕ) (vs : List ℕ) (k : ℕ) → length vs ≤ k → sets l i (take k vs) ≡ sets l i vs
+sets-whole l i vs k h = ap (sets l i) (take-all k vs h)
