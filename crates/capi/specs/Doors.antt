@@ -6,6 +6,8 @@ use lib.ListN.{length}
 use Rattle.script.specs.Refusals.{numberOf, placeOf}
 use Rattle.script.specs.Reading.{Reading, admitted, refused}
 use Rattle.script.specs.declared.find.Finding.{Finding}
+use Rattle.refine.specs.declared.answers.Refined.{Refined}
+use Rattle.refine.specs.declared.answers.Carried.{Carried}
 
 -- the number returned, and what stands behind the pointers
 pub record ReadReply : Type 0 where
@@ -51,3 +53,23 @@ matchDoor (Finding.Refused r) was =
       left-b = was .left-b;
       letters = was .letters;
       reversed = was .reversed }
+
+pub record RefineReply : Type 0 where
+  pub number : ℕ
+  pub place : ℕ
+  pub rows : ℕ
+
+-- a table: 0 and the count of its rows; else the refusal's number and place; the rest as it was
+abbrev pub refineDoor : Refined → RefineReply → RefineReply
+refineDoor (Refined.Rows n) was = record { number = 0; place = was .place; rows = n }
+refineDoor (Refined.Refused r) was = record { number = numberOf r; place = placeOf r; rows = was .rows }
+
+pub record CarryReply : Type 0 where
+  pub number : ℕ
+  pub place : ℕ
+  pub carried : ℕ
+
+-- a position that is carried: 0 and where to; else the refusal's number and place; the rest as it was
+abbrev pub carryDoor : Carried → CarryReply → CarryReply
+carryDoor (Carried.To x) was = record { number = 0; place = was .place; carried = x }
+carryDoor (Carried.Refused r) was = record { number = numberOf r; place = placeOf r; carried = was .carried }

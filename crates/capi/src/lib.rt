@@ -1,5 +1,8 @@
 // Doors for C and Rust: plain functions over the library, prefix notchergrey_. Each returns 0 or the refusal's number and
 // hands the rest out through pointers. Like a call of the library, a refused one alters no lent number but `place`.
+use refine::answers::Carried;
+use refine::answers::Refined;
+use refinement::Side;
 use script::find::find_match;
 use script::find::Finding;
 use script::refusal::number_of;
@@ -8,7 +11,10 @@ use script::Verdict;
 ghost use mathlib.Core.Path.{_≡_};
 ghost use Rattle.script.specs.Reading.{readScript};
 ghost use Rattle.script.specs.Finding.{findingOf};
-ghost use Rattle.capi.specs.Doors.{bitOf, readDoor, matchDoor};
+ghost use Rattle.capi.specs.Doors.{bitOf, readDoor, matchDoor, refineDoor, carryDoor};
+ghost use Rattle.refine.specs.Refining.{refiningOf};
+ghost use Rattle.refine.specs.Carrying.{carryingOf};
+ghost use Rattle.refinement.specs.declared.Side.{Side};
 
 // 01's number for a direction: 0 direct, 1 reversed.
 fn bit(reversed: bool) -> u32
@@ -92,4 +98,94 @@ pub extern "C" fn notchergrey_match(
             number_of(refusal)
         }
     }
+}
+
+// Makes the piece table of a script in the lent table; `rows` becomes the count of its rows.
+#[no_mangle]
+pub extern "C" fn notchergrey_refine(
+    script: &[u8],
+    table: &mut [u32],
+    work: &mut [u32],
+    place: &mut usize,
+    rows: &mut usize,
+) -> u32
+    ensures { λ r. ⌜
+      record { number = r; place = now (place .exit); rows = now (rows .exit) }
+      ≡ refineDoor (refiningOf (now (script .entry)) (now (table .entry)) (now (work .entry)) .reply)
+      (record { number = 0; place = now (place .entry); rows = now (rows .entry) }) ⌝ }
+    ensures { λ _. ⌜
+      now (table .exit) ≡ refiningOf (now (script .entry)) (now (table .entry)) (now (work .entry)) .table ⌝ }
+    ensures { λ _. ⌜
+      now (work .exit) ≡ refiningOf (now (script .entry)) (now (table .entry)) (now (work .entry)) .work ⌝ }
+{
+    match refine::refine(script, table, work) {
+        Refined::Rows(n) => {
+            *rows = n;
+            0
+        }
+        Refined::Refused(refusal) => {
+            *place = place_of(refusal);
+            number_of(refusal)
+        }
+    }
+}
+
+// Carries a position of one side over the match of this number.
+fn carry_from(
+    script: &[u8],
+    number: u32,
+    side: Side,
+    position: u32,
+    place: &mut usize,
+    carried: &mut u32,
+) -> u32
+    ensures { λ r. ⌜
+      record { number = r; place = now (place .exit); carried = now (carried .exit) }
+      ≡ carryDoor (carryingOf (now (script .entry)) number side position)
+      (record { number = 0; place = now (place .entry); carried = now (carried .entry) }) ⌝ }
+{
+    match refine::carrying::carry(script, number, side, position) {
+        Carried::To(x) => {
+            *carried = x;
+            0
+        }
+        Carried::Refused(refusal) => {
+            *place = place_of(refusal);
+            number_of(refusal)
+        }
+    }
+}
+
+// Carries a position of A to B over the match of this number.
+#[no_mangle]
+pub extern "C" fn notchergrey_carry_from_a(
+    script: &[u8],
+    number: u32,
+    position: u32,
+    place: &mut usize,
+    carried: &mut u32,
+) -> u32
+    ensures { λ r. ⌜
+      record { number = r; place = now (place .exit); carried = now (carried .exit) }
+      ≡ carryDoor (carryingOf (now (script .entry)) number Side.A position)
+      (record { number = 0; place = now (place .entry); carried = now (carried .entry) }) ⌝ }
+{
+    carry_from(script, number, Side::A, position, place, carried)
+}
+
+// Carries a position of B to A over the match of this number.
+#[no_mangle]
+pub extern "C" fn notchergrey_carry_from_b(
+    script: &[u8],
+    number: u32,
+    position: u32,
+    place: &mut usize,
+    carried: &mut u32,
+) -> u32
+    ensures { λ r. ⌜
+      record { number = r; place = now (place .exit); carried = now (carried .exit) }
+      ≡ carryDoor (carryingOf (now (script .entry)) number Side.B position)
+      (record { number = 0; place = now (place .entry); carried = now (carried .entry) }) ⌝ }
+{
+    carry_from(script, number, Side::B, position, place, carried)
 }

@@ -2,7 +2,6 @@
 -- here.
 --     setOf               the set that six numbers say
 --     Lent                a slice and six numbers that keep a set in it
---     Now P               P holds of the slice and the set as they are at the end
 --     AddedBy             what adding a number does, by its answer
 -- Assumes nothing.
 use Prim.Native.Nat.{ℕ, _≤_}

@@ -1,10 +1,21 @@
 -- The definitions yield 01's lines marked M, by one computation over the whole table.
 -- Assumes nothing.
 use mathlib.Core.Path.{_≡_, refl}
-use mathlib.Core.List.{map}
+use mathlib.Core.Logic.{Dec·and}
+use mathlib.Core.List.{map, filter, flatMap}
+use native.Mathlib.Decide.{decLe, decLt, ℕ-discrete}
 use Rattle.script.specs.Reading.{readFrom, readScript}
-use Rattle.vectors.specs.Lines.{comes, lines}
+use Rattle.refinement.specs.Order.{insertBy, sortBy}
+use Rattle.refinement.specs.Least as Least
+use Rattle.table.specs.Rows.{firstRows, rowsOf}
+use Rattle.table.specs.Distinct.{occurs, firstsAfter}
+use Rattle.refine.specs.Rows.{numbersOf}
+use Rattle.refine.specs.Refining.{refiningOfMatches, refiningOf}
+use Rattle.vectors.specs.Lines.{comes, leaves, lines}
 
-pub lines-hold : map (λ l. comes (l .script)) lines ≡ map (λ l. l .expected) lines
-unfolding readFrom readScript
+pub lines-hold : map comes lines ≡ map leaves lines
+unfolding readFrom readScript insertBy sortBy flatMap Dec·and decLe decLt ℕ-discrete firstRows rowsOf occurs firstsAfter
+    numbersOf refiningOfMatches refiningOf Least.spans? Least.spansPlace? Least.same? Least.in? Least.ends Least.spanning
+    Least.images Least.spannedMarks Least.addNew Least.grow Least.spanCount Least.leastCuts Least.cutsWithin Least.pieceOf
+    Least.piecesBetween Least.piecesOf Least.tableFrom Least.leastTable
 lines-hold = refl

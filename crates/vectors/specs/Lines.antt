@@ -1,26 +1,64 @@
--- 01's lines marked M, as one table: a script in bytes and what must come of it. TO READ beside 01, "Small scripts at the
--- edges". The bytes are written out, so that the table says by itself in which order a number's bytes stand.
---     Expected       what must come of a script: a refusal's number and place, or p, q and the matches
---     comes          what the definitions say
---     lines          the table
--- Assumes nothing.
-use Prim.Native.Nat.{ℕ}
-use mathlib.Core.Bool.{Bool, true, false}
+-- 01's lines marked M, as one table: a script in bytes, the numbers lent, and what must come of refining it. TO READ
+-- beside 01, "Small scripts at the edges". The bytes are written out, so that the table says by itself in which order a
+-- number's bytes stand.
+--     Expected          a refusal's number and place; or the rows of the table, and how many pieces are distinct
+--     Line              a script, the numbers lent as table and as work buffer, and what must come of it
+--     comes, leaves     what the definitions say of a line, and what the line says
+--     lines             the table
+-- Every lent number is 9 before the call, so that a number that is kept shows. Assumes nothing.
+use Prim.Native.Nat.{ℕ, _*_, _-_}
+use mathlib.Core.Bool.{Bool, cond}
 use mathlib.Core.List.{List, [], _∷_, _++_}
-use Rattle.script.specs.Refusals.{numberOf, placeOf}
-use Rattle.script.specs.Reading.{Reading, admitted, refused, readScript}
-use Rattle.script.specs.declared.command.Match.{Match}
+use lib.ListN.{length, take, replicate}
+use lib.Dec.{eqb}
+use Rattle.table.specs.Summing.{summaryOf}
+use Rattle.refine.specs.Refining.{Refining, refiningOf}
+use Rattle.refine.specs.Demands.{Answer, value, refusal, answerOf}
+use Rattle.refine.specs.declared.answers.Refined.{Refined}
 
 pub data Expected : Type 0 where
-  refusal : (number place : ℕ) → Expected
-  matches : (p q : ℕ) → List Match → Expected
+  refused : (number place : ℕ) → Expected
+  pieces : List (List ℕ) → (distinct : ℕ) → Expected
 
-abbrev pub expectedOf : Reading → Expected
-expectedOf (admitted p q ms) = matches p q ms
-expectedOf (refused r) = refusal (numberOf r) (placeOf r)
+pub record Line : Type 0 where
+  pub script : List ℕ
+  pub table : ℕ
+  pub work : ℕ
+  pub expected : Expected
 
-abbrev pub comes : List ℕ → Expected
-comes s = expectedOf (readScript s)
+-- the answer, the distinct pieces of the rows it counts, and both buffers after the call
+pub record Outcome : Type 0 where
+  pub answer : Answer
+  pub distinct : ℕ
+  pub table : List ℕ
+  pub work : List ℕ
+
+abbrev pub distinctOf : Refined → List ℕ → ℕ
+distinctOf (Refined.Rows n) table = summaryOf (take (5 * n) table) .distinct
+distinctOf (Refined.Refused r) table = 0
+
+abbrev pub comes : Line → Outcome
+comes l =
+    let x = refiningOf (l .script) (replicate (l .table) 9) (replicate (l .work) 9) in
+    record { answer = answerOf (x .reply); distinct = distinctOf (x .reply) (x .table); table = x .table; work = x .work }
+
+abbrev pub flat : List (List ℕ) → List ℕ
+flat [] = []
+flat (r ∷ rs) = r ++ flat rs
+
+-- only success and 12 alter the work buffer, and only success the table
+abbrev pub leavesOf : Expected → ℕ → ℕ → Outcome
+leavesOf (refused number place) t w =
+    record { answer = refusal number place; distinct = 0; table = replicate t 9; work = replicate w (cond (eqb number 12) 0 9) }
+leavesOf (pieces rows distinct) t w =
+    record {
+      answer = value (length rows);
+      distinct = distinct;
+      table = flat rows ++ replicate (t - length (flat rows)) 9;
+      work = replicate w 0 }
+
+abbrev pub leaves : Line → Outcome
+leaves l = leavesOf (l .expected) (l .table) (l .work)
 
 -- ---- scripts
 
@@ -34,33 +72,110 @@ largest = 255 ∷ 255 ∷ 255 ∷ 255 ∷ []
 abbrev lengths : ℕ → ℕ → List ℕ
 lengths p q = 0x4C ∷ small p ++ small q
 
-abbrev direct : ℕ → ℕ → List ℕ → List ℕ
-direct a b letters = 0x44 ∷ small a ++ small b ++ letters
+abbrev direct : ℕ → ℕ → ℕ → List ℕ
+direct a b d = 0x44 ∷ small a ++ small b ++ small d
+
+abbrev backward : ℕ → ℕ → ℕ → List ℕ
+backward a b d = 0x52 ∷ small a ++ small b ++ small d
 
 abbrev end : List ℕ
 end = 0x45 ∷ []
 
-pub record Line : Type 0 where
-  pub script : List ℕ
-  pub expected : Expected
+abbrev run : List ℕ
+run = lengths 10 10 ++ direct 0 0 6 ++ backward 2 3 5 ++ end
+
+abbrev runPieces : Expected
+runPieces =
+    pieces
+    ((1 ∷ 0 ∷ 0 ∷ 2 ∷ 0 ∷ [])
+    ∷ (1 ∷ 2 ∷ 2 ∷ 1 ∷ 0 ∷ [])
+    ∷ (1 ∷ 3 ∷ 3 ∷ 1 ∷ 0 ∷ [])
+    ∷ (1 ∷ 4 ∷ 4 ∷ 2 ∷ 0 ∷ [])
+    ∷ (2 ∷ 2 ∷ 7 ∷ 1 ∷ 1 ∷ [])
+    ∷ (2 ∷ 3 ∷ 6 ∷ 1 ∷ 1 ∷ [])
+    ∷ (2 ∷ 4 ∷ 4 ∷ 2 ∷ 1 ∷ [])
+    ∷ (2 ∷ 6 ∷ 3 ∷ 1 ∷ 1 ∷ [])
+    ∷ [])
+    7
 
 -- ---- the table
 
 abbrev pub lines : List Line
 lines =
     -- no bytes: 1 at 0
-    record { script = []; expected = refusal 1 0 }
-    -- lengths 1 1, end: no match, and so no pieces
-    ∷ record { script = lengths 1 1 ++ end; expected = matches 1 1 [] }
+    record { script = []; table = 5; work = 4; expected = refused 1 0 }
+    -- lengths 1 1, end: no pieces
+    ∷ record { script = lengths 1 1 ++ end; table = 5; work = 4; expected = pieces [] 0 }
     -- the same with a byte behind: 10 at 10
-    ∷ record { script = lengths 1 1 ++ end ++ (0 ∷ []); expected = refusal 10 10 }
-    -- p = q = 10, direct 0 0 10
+    ∷ record { script = lengths 1 1 ++ end ++ (0 ∷ []); table = 5; work = 4; expected = refused 10 10 }
+    -- p = q = 10, direct 0 0 10: one piece
     ∷ record {
-      script = lengths 10 10 ++ direct 0 0 (small 10) ++ end;
-      expected = matches 10 10 (record { «left_a» = 0; «left_b» = 0; length = 10; reversed = false } ∷ []);
-    }
+      script = lengths 10 10 ++ direct 0 0 10 ++ end;
+      table = 7;
+      work = 4;
+      expected = pieces ((1 ∷ 0 ∷ 0 ∷ 10 ∷ 0 ∷ []) ∷ []) 1 }
     -- direct 1 0 10: 8 at 9
-    ∷ record { script = lengths 10 10 ++ direct 1 0 (small 10) ++ end; expected = refusal 8 9 }
+    ∷ record { script = lengths 10 10 ++ direct 1 0 10 ++ end; table = 5; work = 4; expected = refused 8 9 }
     -- direct 1 0 4294967295: 8 at 9; the sum must not wrap
-    ∷ record { script = lengths 10 10 ++ direct 1 0 largest ++ end; expected = refusal 8 9 }
+    ∷ record {
+      script = lengths 10 10 ++ (0x44 ∷ small 1 ++ small 0 ++ largest) ++ end;
+      table = 5;
+      work = 4;
+      expected = refused 8 9 }
+    -- the run above
+    ∷ record { script = run; table = 60; work = 50; expected = runPieces }
+    -- that run with 40 numbers of table gives 8 rows; with 39, and 28 of work or more, refusal 12
+    ∷ record { script = run; table = 40; work = 32; expected = runPieces }
+    ∷ record { script = run; table = 39; work = 28; expected = refused 12 0 }
+    -- (not M) with 40 numbers of table, 32 of work pass and 31 give 11
+    ∷ record { script = run; table = 40; work = 31; expected = refused 11 0 }
+    -- lengths 4 4, direct 0 0 4 twice: 2 pieces, 1 distinct
+    ∷ record {
+      script = lengths 4 4 ++ direct 0 0 4 ++ direct 0 0 4 ++ end;
+      table = 10;
+      work = 8;
+      expected = pieces ((1 ∷ 0 ∷ 0 ∷ 4 ∷ 0 ∷ []) ∷ (2 ∷ 0 ∷ 0 ∷ 4 ∷ 0 ∷ []) ∷ []) 1 }
+    -- the same lengths, direct 0 0 4 and reversed 0 0 4: 2 pieces, 1 distinct
+    ∷ record {
+      script = lengths 4 4 ++ direct 0 0 4 ++ backward 0 0 4 ++ end;
+      table = 10;
+      work = 8;
+      expected = pieces ((1 ∷ 0 ∷ 0 ∷ 4 ∷ 0 ∷ []) ∷ (2 ∷ 0 ∷ 0 ∷ 4 ∷ 1 ∷ []) ∷ []) 1 }
+    -- lengths 5 5, direct 0 0 4, direct 0 1 4: 8 pieces of length 1; one round of carrying would miss some
+    ∷ record {
+      script = lengths 5 5 ++ direct 0 0 4 ++ direct 0 1 4 ++ end;
+      table = 40;
+      work = 32;
+      expected =
+        pieces
+        ((1 ∷ 0 ∷ 0 ∷ 1 ∷ 0 ∷ [])
+        ∷ (1 ∷ 1 ∷ 1 ∷ 1 ∷ 0 ∷ [])
+        ∷ (1 ∷ 2 ∷ 2 ∷ 1 ∷ 0 ∷ [])
+        ∷ (1 ∷ 3 ∷ 3 ∷ 1 ∷ 0 ∷ [])
+        ∷ (2 ∷ 0 ∷ 1 ∷ 1 ∷ 0 ∷ [])
+        ∷ (2 ∷ 1 ∷ 2 ∷ 1 ∷ 0 ∷ [])
+        ∷ (2 ∷ 2 ∷ 3 ∷ 1 ∷ 0 ∷ [])
+        ∷ (2 ∷ 3 ∷ 4 ∷ 1 ∷ 0 ∷ [])
+        ∷ [])
+        8 }
+    -- (not M) a staircase that needs several rounds, direct and reversed
+    ∷ record {
+      script = lengths 12 12 ++ direct 0 0 2 ++ direct 1 2 2 ++ direct 2 1 4 ++ backward 3 5 3 ++ end;
+      table = 55;
+      work = 44;
+      expected =
+        pieces
+        ((1 ∷ 0 ∷ 0 ∷ 1 ∷ 0 ∷ [])
+        ∷ (1 ∷ 1 ∷ 1 ∷ 1 ∷ 0 ∷ [])
+        ∷ (2 ∷ 1 ∷ 2 ∷ 1 ∷ 0 ∷ [])
+        ∷ (2 ∷ 2 ∷ 3 ∷ 1 ∷ 0 ∷ [])
+        ∷ (3 ∷ 2 ∷ 1 ∷ 1 ∷ 0 ∷ [])
+        ∷ (3 ∷ 3 ∷ 2 ∷ 1 ∷ 0 ∷ [])
+        ∷ (3 ∷ 4 ∷ 3 ∷ 1 ∷ 0 ∷ [])
+        ∷ (3 ∷ 5 ∷ 4 ∷ 1 ∷ 0 ∷ [])
+        ∷ (4 ∷ 3 ∷ 7 ∷ 1 ∷ 1 ∷ [])
+        ∷ (4 ∷ 4 ∷ 6 ∷ 1 ∷ 1 ∷ [])
+        ∷ (4 ∷ 5 ∷ 5 ∷ 1 ∷ 1 ∷ [])
+        ∷ [])
+        11 }
     ∷ []

@@ -1,0 +1,45 @@
+-- `carry_from` meets its contract: it hands out what `carry` answers. Assumes nothing.
+use mathlib.Core.Path.{sym, _∙_}
+use borrow.Author.Needs.{needs}
+use Rattle.capi.proofs.carry_from.Statement.{statement}
+use Rattle.capi.proofs.carry_from.Tie as tie
+
+carry-requires : tie.Need-carry-requires
+carry-requires c κs = search needs
+
+enum-known-x : tie.Need-enum-known-x
+enum-known-x c = search needs
+
+enum-known-refusal : tie.Need-enum-known-refusal
+enum-known-refusal c = search needs
+
+place-of-requires : tie.Need-place-of-requires
+place-of-requires c κs = search needs
+
+number-of-requires : tie.Need-number-of-requires
+number-of-requires c κs = search needs
+
+returns : tie.Need-returns
+returns c =
+    let called = c .before .before .before in
+    rw (sym (called .carry .ensures .0) ∙ c .before .x .given .1)
+
+returns-2 : tie.Need-returns-2
+returns-2 c =
+    let told = c .before .before .before in
+    rw (
+      sym (told .before .before .carry .ensures .0) ∙ told .refusal .given .1,
+      c .before .place-of .ensures,
+      c .number-of .ensures)
+
+pub carry-from-spec : {M : Type 1} → statement M
+carry-from-spec =
+    tie.close
+    (tie.spec
+    carry-requires
+    enum-known-x
+    enum-known-refusal
+    place-of-requires
+    number-of-requires
+    returns
+    returns-2)
