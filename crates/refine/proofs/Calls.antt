@@ -5,7 +5,7 @@
 --     rows-tabled        the rows written are the least table
 --     tabled-refines     the rows written and the work buffer cleared are the call's outcome
 -- Assumes nothing.
-use Prim.Native.Nat.{ℕ, _+_, _*_, _≤_, _<_}
+use Prim.Native.Nat.{ℕ, _+_, _≤_, _<_}
 use mathlib.Core.Path.{_≡_, sym, ap, subst, _∙_}
 use mathlib.Core.Logic.{_↔_}
 use mathlib.Core.Bool.{Bool}
@@ -25,8 +25,7 @@ use Rattle.cut_set.specs.declared.CutSet.{CutSet}
 use Rattle.refine.specs.Columns.{Fit, matchesOf}
 use Rattle.refine.specs.Engine.{at, AllCuts, Closure}
 use Rattle.refine.specs.Rows.{rowsOver, numbersOf}
-use Rattle.refine.specs.Refining.{Refining, capacityOf, workNeeded, zeroed, refiningOf}
-use Rattle.refine.specs.Demands.{Admitted}
+use Rattle.refine.specs.Refining.{capacityOf, workNeeded, zeroed}
 use Rattle.refine.specs.Writing.{Writable, Written, Tabled, Refines}
 use Rattle.refine.specs.declared.closure.Closed.{Closed}
 use Rattle.refine.specs.declared.answers.Refined.{Refined}

@@ -5,7 +5,7 @@ pub mod Passing
 pub mod WholeTurn
 pub mod Indexed
 pub mod Counting
-pub mod Stores
+pub mod Members
 pub mod Stepping
 pub mod Settled
 pub mod Seeds

@@ -17,9 +17,10 @@ use Rattle.cut_set.specs.Runs.{Same}
 use Rattle.cut_set.specs.Store.{Found, FoundRun, Stored}
 use Rattle.cut_set.specs.declared.CutSet.{CutSet}
 use Rattle.cut_set.proofs.Membership.{in-same}
+use Rattle.cut_set.proofs.Laws.{stored-none, stored-same, stored-then}
 use Rattle.refine.specs.Worker.{Images, ImageBy, hitsOn, hitsOver, TooMuch, Ready}
 use Rattle.refine.proofs.RunLists.{slice-same}
-use Rattle.refine.proofs.Storing.{base-done, done-used, stored-none, stored-as, stored-then}
+use Rattle.refine.proofs.Storing.{base-done, done-used}
 use Rattle.refine.proofs.Storing.{too-much-more, too-much-then, same-apart, ready-then}
 
 pub record Passed (f t d : List ℕ) (v : List Bool) (xs : List ℕ) (from to : CutSet) (hits most : ℕ) (ys : List ℕ)
@@ -54,7 +55,7 @@ module _ {f t d : List ℕ} {v : List Bool} {xs : List ℕ} {from to : CutSet} {
   pass-start h = record {
     until = omega arith;
     lengths = refl;
-    stored = stored-none (r .to-good) (λ y m. omega (arith, m .below));
+    stored = stored-none (r .to-good) (λ y m. absurd (omega (arith, m .below)));
     counted = omega arith;
     few = h;
   }
@@ -125,7 +126,7 @@ module _ {f t d : List ℕ} {v : List Bool} {xs : List ℕ} {from to : CutSet} {
       pass-step n q = record {
         until = omega arith;
         lengths = n ∙ p .lengths;
-        stored = stored-as next (stored-then (r .to-good) (p .stored) (q .0));
+        stored = stored-same next (stored-then (p .stored) (q .0));
         counted = omega (arith, p .counted, one-more, q .1);
         few = q .2;
       }

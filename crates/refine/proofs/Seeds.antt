@@ -22,18 +22,20 @@ use Rattle.cut_set.specs.Runs.{In, Run}
 use Rattle.cut_set.specs.Store.{Good, Member, Stored, Crowded, Emptied, AddedTo, Adding}
 use Rattle.cut_set.specs.declared.CutSet.{CutSet}
 use Rattle.cut_set.specs.declared.Added.{Added}
+use Rattle.cut_set.proofs.Laws.{stored-none, stored-same, stored-then}
 use Rattle.refine.specs.Columns.{Fit, matchesOf}
 use Rattle.refine.specs.Worker.{Overflow}
 use Rattle.refine.specs.Engine.{at, setOn, leftsOn, hitsAt, Counted, Open, EndAt, EndOf, Seeding, Exceeds}
 use Rattle.refine.specs.declared.steps.Cuts.{Cuts}
 use Rattle.refine.proofs.Indexed.{∈-matches, matches-∈}
 use Rattle.refine.proofs.Counting.{hits-none, overflow-exceeds}
-use Rattle.refine.proofs.Stores.{members-come, stored-none, stored-then, overflow-from, crowded-overflow}
+use Rattle.refine.proofs.Members.{members-come, overflow-from}
+use Rattle.refine.proofs.Storing.{crowded-overflow}
 
 pub two-added :
     (xs : List ℕ) (s : CutSet) {ys : List ℕ} {t : CutSet} (zs : List ℕ) (x n : ℕ) → Good xs s → AddedTo xs s x ys t
     → (answer : Added) → Adding ys t (x + n) zs answer → Seeding (EndAt x n) xs s zs answer
-two-added xs s zs x n g h (Added.Held u) k = stored-then (h .stored) (k .stored) (λ y w. w) (λ y w. w)
+two-added xs s zs x n g h (Added.Held u) k = stored-then (h .stored) (k .stored)
 two-added xs s zs x n g h Added.Full k =
     overflow-from (omega (arith, h .stored .base-same, h .stored .limit-same))
     (λ y. ⊎-elim
@@ -52,7 +54,7 @@ pub record Sown (a d xs : List ℕ) (s : CutSet) (k : ℕ) (ys : List ℕ) (t : 
   pub stored : Stored (EndOf a d k) xs s ys t
 
 pub sown-start : {a d xs : List ℕ} {s : CutSet} → Good xs s → Sown a d xs s 0 xs s
-sown-start g = record { to = omega arith; lengths = refl; stored = stored-none g (λ y p. omega (arith, p .below)) }
+sown-start g = record { to = omega arith; lengths = refl; stored = stored-none g (λ y p. absurd (omega (arith, p .below))) }
 
 module _ {a d xs ys : List ℕ} {s t : CutSet} {k : ℕ} (w : Sown a d xs s k ys t) (l : k < length d) where
   pub sown-step :
@@ -61,11 +63,12 @@ module _ {a d xs ys : List ℕ} {s t : CutSet} {k : ℕ} (w : Sown a d xs s k ys
   sown-step e h = record {
     to = omega arith;
     lengths = e ∙ w .lengths;
-    stored = stored-then (w .stored) h
-        (λ y. ⊎-elim
+    stored = stored-same (λ y.
+        (⊎-elim
         (λ p. record { index = p .index; below = omega (arith, p .below); is = p .is })
-        (λ p. record { index = k; below = omega arith; is = p }))
-        (λ y p. part y p (ℕ-discrete (p .index) k));
+        (λ p. record { index = k; below = omega arith; is = p }),
+        λ p. part y p (ℕ-discrete (p .index) k)))
+        (stored-then (w .stored) h);
   }
     where
       part :

@@ -20,7 +20,7 @@ use Rattle.refine.specs.Engine.{at, setOn, Open, AllCuts}
 use Rattle.refine.specs.declared.steps.Cuts.{Cuts}
 use Rattle.refine.proofs.Indexed.{placed}
 use Rattle.refine.proofs.Counting.{hits-whole}
-use Rattle.refine.proofs.Stores.{finished-member}
+use Rattle.refine.proofs.Members.{finished-member}
 
 -- a place is of one side and one position only
 same-place : (P : Side → ℕ → Type 0) (u v : Side) (x y : ℕ) → at u x ≡ at v y → P u x → P v y

@@ -32,7 +32,7 @@ use Rattle.refine.specs.declared.steps.Cuts.{Cuts}
 use Rattle.refine.specs.declared.steps.Closing.{Closing}
 use Rattle.refine.proofs.Indexed.{∈-matches, matches-∈, placed, index-spans, index-carry}
 use Rattle.refine.proofs.Counting.{hits-append, hits-exceed, overflow-exceeds}
-use Rattle.refine.proofs.Stores.{finished-member, found-member, apart-parts, members-stay, members-come}
+use Rattle.refine.proofs.Members.{finished-member, found-member, apart-parts, members-stay, members-come}
 
 -- what holds of a side and of the other holds of both
 both : (P : Side → Type 0) (s : Side) → P s → P (other s) → (u : Side) → P u

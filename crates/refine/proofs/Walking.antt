@@ -19,10 +19,11 @@ use Rattle.cut_set.specs.Store.{Found, FoundRun, Stored}
 use Rattle.cut_set.specs.declared.CutSet.{CutSet}
 use Rattle.cut_set.proofs.Moving.{lt-or-le}
 use Rattle.cut_set.proofs.Membership.{in-wide, in-parts}
+use Rattle.cut_set.proofs.Laws.{stored-none, stored-same, stored-then}
 use Rattle.refine.specs.Worker.{ImageBy, hitsOn, TooMuch, Ready}
 use Rattle.refine.proofs.RunLists.{hits-past}
-use Rattle.refine.proofs.Storing.{base-done, done-used, stored-none, stored-as}
-use Rattle.refine.proofs.Storing.{stored-then, too-much-more, too-much-then, same-apart}
+use Rattle.refine.proofs.Storing.{base-done, done-used}
+use Rattle.refine.proofs.Storing.{too-much-more, too-much-then, same-apart}
 
 pub record Walked (i k d : ℕ) (b : Bool) (xs : List ℕ) (to : CutSet) (hits most lo hi : ℕ) (ys : List ℕ) (t : CutSet)
     (count at : ℕ) : Type 0 where
@@ -45,7 +46,7 @@ walk-start r e h = record {
   from = omega arith;
   until = e .to;
   lengths = refl;
-  stored = stored-none (r .to-good) (λ y m. omega (arith, m .carried .from, m .carried .below));
+  stored = stored-none (r .to-good) (λ y m. absurd (omega (arith, m .carried .from, m .carried .below)));
   counted = refl;
   few = h;
 }
@@ -98,7 +99,7 @@ module _ {i k d : ℕ} {b : Bool} {xs : List ℕ} {from to : CutSet} {hits most 
       from = omega (arith, w .from);
       until = omega arith;
       lengths = n ∙ w .lengths;
-      stored = stored-as next (stored-then (r .to-good) (w .stored) (p .0));
+      stored = stored-same next (stored-then (w .stored) (p .0));
       counted = omega (arith, w .counted, hit, p .1);
       few = p .2;
     }
@@ -115,7 +116,7 @@ module _ {i k d : ℕ} {b : Bool} {xs : List ℕ} {from to : CutSet} {hits most 
       → Stored (ImageBy i k d b (Found xs from)) xs to ys t
       × (count ≡ hits + hitsOn i d (slice (from .done) (from .used) xs)) × (count ≤ most)
   stopped f = (
-    stored-as (λ y. (image-wide (e .from) (w .until), narrow)) (w .stored),
+    stored-same (λ y. (image-wide (e .from) (w .until), narrow)) (w .stored),
     omega (arith, w .counted, skipped, rest),
     w .few,
   )

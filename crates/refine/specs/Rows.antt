@@ -3,7 +3,7 @@
 --     rowsOver            the rows of the first n matches
 --     rowNumbers, numbersOf     a row and a list of rows as the table's numbers
 -- 01, "The table and its buffers". Assumes nothing.
-use Prim.Native.Nat.{ℕ, zero, suc, _+_}
+use Prim.Native.Nat.{ℕ, zero, suc}
 use mathlib.Core.Bool.{Bool, true, false, cond}
 use mathlib.Core.List.{List, [], _∷_, _++_}
 use lib.ListN.{getD}

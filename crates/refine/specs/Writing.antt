@@ -15,7 +15,7 @@ use Rattle.script.specs.declared.refusal.Refusal.the-variants.{TooManyPieces}
 use Rattle.refinement.specs.Match.{Match}
 use Rattle.refinement.specs.Least.{leastTable}
 use Rattle.refine.specs.Engine.{Exceeds}
-use Rattle.refine.specs.Refining.{Refining, capacityOf, refiningOf}
+use Rattle.refine.specs.Refining.{capacityOf, refiningOf}
 use Rattle.refine.specs.Demands.{Admitted}
 use Rattle.refine.specs.declared.answers.Refined.{Refined}
 use Rattle.refine.specs.Rows.{rowsOver, numbersOf}

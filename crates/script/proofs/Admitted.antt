@@ -6,14 +6,14 @@
 -- Assumes nothing.
 use Prim.Native.Nat.{ℕ, _+_, _-_, _≤_}
 use mathlib.Core.Path.{_≡_, refl, sym, ap, subst, _∙_}
-use mathlib.Core.Bool.{Bool, false}
+use mathlib.Core.Bool.{false}
 use mathlib.Core.List.{List, map, List·Memᴰ}
 use native.Mathlib.Omega.{arith}
 use lib.ListN.{length, take, replicate, length-map}
 use lib.Seq.{take-at}
 use Rattle.script.specs.Limits.{mostMatches, longestScript}
 use Rattle.script.specs.Reading.{Reading, admitted, refused, readScript, column, scriptOf}
-use Rattle.script.specs.Outcomes.{Byte, InRange, Within, Reach, opened, taken, Outcome}
+use Rattle.script.specs.Outcomes.{InRange, Within, Reach, Outcome}
 use Rattle.script.specs.declared.refusal.Refusal.{Refusal}
 use Rattle.script.specs.declared.command.Match.{Match}
 use Rattle.script.specs.declared.Verdict.{Verdict}

@@ -18,12 +18,12 @@ use native.Mathlib.Omega.{arith}
 use native.Mathlib.Decide.{decLe}
 use native.Mathlib.Nat.{lt-of-not-le}
 use native.Mathlib.Numerals.{sub-one}
-use lib.ListN.{length, getD, drop, length-append, length-drop}
+use lib.ListN.{length, getD, drop, length-append}
 use lib.Seq.{drop-drop}
 use Rattle.script.specs.Limits.{mostMatches}
-use Rattle.script.specs.Commands.{numberAt, commandOf}
-use Rattle.script.specs.Steps.{openingOf, stepOf, matchStep, cutShortStep}
-use Rattle.script.specs.Reading.{Reading, admitted, refused, afterStep, afterOpening, readFrom, readScript}
+use Rattle.script.specs.Commands.{numberAt}
+use Rattle.script.specs.Steps.{openingOf, stepOf, cutShortStep}
+use Rattle.script.specs.Reading.{Reading, refused, afterStep, afterOpening, readFrom, readScript}
 use Rattle.script.specs.Outcomes.{Byte, MatchByte, MatchAt, LengthsAt, InRange, Within, Reach, opened, taken, Short, Outcome}
 use Rattle.script.specs.declared.refusal.Refusal.the-variants.{Headless, CutShort, TooManyMatches}
 use Rattle.script.specs.declared.command.Match.{Match}

@@ -5,7 +5,7 @@
 --     columns-taken       one more match, stored at the count
 --     next-reach          the match that a step takes leads one good command further
 -- Assumes nothing.
-use Prim.Native.Nat.{ℕ, zero, suc, _+_, _-_, _≤_, _<_}
+use Prim.Native.Nat.{ℕ, suc, _+_, _-_, _<_}
 use mathlib.Core.Path.{_≡_, refl, sym, ap, subst, _∙_}
 use mathlib.Core.Bool.{Bool, false}
 use mathlib.Core.List.{List, [], _∷_, _++_, map, map-append}
@@ -26,7 +26,7 @@ use Rattle.script.specs.declared.step.Opening.{Opening}
 use Rattle.script.specs.declared.step.Step.{Step}
 use Rattle.script.specs.declared.Verdict.{Verdict}
 use Rattle.script.proofs.Seen.{Seen, seen}
-use Rattle.script.proofs.Outcome.{reach-place, reach-inside, reach-ends, opening-at}
+use Rattle.script.proofs.Outcome.{reach-place, reach-ends, opening-at}
 use Rattle.script.proofs.Judged.{Judged, judged, short-room, short-full, Opens, opens}
 
 pub rest-drop : (s : List ℕ) (at : ℕ) → take (length s - at) (drop at s) ≡ drop at s

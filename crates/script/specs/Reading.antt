@@ -4,7 +4,7 @@
 --     scriptOf r       the reply that stands for a reading: the verdict beside the columns of the matches
 -- 01, "The script". Assumes nothing.
 use Prim.Native.Nat.{ℕ, zero, suc, _+_, _-_}
-use mathlib.Core.Bool.{Bool, false}
+use mathlib.Core.Bool.{false}
 use mathlib.Core.List.{List, [], _∷_, _++_, map}
 use lib.ListN.{length, drop, replicate}
 use Rattle.script.specs.Limits.{mostMatches}

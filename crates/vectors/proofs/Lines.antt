@@ -2,7 +2,7 @@
 -- Assumes nothing.
 use mathlib.Core.Path.{_≡_, refl}
 use mathlib.Core.Logic.{Dec·and}
-use mathlib.Core.List.{map, filter, flatMap}
+use mathlib.Core.List.{map, flatMap}
 use native.Mathlib.Decide.{decLe, decLt, ℕ-discrete}
 use Rattle.script.specs.Reading.{readFrom, readScript}
 use Rattle.refinement.specs.Order.{insertBy, sortBy}

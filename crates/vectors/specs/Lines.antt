@@ -7,12 +7,12 @@
 --     lines             the table
 -- Every lent number is 9 before the call, so that a number that is kept shows. Assumes nothing.
 use Prim.Native.Nat.{ℕ, _*_, _-_}
-use mathlib.Core.Bool.{Bool, cond}
+use mathlib.Core.Bool.{cond}
 use mathlib.Core.List.{List, [], _∷_, _++_}
 use lib.ListN.{length, take, replicate}
 use lib.Dec.{eqb}
 use Rattle.table.specs.Summing.{summaryOf}
-use Rattle.refine.specs.Refining.{Refining, refiningOf}
+use Rattle.refine.specs.Refining.{refiningOf}
 use Rattle.refine.specs.Demands.{Answer, value, refusal, answerOf}
 use Rattle.refine.specs.declared.answers.Refined.{Refined}
 

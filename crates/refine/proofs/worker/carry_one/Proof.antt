@@ -2,8 +2,9 @@
 -- Assumes nothing.
 use native.Mathlib.Omega.{arith}
 use mathlib.Core.Path.{refl, sym, _∙_}
+use Rattle.cut_set.proofs.Laws.{stored-same}
 use Rattle.refine.specs.Worker.{TooMuch}
-use Rattle.refine.proofs.Storing.{stored-as, too-much-crowded}
+use Rattle.refine.proofs.Storing.{too-much-crowded}
 use borrow.Author.Needs.{needs}
 use Rattle.refine.proofs.worker.carry_one.Statement.{statement}
 use Rattle.refine.proofs.worker.carry_one.Tie as tie
@@ -34,7 +35,7 @@ returns-2 c =
     let called = c .before .before .before .before .before in
     let image = called .before .before .carry .ensures in
     let added = rw (c .before .set .given .1) at (called .add .ensures) in
-    (stored-as (λ y. (λ e. e ∙ image, λ e. e ∙ sym image)) (added .stored), refl, search needs)
+    (stored-same (λ y. (λ e. e ∙ image, λ e. e ∙ sym image)) (added .stored), refl, search needs)
 
 same-length-2 : tie.Need-same-length-2
 same-length-2 c = search needs
