@@ -44,7 +44,8 @@ matchDoor (Finding.Found m) was =
       left-a = m .«left_a»;
       left-b = m .«left_b»;
       letters = m .length;
-      reversed = bitOf (m .reversed) }
+      reversed = bitOf (m .reversed);
+    }
 matchDoor (Finding.Refused r) was =
     record {
       number = numberOf r;
@@ -52,7 +53,8 @@ matchDoor (Finding.Refused r) was =
       left-a = was .left-a;
       left-b = was .left-b;
       letters = was .letters;
-      reversed = was .reversed }
+      reversed = was .reversed;
+    }
 
 pub record RefineReply : Type 0 where
   pub number : ℕ

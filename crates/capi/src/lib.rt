@@ -1,13 +1,14 @@
-// Doors for C and Rust: plain functions over the library, prefix notchergrey_. Each returns 0 or the refusal's number and
+// Doors for C and Rust: plain functions over the library, prefix notchergrey_. Each returns 0 or the refusal's number
+// and
 // hands the rest out through pointers. Like a call of the library, a refused one alters no lent number but `place`.
 use refine::answers::Carried;
 use refine::answers::Refined;
 use refinement::Side;
-use script::find::find_match;
+use script::Verdict;
 use script::find::Finding;
+use script::find::find_match;
 use script::refusal::number_of;
 use script::refusal::place_of;
-use script::Verdict;
 ghost use mathlib.Core.Path.{_≡_};
 ghost use Rattle.script.specs.Reading.{readScript};
 ghost use Rattle.script.specs.Finding.{findingOf};
@@ -33,9 +34,15 @@ pub extern "C" fn notchergrey_read(
     count: &mut usize,
 ) -> u32
     ensures { λ r. ⌜
-      record { number = r; place = now (place .exit); p = now (p .exit); q = now (q .exit); count = now (count .exit) }
-      ≡ readDoor (readScript (now (script .entry)))
-      (record { number = 0; place = now (place .entry); p = now (p .entry); q = now (q .entry); count = now (count .entry) }) ⌝ }
+        record { number = r; place = now (place .exit); p = now (p .exit); q = now (q .exit); count = now (count .exit) }
+        ≡ readDoor (readScript (now (script .entry)))
+        (record {
+          number = 0;
+          place = now (place .entry);
+          p = now (p .entry);
+          q = now (q .entry);
+          count = now (count .entry);
+        }) ⌝ }
 {
     let read = script::read(script);
     let verdict = read.verdict;
@@ -69,21 +76,23 @@ pub extern "C" fn notchergrey_match(
     reversed: &mut u32,
 ) -> u32
     ensures { λ r. ⌜
-      record {
-        number = r;
-        place = now (place .exit);
-        left-a = now («left_a» .exit);
-        left-b = now («left_b» .exit);
-        letters = now (length .exit);
-        reversed = now (reversed .exit) }
-      ≡ matchDoor (findingOf (readScript (now (script .entry))) number)
-      (record {
-        number = 0;
-        place = now (place .entry);
-        left-a = now («left_a» .entry);
-        left-b = now («left_b» .entry);
-        letters = now (length .entry);
-        reversed = now (reversed .entry) }) ⌝ }
+        record {
+          number = r;
+          place = now (place .exit);
+          left-a = now («left_a» .exit);
+          left-b = now («left_b» .exit);
+          letters = now (length .exit);
+          reversed = now (reversed .exit);
+        }
+        ≡ matchDoor (findingOf (readScript (now (script .entry))) number)
+        (record {
+          number = 0;
+          place = now (place .entry);
+          left-a = now («left_a» .entry);
+          left-b = now («left_b» .entry);
+          letters = now (length .entry);
+          reversed = now (reversed .entry);
+        }) ⌝ }
 {
     match find_match(script, number) {
         Finding::Found(found) => {
@@ -110,13 +119,13 @@ pub extern "C" fn notchergrey_refine(
     rows: &mut usize,
 ) -> u32
     ensures { λ r. ⌜
-      record { number = r; place = now (place .exit); rows = now (rows .exit) }
-      ≡ refineDoor (refiningOf (now (script .entry)) (now (table .entry)) (now (work .entry)) .reply)
-      (record { number = 0; place = now (place .entry); rows = now (rows .entry) }) ⌝ }
+        record { number = r; place = now (place .exit); rows = now (rows .exit) }
+        ≡ refineDoor (refiningOf (now (script .entry)) (now (table .entry)) (now (work .entry)) .reply)
+        (record { number = 0; place = now (place .entry); rows = now (rows .entry) }) ⌝ }
     ensures { λ _. ⌜
-      now (table .exit) ≡ refiningOf (now (script .entry)) (now (table .entry)) (now (work .entry)) .table ⌝ }
+        now (table .exit) ≡ refiningOf (now (script .entry)) (now (table .entry)) (now (work .entry)) .table ⌝ }
     ensures { λ _. ⌜
-      now (work .exit) ≡ refiningOf (now (script .entry)) (now (table .entry)) (now (work .entry)) .work ⌝ }
+        now (work .exit) ≡ refiningOf (now (script .entry)) (now (table .entry)) (now (work .entry)) .work ⌝ }
 {
     match refine::refine(script, table, work) {
         Refined::Rows(n) => {
@@ -140,9 +149,9 @@ fn carry_from(
     carried: &mut u32,
 ) -> u32
     ensures { λ r. ⌜
-      record { number = r; place = now (place .exit); carried = now (carried .exit) }
-      ≡ carryDoor (carryingOf (now (script .entry)) number side position)
-      (record { number = 0; place = now (place .entry); carried = now (carried .entry) }) ⌝ }
+        record { number = r; place = now (place .exit); carried = now (carried .exit) }
+        ≡ carryDoor (carryingOf (now (script .entry)) number side position)
+        (record { number = 0; place = now (place .entry); carried = now (carried .entry) }) ⌝ }
 {
     match refine::carrying::carry(script, number, side, position) {
         Carried::To(x) => {
@@ -166,9 +175,9 @@ pub extern "C" fn notchergrey_carry_from_a(
     carried: &mut u32,
 ) -> u32
     ensures { λ r. ⌜
-      record { number = r; place = now (place .exit); carried = now (carried .exit) }
-      ≡ carryDoor (carryingOf (now (script .entry)) number Side.A position)
-      (record { number = 0; place = now (place .entry); carried = now (carried .entry) }) ⌝ }
+        record { number = r; place = now (place .exit); carried = now (carried .exit) }
+        ≡ carryDoor (carryingOf (now (script .entry)) number Side.A position)
+        (record { number = 0; place = now (place .entry); carried = now (carried .entry) }) ⌝ }
 {
     carry_from(script, number, Side::A, position, place, carried)
 }
@@ -183,9 +192,9 @@ pub extern "C" fn notchergrey_carry_from_b(
     carried: &mut u32,
 ) -> u32
     ensures { λ r. ⌜
-      record { number = r; place = now (place .exit); carried = now (carried .exit) }
-      ≡ carryDoor (carryingOf (now (script .entry)) number Side.B position)
-      (record { number = 0; place = now (place .entry); carried = now (carried .entry) }) ⌝ }
+        record { number = r; place = now (place .exit); carried = now (carried .exit) }
+        ≡ carryDoor (carryingOf (now (script .entry)) number Side.B position)
+        (record { number = 0; place = now (place .entry); carried = now (carried .entry) }) ⌝ }
 {
     carry_from(script, number, Side::B, position, place, carried)
 }

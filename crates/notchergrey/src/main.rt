@@ -1,11 +1,12 @@
-// Reads a match script from standard input and prints what the reader finds: its lengths and its count of matches, or the
+// Reads a match script from standard input and prints what the reader finds: its lengths and its count of matches, or
+// the
 // refusal with its place.
 use libc::STDIN_FILENO;
 use libc::STDOUT_FILENO;
+use script::Verdict;
 use script::limits::LONGEST_SCRIPT;
 use script::refusal::number_of;
 use script::refusal::place_of;
-use script::Verdict;
 
 fn print(word: &[u8], number: u64) {
     io::write_all(STDOUT_FILENO, word);

@@ -43,14 +43,16 @@ told-cuts {ms} {cap} {ys} h e = subst (Closure ms cap ys) e h
 -- a column whose first numbers are the fields of the matches reaches that far
 pub column-reaches :
     {X : Type 0} (column : List X) (field : ScriptMatch → X) (ms : List ScriptMatch) (count : ℕ)
-    → take count column ≡ map field ms → length ms ≡ count → (count ≤ length column) × (count ≡ length (take count column))
+    → take count column ≡ map field ms → length ms ≡ count
+    → (count ≤ length column) × (count ≡ length (take count column))
 column-reaches column field ms count e n =
     let all : length (take count column) ≡ count = ap length e ∙ length-map ms field ∙ n in
     (omega (arith, length-take count column), sym all)
 
 pub column-few :
     (column : List ℕ) (field : ScriptMatch → ℕ) (ms : List ScriptMatch) (count : ℕ)
-    → take count column ≡ map field ms → length ms ≡ count → count ≤ mostMatches → length (take count column) < 4294967296
+    → take count column ≡ map field ms → length ms ≡ count → count ≤ mostMatches
+    → length (take count column) < 4294967296
 column-few column field ms count e n few = omega (arith, column-reaches column field ms count e n .1)
 
 module _ {a b d : List ℕ} {r : List Bool} (fit : Fit a b d r) (table : List ℕ) {xs ys : List ℕ} {s t : CutSet}
@@ -83,7 +85,8 @@ module _ {a b d : List ℕ} {r : List Bool} (fit : Fit a b d r) (table : List �
   cuts-writable few =
       record {
         run = record { order = ordered; within = inside; rising = joined .run };
-        left-in = λ k h. joined .kept .members (getD a k 0) .1 (cuts .cuts (getD a k 0) .1 (end (∈-matches a b d r h) (left-end Side.A)));
+        left-in = λ k h. joined .kept .members (getD a k 0) .1
+            (cuts .cuts (getD a k 0) .1 (end (∈-matches a b d r h) (left-end Side.A)));
         right-in = λ k h.
             joined .kept .members (getD a k 0 + getD d k 0) .1
             (cuts .cuts (getD a k 0 + getD d k 0) .1 (end (∈-matches a b d r h) (right-end Side.A)));
@@ -93,13 +96,19 @@ module _ {a b d : List ℕ} {r : List Bool} (fit : Fit a b d r) (table : List �
 
   pub rows-tabled : {after : List ℕ} {n : ℕ} → Written a b d r (slice (t .base) (t .used) ys) table after n
       → Tabled (matchesOf a b d r) table after (Refined.Rows n)
-  rows-tabled w =
-      (w .count ∙ ap length rows-are, cuts .fits, w .table ∙ ap (λ (rs : List Match). sets table 0 (numbersOf rs)) rows-are)
+  rows-tabled w = (
+    w .count ∙ ap length rows-are,
+    cuts .fits,
+    w .table
+        ∙ ap (λ (rs : List Match). sets table 0 (numbersOf rs)) rows-are,
+  )
 
 pub tabled-refines :
-    (ms : List Match) (table table′ work : List ℕ) (r : Refined) → workNeeded table ≤ length work → Tabled ms table table′ r
+    (ms : List Match) (table table′ work : List ℕ) (r : Refined) → workNeeded table ≤ length work
+    → Tabled ms table table′ r
     → Refines ms table work r table′ (zeroed work)
 tabled-refines ms table table′ work (Refined.Rows n) room t script a =
-    rw (t .0, t .2 ∙ written-sets (leastTable ms []) table (t .1)) (sym (refining-written script table work a room (t .1)))
+    rw (t .0, t .2 ∙ written-sets (leastTable ms []) table (t .1))
+    (sym (refining-written script table work a room (t .1)))
 tabled-refines ms table table′ work (Refined.Refused f) room t script a =
     rw (t .0, t .2) (sym (refining-crowded script table work a room (t .1)))

@@ -21,10 +21,13 @@ use Rattle.refinement.proofs.Theorem.{table-resolved, table-in-order, table-lea
 use Rattle.refinement.proofs.Paper.{paper-agrees}
 use Rattle.refine.specs.Rows.{numbersOf}
 use Rattle.refine.specs.Refining.{capacityOf, workNeeded, Refining, refiningOf}
-use Rattle.refine.specs.Demands.{Answer, value, refusal, answerOf, Admitted, reads, Fits, EveryExceeds, RefiningOutcome, Stand, Demand1, Demand2, Demand3}
+use Rattle.refine.specs.Demands.{Answer, value, refusal, answerOf, Admitted, reads, Fits, EveryExceeds}
+use Rattle.refine.specs.Demands.{RefiningOutcome, Stand, Demand1, Demand2, Demand3}
 use Rattle.refine.specs.declared.answers.Refined.{Refined}
 use Rattle.refine.proofs.Numbered.{admitted-unique, admitted-matches}
-use Rattle.refine.proofs.RefiningCases.{length-numbers, written, fits-exceeds, refining-refused, refining-short, refining-crowded, refining-written, Case, refusing, short, crowded, writing, case}
+use Rattle.refine.proofs.RefiningCases.{length-numbers, written, fits-exceeds, refining-refused, refining-short}
+use Rattle.refine.proofs.RefiningCases.{refining-crowded, refining-written, Case, refusing, short, crowded}
+use Rattle.refine.proofs.RefiningCases.{writing, case}
 
 -- ---- what tells the outcomes apart
 

@@ -54,7 +54,12 @@ pub record Sown (a d xs : List ℕ) (s : CutSet) (k : ℕ) (ys : List ℕ) (t : 
   pub stored : Stored (EndOf a d k) xs s ys t
 
 pub sown-start : {a d xs : List ℕ} {s : CutSet} → Good xs s → Sown a d xs s 0 xs s
-sown-start g = record { to = omega arith; lengths = refl; stored = stored-none g (λ y p. absurd (omega (arith, p .below))) }
+sown-start g = record {
+  to = omega arith;
+  lengths = refl;
+  stored = stored-none g
+      (λ y p. absurd (omega (arith, p .below)));
+}
 
 module _ {a d xs ys : List ℕ} {s t : CutSet} {k : ℕ} (w : Sown a d xs s k ys t) (l : k < length d) where
   pub sown-step :
@@ -63,11 +68,12 @@ module _ {a d xs ys : List ℕ} {s t : CutSet} {k : ℕ} (w : Sown a d xs s k ys
   sown-step e h = record {
     to = omega arith;
     lengths = e ∙ w .lengths;
-    stored = stored-same (λ y.
-        (⊎-elim
-        (λ p. record { index = p .index; below = omega (arith, p .below); is = p .is })
-        (λ p. record { index = k; below = omega arith; is = p }),
-        λ p. part y p (ℕ-discrete (p .index) k)))
+    stored = stored-same (λ y. (
+      ⊎-elim
+          (λ p. record { index = p .index; below = omega (arith, p .below); is = p .is })
+          (λ p. record { index = k; below = omega arith; is = p }),
+      λ p. part y p (ℕ-discrete (p .index) k),
+    ))
         (stored-then (w .stored) h);
   }
     where

@@ -44,7 +44,8 @@ fn cut_and_write(
     requires { ⌜ workNeeded (now table) ≤ length (now work) ⌝ }
     requires { ⌜ length (now lengths) < 4294967296 ⌝ }
     ensures { λ r. ⌜
-        Tabled (matchesOf (now («left_a» .entry)) (now («left_b» .entry)) (now (lengths .entry)) (now (reversed .entry)))
+        Tabled
+        (matchesOf (now («left_a» .entry)) (now («left_b» .entry)) (now (lengths .entry)) (now (reversed .entry)))
         (now (table .entry)) (now (table .exit)) r ⌝ }
 {
     match close(left_a, left_b, lengths, reversed, work, table.len() / 5) {
@@ -77,7 +78,8 @@ fn refine_matches(
     requires { ⌜ Fit (now «left_a») (now «left_b») (now lengths) (now reversed) ⌝ }
     requires { ⌜ length (now lengths) < 4294967296 ⌝ }
     ensures { λ r. ⌜
-        Refines (matchesOf (now («left_a» .entry)) (now («left_b» .entry)) (now (lengths .entry)) (now (reversed .entry)))
+        Refines
+        (matchesOf (now («left_a» .entry)) (now («left_b» .entry)) (now (lengths .entry)) (now (reversed .entry)))
         (now (table .entry)) (now (work .entry)) r (now (table .exit)) (now (work .exit)) ⌝ }
 {
     if work.len() < 4 * (table.len() / 5) {
@@ -96,7 +98,8 @@ pub fn refine(script: &[u8], table: &mut [u32], work: &mut [u32]) -> Refined
     ensures work { λ _. ⌜
         now (work .exit) ≡ refiningOf (now (script .entry)) (now (table .entry)) (now (work .entry)) .work ⌝ }
     ensures demand1 { λ r. ⌜
-        Demand1 (now (script .entry)) (now (table .entry)) (now (work .entry)) (answerOf r) (now (table .exit)) (now (work .exit)) ⌝ }
+        Demand1 (now (script .entry)) (now (table .entry)) (now (work .entry)) (answerOf r) (now (table .exit))
+        (now (work .exit)) ⌝ }
     ensures demand2 { λ r. ⌜
         Demand2 (now (script .entry)) (now (table .entry)) (now (work .entry)) (answerOf r) (now (table .exit)) ⌝ }
     ensures demand3 { λ r. ⌜

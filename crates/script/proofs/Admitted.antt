@@ -32,7 +32,8 @@ ended (Outcome.is-admitted {at} r b e) = record { at = at; reach = r; end = e }
 admitted-ended : {s : List ℕ} {p q : ℕ} {ms : List Match} → readScript s ≡ admitted p q ms → Ended s p q ms
 admitted-ended {s} e = ended (subst (Outcome s) e (outcome-stated s))
 
-pub admitted-short : (s : List ℕ) {p q : ℕ} {ms : List Match} → readScript s ≡ admitted p q ms → length s ≤ longestScript
+pub admitted-short : (s : List ℕ) {p q : ℕ} {ms : List Match} → readScript s ≡ admitted p q ms
+    → length s ≤ longestScript
 admitted-short s e = let x = admitted-ended e in omega (arith, reach-place (x .reach), x .end)
 
 pub record Holds (s : List ℕ) (r : Script) (p q count : ℕ) : Type 0 where
@@ -48,10 +49,13 @@ pub record Holds (s : List ℕ) (r : Script) (p q count : ℕ) : Type 0 where
   pub letters : take count (r .length) ≡ map (λ m. m .length) matches
   pub reversed : take count (r .reversed) ≡ map (λ m. m .reversed) matches
 
-share : {X : Type 0} (blank : X) (field : Match → X) (ms : List Match) → take (length ms) (column blank field ms) ≡ map field ms
-share blank field ms = take-at (map field ms) (replicate (mostMatches - length ms) blank) (length ms) (length-map ms field)
+share : {X : Type 0} (blank : X) (field : Match → X) (ms : List Match)
+    → take (length ms) (column blank field ms) ≡ map field ms
+share blank field ms = take-at (map field ms) (replicate (mostMatches - length ms) blank) (length ms)
+    (length-map ms field)
 
-holds : {s : List ℕ} {p q : ℕ} (ms : List Match) → readScript s ≡ admitted p q ms → Holds s (scriptOf (admitted p q ms)) p q (length ms)
+holds : {s : List ℕ} {p q : ℕ} (ms : List Match) → readScript s ≡ admitted p q ms
+    → Holds s (scriptOf (admitted p q ms)) p q (length ms)
 holds ms e =
     let reach = admitted-ended e .reach in
     record {
@@ -87,7 +91,8 @@ holds-admitted s {r} {p} {q} {count} e v = go (readScript s) refl
         let ec : count ≡ length ms = cc in
         rw (e ∙ ap scriptOf x, ep, eq, ec) (holds ms x)
 
-pub reading-refused : (s : List ℕ) {r : Script} {f : Refusal} → r ≡ scriptOf (readScript s) → r .verdict ≡ Verdict.Refused f
+pub reading-refused : (s : List ℕ) {r : Script} {f : Refusal} → r ≡ scriptOf (readScript s)
+    → r .verdict ≡ Verdict.Refused f
     → readScript s ≡ refused f
 reading-refused s {r} {f} e v = go (readScript s) refl
   where

@@ -27,7 +27,8 @@ found-above (m ∷ ms) zero h = absurd (omega arith)
 found-above (m ∷ ms) (suc zero) h = absurd (omega arith)
 found-above (m ∷ ms) (suc (suc number)) h = found-above ms (suc number) (omega arith)
 
-found-at : (ms : List Match) (index : ℕ) (blank : Match) → index < length ms → foundIn ms (suc index) ≡ Finding.Found (getD ms index blank)
+found-at : (ms : List Match) (index : ℕ) (blank : Match) → index < length ms
+    → foundIn ms (suc index) ≡ Finding.Found (getD ms index blank)
 found-at [] index blank h = absurd (omega arith)
 found-at (m ∷ ms) zero blank h = refl
 found-at (m ∷ ms) (suc index) blank h = found-at ms index blank (omega arith)
@@ -62,5 +63,6 @@ module _ {s : List ℕ} {r : Script} {p q count : ℕ} (held : Holds s r p q cou
         field-at (λ m. m .«left_a») (r .«left_a») (held .left-a) index below,
         field-at (λ m. m .«left_b») (r .«left_b») (held .left-b) index below,
         field-at (λ m. m .length) (r .length) (held .letters) index below,
-        field-at (λ m. m .reversed) (r .reversed) (held .reversed) index below)
+        field-at (λ m. m .reversed) (r .reversed) (held .reversed) index below,
+      )
       (ap (foundIn (held .matches)) one-more ∙ found-at (held .matches) index blank (omega (arith, held .counted)))

@@ -16,7 +16,8 @@ use borrow.Author.Tests.{eq-eqb, ne-eqb, lt-ltb, le-ltb, le-leb, lt-leb}
 use Rattle.script.specs.Limits.{longest, mostMatches}
 use Rattle.script.specs.Steps.{inRange, lengthsStep, matchStep, cutShortStep}
 use Rattle.script.specs.Outcomes.{InRange, Within}
-use Rattle.script.specs.declared.refusal.Refusal.the-variants.{CutShort, LengthOutOfRange, TooManyMatches, EmptyMatch, BeyondA, BeyondB}
+use Rattle.script.specs.declared.refusal.Refusal.the-variants.{CutShort, LengthOutOfRange, TooManyMatches}
+use Rattle.script.specs.declared.refusal.Refusal.the-variants.{EmptyMatch, BeyondA, BeyondB}
 use Rattle.script.specs.declared.command.Match.{Match}
 use Rattle.script.specs.declared.step.Opening.{Opening}
 use Rattle.script.specs.declared.step.Step.{Step}
@@ -24,7 +25,8 @@ use Rattle.script.specs.declared.step.Step.{Step}
 pub data Judged (p q count at : ℕ) (m : Match) : Step → Type 0 where
   too-many : mostMatches ≤ count → Judged p q count at m (Step.Refuse (TooManyMatches at))
   empty : count < mostMatches → m .length ≡ 0 → Judged p q count at m (Step.Refuse (EmptyMatch at))
-  beyond-a : count < mostMatches → 1 ≤ m .length → p < m .«left_a» + m .length → Judged p q count at m (Step.Refuse (BeyondA at))
+  beyond-a : count < mostMatches → 1 ≤ m .length → p < m .«left_a» + m .length
+      → Judged p q count at m (Step.Refuse (BeyondA at))
   beyond-b : count < mostMatches → 1 ≤ m .length → m .«left_a» + m .length ≤ p → q < m .«left_b» + m .length
       → Judged p q count at m (Step.Refuse (BeyondB at))
   good : count < mostMatches → Within p q m → Judged p q count at m (Step.Take m)
@@ -39,9 +41,11 @@ module _ (p q count at : ℕ) (m : Match) where
               | yes e ↦ rw (eq-eqb (m .length) 0 e) (empty room e)
               | no n0 ↦ let some : 1 ≤ m .length = omega arith in
                   rw (ne-eqb (m .length) 0 n0) (elim (decLe (m .«left_a» + m .length) p) [
-                    | no na ↦ rw (lt-ltb p (m .«left_a» + m .length) (lt-of-not-le na)) (beyond-a room some (lt-of-not-le na))
+                    | no na ↦ rw (lt-ltb p (m .«left_a» + m .length) (lt-of-not-le na))
+                        (beyond-a room some (lt-of-not-le na))
                     | yes a ↦ rw (le-ltb p (m .«left_a» + m .length) a) (elim (decLe (m .«left_b» + m .length) q) [
-                      | no nb ↦ rw (lt-ltb q (m .«left_b» + m .length) (lt-of-not-le nb)) (beyond-b room some a (lt-of-not-le nb))
+                      | no nb ↦ rw (lt-ltb q (m .«left_b» + m .length) (lt-of-not-le nb))
+                          (beyond-b room some a (lt-of-not-le nb))
                       | yes b ↦ rw (le-ltb q (m .«left_b» + m .length) b)
                           (good room (record { some = some; in-a = a; in-b = b }))
                     ])

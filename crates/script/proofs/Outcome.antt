@@ -1,4 +1,5 @@
--- 01's table of refusals, as the relation `Outcome` states it, and the computed reading agree in both directions, so that
+-- 01's table of refusals, as the relation `Outcome` states it, and the computed reading agree in both directions, so
+-- that
 -- exactly one row applies to each string of bytes.
 --     reach-place         the offset behind n matches is 9 + 13 n, and there are at most 2,048 of them
 --     reach-inside        and lies within the script
@@ -13,7 +14,8 @@ use Prim.Native.Nat.{ℕ, zero, suc, _+_, _*_, _-_, _≤_, _<_}
 use mathlib.Core.Path.{_≡_, refl, sym, ap, subst, _∙_}
 use mathlib.Core.Logic.{_≢_, _⊎_, ⊎-elim, inl, inr}
 use mathlib.Core.Bool.{Bool}
-use mathlib.Core.List.{List, [], _∷_, _++_, List·Memᴰ, List·Memᴰ·not-nil, List·Memᴰ·append-cases, List·Memᴰ·eq-of-singleton}
+use mathlib.Core.List.{List, [], _∷_, _++_, List·Memᴰ, List·Memᴰ·not-nil, List·Memᴰ·append-cases}
+use mathlib.Core.List.{List·Memᴰ·eq-of-singleton}
 use native.Mathlib.Omega.{arith}
 use native.Mathlib.Decide.{decLe}
 use native.Mathlib.Nat.{lt-of-not-le}
@@ -24,7 +26,8 @@ use Rattle.script.specs.Limits.{mostMatches}
 use Rattle.script.specs.Commands.{numberAt}
 use Rattle.script.specs.Steps.{openingOf, stepOf, cutShortStep}
 use Rattle.script.specs.Reading.{Reading, refused, afterStep, afterOpening, readFrom, readScript}
-use Rattle.script.specs.Outcomes.{Byte, MatchByte, MatchAt, LengthsAt, InRange, Within, Reach, opened, taken, Short, Outcome}
+use Rattle.script.specs.Outcomes.{Byte, MatchByte, MatchAt, LengthsAt, InRange, Within, Reach, opened, taken}
+use Rattle.script.specs.Outcomes.{Short, Outcome}
 use Rattle.script.specs.declared.refusal.Refusal.the-variants.{Headless, CutShort, TooManyMatches}
 use Rattle.script.specs.declared.command.Match.{Match}
 use Rattle.script.specs.declared.command.Command.{Command}
@@ -38,7 +41,8 @@ length-snoc : (ms : List Match) (m : Match) → length (ms ++ m ∷ []) ≡ leng
 length-snoc ms m = length-append ms (m ∷ [])
 
 module _ {s : List ℕ} {p q : ℕ} where
-  pub reach-place : {at : ℕ} {ms : List Match} → Reach s p q at ms → (at ≡ 9 + 13 * length ms) × (length ms ≤ mostMatches)
+  pub reach-place : {at : ℕ} {ms : List Match} → Reach s p q at ms
+      → (at ≡ 9 + 13 * length ms) × (length ms ≤ mostMatches)
   reach-place (opened _ _ _) = (refl, omega arith)
   reach-place (taken {ms} {m} r room _ _) = omega (arith, reach-place r, length-snoc ms m)
 
@@ -53,13 +57,15 @@ module _ {s : List ℕ} {p q : ℕ} where
   pub reach-within : {at : ℕ} {ms : List Match} → Reach s p q at ms → {m : Match} → List·Memᴰ m ms → Within p q m
   reach-within (opened _ _ _) x = absurd (List·Memᴰ·not-nil x)
   reach-within (taken {ms} r _ _ w) x =
-      ⊎-elim (λ y. reach-within r y) (λ y. subst (Within p q) (sym (List·Memᴰ·eq-of-singleton y)) w) (List·Memᴰ·append-cases ms x)
+      ⊎-elim (λ y. reach-within r y) (λ y. subst (Within p q) (sym (List·Memᴰ·eq-of-singleton y)) w)
+      (List·Memᴰ·append-cases ms x)
 
 -- ---- one step of the reading
 
 step-at : (s : List ℕ) (p q at bytes : ℕ) (ms : List Match) {c : Command} {t : Step} → 0 < bytes → Seen s at c
     → stepOf p q (length ms) at c ≡ t
-    → readFrom bytes p q at ms (drop at s) ≡ afterStep p q ms t (λ m. readFrom (bytes - 1) p q (at + 13) (ms ++ m ∷ []) (drop (at + 13) s))
+    → readFrom bytes p q at ms (drop at s) ≡ afterStep p q ms t
+    (λ m. readFrom (bytes - 1) p q (at + 13) (ms ++ m ∷ []) (drop (at + 13) s))
 unfolding readFrom
 step-at s p q at zero ms h k e = absurd (omega arith)
 step-at s p q at (suc bytes) ms h k e =
@@ -80,7 +86,8 @@ module _ {s : List ℕ} {p q : ℕ} where
   pub reach-read : {at : ℕ} {ms : List Match} → Reach s p q at ms
       → readScript s ≡ readFrom (length s - length ms) p q at ms (drop at s)
   reach-read (opened l a b) =
-      opening-at s (lengths-seen l) (opens-step (Opens.open-them a b)) ∙ ap (λ (n : ℕ). readFrom n p q 9 [] (drop 9 s)) (omega arith)
+      opening-at s (lengths-seen l) (opens-step (Opens.open-them a b))
+      ∙ ap (λ (n : ℕ). readFrom n p q 9 [] (drop 9 s)) (omega arith)
   reach-read (taken {at} {ms} {m} r room d w) =
       reach-read r
       ∙ step-at s p q at (length s - length ms) ms (omega (arith, reach-place r, reach-inside r)) (Seen.pairing d)
@@ -90,7 +97,8 @@ module _ {s : List ℕ} {p q : ℕ} where
   -- reading ends at a command that does not go on
   pub reach-ends : {at : ℕ} {ms : List Match} {c : Command} {t : Step} → Reach s p q at ms → Seen s at c
       → stepOf p q (length ms) at c ≡ t
-      → readScript s ≡ afterStep p q ms t (λ m. readFrom (length s - length ms - 1) p q (at + 13) (ms ++ m ∷ []) (drop (at + 13) s))
+      → readScript s ≡ afterStep p q ms t
+      (λ m. readFrom (length s - length ms - 1) p q (at + 13) (ms ++ m ∷ []) (drop (at + 13) s))
   reach-ends {at} {ms} r k e =
       reach-read r ∙ step-at s p q at (length s - length ms) ms (omega (arith, reach-place r, reach-inside r)) k e
 
@@ -111,7 +119,8 @@ short-alone (Short.ran-out r e) = reach-ends r (Seen.missing (omega arith)) refl
 
 full-alone : {s : List ℕ} {p q at : ℕ} {ms : List Match} {m : Match} → Reach s p q at ms → mostMatches ≤ length ms
     → MatchAt s at m → readScript s ≡ refused (TooManyMatches at)
-full-alone {p} {q} {at} {m} r full d = reach-ends r (Seen.pairing d) (judged-step {p = p} {q = q} {m = m} (Judged.too-many full))
+full-alone {p} {q} {at} {m} r full d = reach-ends r (Seen.pairing d)
+    (judged-step {p = p} {q = q} {m = m} (Judged.too-many full))
 
 pub outcome-alone : {s : List ℕ} {r : Reading} → Outcome s r → readScript s ≡ r
 outcome-alone {s} (Outcome.headless h) = opening-at s (seen s 0) (not-lengths (none h) (seen s 0))
@@ -145,7 +154,8 @@ outcome-alone (Outcome.is-admitted r b h) = reach-ends r (Seen.end b h) refl
 -- ---- the computed reading is an outcome that applies
 
 short-stated : {s : List ℕ} {p q at : ℕ} {ms : List Match} {way : Bool} → Reach s p q at ms → MatchByte s at way
-    → length s < at + 13 → (onward : Match → Reading) → Outcome s (afterStep p q ms (cutShortStep (length ms) at) onward)
+    → length s < at + 13 → (onward : Match → Reading)
+    → Outcome s (afterStep p q ms (cutShortStep (length ms) at) onward)
 short-stated {ms} r b h onward =
     elim (decLe mostMatches (length ms)) [
       | yes f ↦ rw (short-full f) (Outcome.too-many-matches r (omega (arith, reach-place r)) b)
@@ -155,7 +165,8 @@ short-stated {ms} r b h onward =
 
 match-stated : {s : List ℕ} {p q at : ℕ} {ms : List Match} {m : Match} {t : Step} → Reach s p q at ms → MatchAt s at m
     → Judged p q (length ms) at m t → (onward : Match → Reading)
-    → ((n : Match) → Reach s p q (at + 13) (ms ++ n ∷ []) → Outcome s (onward n)) → Outcome s (afterStep p q ms t onward)
+    → ((n : Match) → Reach s p q (at + 13) (ms ++ n ∷ []) → Outcome s (onward n))
+    → Outcome s (afterStep p q ms t onward)
 match-stated r d (Judged.too-many f) onward next = Outcome.too-many-matches r (omega (arith, reach-place r)) (d .code)
 match-stated r d (Judged.empty room e) onward next = Outcome.empty-match r room d e
 match-stated r d (Judged.beyond-a room k a) onward next = Outcome.beyond-a r room d k a
@@ -169,7 +180,8 @@ step-stated r (Seen.missing h) onward next = Outcome.cut-short (Short.ran-out r 
 step-stated r (Seen.unknown h n1 n2 n3 n4) onward next = Outcome.unknown-command r h n1 n2 n3 n4
 step-stated r (Seen.lengths b _) onward next = Outcome.second-lengths r b
 step-stated r (Seen.lengths-short b _) onward next = Outcome.second-lengths r b
-step-stated {p} {q} {at} {ms} r (Seen.pairing {m} d) onward next = match-stated r d (judged p q (length ms) at m) onward next
+step-stated {p} {q} {at} {ms} r (Seen.pairing {m} d) onward next = match-stated r d
+    (judged p q (length ms) at m) onward next
 step-stated r (Seen.pairing-short b h) onward next = short-stated r b h onward
 step-stated r (Seen.end b h) onward next = Outcome.is-admitted r b h
 step-stated r (Seen.end-then-more b h) onward next = Outcome.tail r b h

@@ -1,4 +1,5 @@
--- The first 26,635 bytes decide the outcome of every longer script: what the table of refusals asks of a script, it asks
+-- The first 26,635 bytes decide the outcome of every longer script: what the table of refusals asks of a script, it
+-- asks
 -- of these bytes alone.
 --     reach-take       good commands within the first n bytes are good commands of those n bytes
 --     prefix-decides   one byte more than the longest admitted script has decides
@@ -86,7 +87,8 @@ module _ {s : List ℕ} (n : ℕ) (long : n < length s) (enough : longestScript 
       Outcome.unknown-command (kept r) (omega (arith, length-take n s, before-end r))
       (λ e. n1 (same ∙ e)) (λ e. n2 (same ∙ e)) (λ e. n3 (same ∙ e)) (λ e. n4 (same ∙ e))
   outcome-take (Outcome.cut-short h) = Outcome.cut-short (short-take h)
-  outcome-take (Outcome.second-lengths r b) = Outcome.second-lengths (kept r) (byte-take n (omega (arith, before-end r)) b)
+  outcome-take (Outcome.second-lengths r b) = Outcome.second-lengths (kept r)
+      (byte-take n (omega (arith, before-end r)) b)
   outcome-take (Outcome.length-out-of-range l x) = Outcome.length-out-of-range (lengths-take n (omega arith) l) x
   outcome-take (Outcome.too-many-matches r e b) =
       Outcome.too-many-matches (kept r) e (match-byte-take n (omega (arith, before-end r)) b)

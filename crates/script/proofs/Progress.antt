@@ -107,7 +107,8 @@ abbrev Begins : (ℕ → ℕ → Type 0) → Opening → Type 0
 Begins P (Opening.Refuse r) = Unit
 Begins P (Opening.Open p q) = P p q
 
-lengths-begin : {s : List ℕ} {p q : ℕ} {o : Opening} → LengthsAt s p q → Opens p q o → Begins (λ p q. Reach s p q 9 []) o
+lengths-begin : {s : List ℕ} {p q : ℕ} {o : Opening} → LengthsAt s p q → Opens p q o
+    → Begins (λ p q. Reach s p q 9 []) o
 lengths-begin l (Opens.open-them a b) = opened l a b
 lengths-begin l (Opens.out-of-range _) = tt
 
@@ -130,7 +131,8 @@ opening-refused s e = opening-at s (seen s 0) e
 
 -- ---- both together, between two commands
 
-pub record Progress (s : List ℕ) (p q : ℕ) (left-a left-b letters : List ℕ) (reversed : List Bool) (count at : ℕ) : Type 0 where
+pub record Progress (s : List ℕ) (p q : ℕ) (left-a left-b letters : List ℕ) (reversed : List Bool)
+    (count at : ℕ) : Type 0 where
   pub matches : List Match
   pub reach : Reach s p q at matches
   pub columns : Columns matches count left-a left-b letters reversed
@@ -138,7 +140,8 @@ pub record Progress (s : List ℕ) (p q : ℕ) (left-a left-b letters : List ℕ
 module _ {s : List ℕ} {p q : ℕ} {left-a left-b letters : List ℕ} {reversed : List Bool} {count at : ℕ}
     (h : Progress s p q left-a left-b letters reversed count at) where
   -- the loop's two calls compute the step at the offset
-  pub comes : {c : Command} {t t′ : Step} → c ≡ commandOf (take (length s - at) (drop at s)) → t ≡ stepOf p q count at c → t ≡ t′
+  pub comes : {c : Command} {t t′ : Step} → c ≡ commandOf (take (length s - at) (drop at s))
+      → t ≡ stepOf p q count at c → t ≡ t′
       → stepOf p q (length (h .matches)) at (commandOf (drop at s)) ≡ t′
   comes ec et e = rw (h .columns .counted, ← rest-drop s at, ← ec) (sym et ∙ e)
 
@@ -173,5 +176,6 @@ module _ {s : List ℕ} {p q : ℕ} {left-a left-b letters : List ℕ} {reversed
       record {
         matches = h .matches ++ m ∷ [];
         reach = next-reach (h .reach) e;
-        columns = columns-taken (h .columns) m (omega (arith, reach-place (next-reach (h .reach) e) .1, length-append (h .matches) (m ∷ [])));
+        columns = columns-taken (h .columns) m
+            (omega (arith, reach-place (next-reach (h .reach) e) .1, length-append (h .matches) (m ∷ [])));
       }

@@ -20,7 +20,8 @@ use Rattle.script.specs.Commands.{numberAt, commandOf, lengthsOf, matchO
 use Rattle.script.specs.Outcomes.{Byte, MatchByte, MatchAt}
 use Rattle.script.specs.declared.command.Match.{Match}
 use Rattle.script.specs.declared.command.Command.{Command}
-use Rattle.script.specs.declared.command.Command.the-variants.{Missing, Unknown, Lengths, LengthsCutShort, Pairing, MatchCutShort, End, EndThenMore}
+use Rattle.script.specs.declared.command.Command.the-variants.{Missing, Unknown, Lengths, LengthsCutShort}
+use Rattle.script.specs.declared.command.Command.the-variants.{Pairing, MatchCutShort, End, EndThenMore}
 
 pub number-drop : (n k : ℕ) (s : List ℕ) → numberAt (drop n s) k ≡ numberAt s (n + k)
 number-drop n k s = simp (getD-drop, add-assoc)
@@ -57,7 +58,8 @@ module _ (s : List ℕ) (at : ℕ) where
   seen-lengths : Byte s at 0x4C → Seen s at (lengthsOf (drop at s))
   seen-lengths b =
       elim (decLe (at + 9) (length s)) [
-        | yes w ↦ rw (le-ltb (length (drop at s)) 9 (omega (arith, left)), number-drop at 1 s, number-drop at 5 s) (lengths b w)
+        | yes w ↦ rw (le-ltb (length (drop at s)) 9 (omega (arith, left)), number-drop at 1 s, number-drop at 5 s)
+            (lengths b w)
         | no w ↦ let short = lt-of-not-le w in
             rw (lt-ltb (length (drop at s)) 9 (omega (arith, left, short))) (lengths-short b short)
       ]

@@ -8,7 +8,8 @@ use mathlib.Core.List.{List}
 use lib.ListN.{length, getD}
 use lib.Dec.{ltb, eqb}
 use Rattle.script.specs.declared.command.Command.{Command}
-use Rattle.script.specs.declared.command.Command.the-variants.{Missing, Unknown, Lengths, LengthsCutShort, Pairing, MatchCutShort, End, EndThenMore}
+use Rattle.script.specs.declared.command.Command.the-variants.{Missing, Unknown, Lengths, LengthsCutShort}
+use Rattle.script.specs.declared.command.Command.the-variants.{Pairing, MatchCutShort, End, EndThenMore}
 
 -- "unsigned, four bytes, least byte first"
 abbrev pub numberAt : List ℕ → ℕ → ℕ
@@ -35,4 +36,5 @@ commandOf s =
     let code = getD s 0 0 in
     cond (eqb (length s) 0) Missing
     (cond (eqb code 0x4C) (lengthsOf s)
-    (cond (eqb code 0x44) (matchOf false s) (cond (eqb code 0x52) (matchOf true s) (cond (eqb code 0x45) (endOf s) Unknown))))
+    (cond (eqb code 0x44) (matchOf false s)
+    (cond (eqb code 0x52) (matchOf true s) (cond (eqb code 0x45) (endOf s) Unknown))))

@@ -1,5 +1,5 @@
 -- One match of a script, by its number. TO READ: contracts mean what stands here.
---     findingOf r number     the match, or the refusal: the script's own, or "no such match: number 0 or above the count"
+--     findingOf r number     the match, or the refusal: the script's own, or "no such match"
 -- 01, "Matches are numbered from 1 in script order." Assumes nothing.
 use Prim.Native.Nat.{ℕ, zero, suc}
 use mathlib.Core.Bool.{false}
@@ -28,4 +28,5 @@ matchIn r index =
       «left_a» = getD (r .«left_a») index 0;
       «left_b» = getD (r .«left_b») index 0;
       length = getD (r .length) index 0;
-      reversed = getD (r .reversed) index false }
+      reversed = getD (r .reversed) index false;
+    }

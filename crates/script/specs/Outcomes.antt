@@ -13,7 +13,9 @@ use lib.ListN.{length, getD}
 use Rattle.script.specs.Limits.{longest, mostMatches}
 use Rattle.script.specs.Commands.{numberAt}
 use Rattle.script.specs.Reading.{Reading, admitted, refused}
-use Rattle.script.specs.declared.refusal.Refusal.the-variants.{Headless, UnknownCommand, CutShort, SecondLengths, LengthOutOfRange, TooManyMatches, EmptyMatch, BeyondA, BeyondB, Tail}
+use Rattle.script.specs.declared.refusal.Refusal.the-variants.{Headless, UnknownCommand, CutShort, SecondLengths}
+use Rattle.script.specs.declared.refusal.Refusal.the-variants.{LengthOutOfRange, TooManyMatches, EmptyMatch}
+use Rattle.script.specs.declared.refusal.Refusal.the-variants.{BeyondA, BeyondB, Tail}
 use Rattle.script.specs.declared.command.Match.{Match}
 
 -- ---- what stands at an offset
@@ -59,7 +61,8 @@ pub record Within (p q : ℕ) (m : Match) : Type 0 where
 -- good commands alone stand before the offset
 pub data Reach (s : List ℕ) (p q : ℕ) : ℕ → List Match → Type 0 where
   opened : LengthsAt s p q → InRange p → InRange q → Reach s p q 9 []
-  taken : {at : ℕ} {ms : List Match} {m : Match} → Reach s p q at ms → length ms < mostMatches → MatchAt s at m → Within p q m
+  taken : {at : ℕ} {ms : List Match} {m : Match} → Reach s p q at ms → length ms < mostMatches → MatchAt s at m
+      → Within p q m
       → Reach s p q (at + 13) (ms ++ m ∷ [])
 
 -- ---- the table
@@ -67,7 +70,8 @@ pub data Reach (s : List ℕ) (p q : ℕ) : ℕ → List Match → Type 0 where
 -- "operands incomplete, or bytes run out before 45"; the place is the command's offset, or the script's length
 pub data Short (s : List ℕ) : ℕ → Type 0 where
   lengths : Byte s 0 0x4C → length s < 9 → Short s 0
-  pairing : {p q at : ℕ} {ms : List Match} {way : Bool} → Reach s p q at ms → length ms < mostMatches → MatchByte s at way
+  pairing : {p q at : ℕ} {ms : List Match} {way : Bool} → Reach s p q at ms → length ms < mostMatches
+      → MatchByte s at way
       → length s < at + 13 → Short s at
   ran-out : {p q at : ℕ} {ms : List Match} → Reach s p q at ms → at ≡ length s → Short s at
 
@@ -80,14 +84,16 @@ pub data Outcome (s : List ℕ) : Reading → Type 0 where
   -- 3: operands incomplete, or bytes run out before 45
   cut-short : {at : ℕ} → Short s at → Outcome s (refused (CutShort at))
   -- 4: 4C again
-  second-lengths : {p q at : ℕ} {ms : List Match} → Reach s p q at ms → Byte s at 0x4C → Outcome s (refused (SecondLengths at))
+  second-lengths : {p q at : ℕ} {ms : List Match} → Reach s p q at ms → Byte s at 0x4C
+      → Outcome s (refused (SecondLengths at))
   -- 5: p or q is 0 or too large
   length-out-of-range : {p q : ℕ} → LengthsAt s p q → (InRange p → InRange q → ⊥) → Outcome s (refused LengthOutOfRange)
   -- 6: the command of match 2,049
   too-many-matches : {p q at : ℕ} {ms : List Match} {way : Bool} → Reach s p q at ms → length ms ≡ mostMatches
       → MatchByte s at way → Outcome s (refused (TooManyMatches at))
   -- 7: length 0
-  empty-match : {p q at : ℕ} {ms : List Match} {m : Match} → Reach s p q at ms → length ms < mostMatches → MatchAt s at m
+  empty-match : {p q at : ℕ} {ms : List Match} {m : Match} → Reach s p q at ms → length ms < mostMatches
+      → MatchAt s at m
       → m .length ≡ 0 → Outcome s (refused (EmptyMatch at))
   -- 8: left-A + length above p
   beyond-a : {p q at : ℕ} {ms : List Match} {m : Match} → Reach s p q at ms → length ms < mostMatches → MatchAt s at m

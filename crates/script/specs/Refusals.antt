@@ -4,7 +4,10 @@
 -- 01, "Refused scripts and calls". Assumes nothing.
 use Prim.Native.Nat.{ℕ}
 use Rattle.script.specs.declared.refusal.Refusal.{Refusal}
-use Rattle.script.specs.declared.refusal.Refusal.the-variants.{Headless, UnknownCommand, CutShort, SecondLengths, LengthOutOfRange, TooManyMatches, EmptyMatch, BeyondA, BeyondB, Tail, WorkTooShort, TooManyPieces, NoSuchMatch, OffTheMatch}
+use Rattle.script.specs.declared.refusal.Refusal.the-variants.{Headless, UnknownCommand, CutShort, SecondLengths}
+use Rattle.script.specs.declared.refusal.Refusal.the-variants.{LengthOutOfRange, TooManyMatches, EmptyMatch}
+use Rattle.script.specs.declared.refusal.Refusal.the-variants.{BeyondA, BeyondB, Tail, WorkTooShort}
+use Rattle.script.specs.declared.refusal.Refusal.the-variants.{TooManyPieces, NoSuchMatch, OffTheMatch}
 
 -- the rows of the table, in its order
 abbrev pub numberOf : Refusal → ℕ
@@ -23,7 +26,8 @@ numberOf TooManyPieces = 12
 numberOf NoSuchMatch = 13
 numberOf OffTheMatch = 14
 
--- "The place is the command byte's offset for 1 to 9, the script's length for bytes that ran out where a command was due,
+-- "The place is the command byte's offset for 1 to 9, the script's length for bytes that ran out where a command was
+-- due,
 -- the first extra byte for 10, and 0 for 11 to 14." 1 and 5 are met at the first command only, whose offset is 0.
 abbrev pub placeOf : Refusal → ℕ
 placeOf Headless = 0

@@ -7,10 +7,13 @@ use Prim.Native.Nat.{ℕ, _+_}
 use mathlib.Core.Bool.{Bool, cond, _&&_}
 use lib.Dec.{ltb, leb, eqb}
 use Rattle.script.specs.Limits.{longest, mostMatches}
-use Rattle.script.specs.declared.refusal.Refusal.the-variants.{Headless, UnknownCommand, CutShort, SecondLengths, LengthOutOfRange, TooManyMatches, EmptyMatch, BeyondA, BeyondB, Tail}
+use Rattle.script.specs.declared.refusal.Refusal.the-variants.{Headless, UnknownCommand, CutShort, SecondLengths}
+use Rattle.script.specs.declared.refusal.Refusal.the-variants.{LengthOutOfRange, TooManyMatches, EmptyMatch}
+use Rattle.script.specs.declared.refusal.Refusal.the-variants.{BeyondA, BeyondB, Tail}
 use Rattle.script.specs.declared.command.Match.{Match}
 use Rattle.script.specs.declared.command.Command.{Command}
-use Rattle.script.specs.declared.command.Command.the-variants.{Missing, Unknown, Lengths, LengthsCutShort, Pairing, MatchCutShort, End, EndThenMore}
+use Rattle.script.specs.declared.command.Command.the-variants.{Missing, Unknown, Lengths, LengthsCutShort}
+use Rattle.script.specs.declared.command.Command.the-variants.{Pairing, MatchCutShort, End, EndThenMore}
 use Rattle.script.specs.declared.step.Opening.{Opening}
 use Rattle.script.specs.declared.step.Opening.the-variants.{Open}
 use Rattle.script.specs.declared.step.Opening.the-variants

@@ -1,9 +1,9 @@
 // One match of a script, by its number.
+use crate::Script;
+use crate::Verdict;
 use crate::command::Match;
 use crate::read;
 use crate::refusal::Refusal;
-use crate::Script;
-use crate::Verdict;
 ghost use mathlib.Core.Path.{_≡_};
 ghost use Prim.Native.Nat.{_<_};
 ghost use Rattle.script.specs.Limits.{mostMatches};

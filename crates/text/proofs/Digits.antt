@@ -59,6 +59,7 @@ unfolding placesWithin
 places-few zero n = omega arith
 places-few (suc most) n = go (ltb n 10) (places-few most (n / 10))
   where
-    go : (b : Bool) → placesWithin most (n / 10) ≤ suc most → cond b 1 (suc (placesWithin most (n / 10))) ≤ suc (suc most)
+    go : (b : Bool) → placesWithin most (n / 10) ≤ suc most
+        → cond b 1 (suc (placesWithin most (n / 10))) ≤ suc (suc most)
     go true h = omega arith
     go false h = omega arith

@@ -13,7 +13,8 @@ use lib.Seq.{sets, take-suc, take-all, length-take-le}
 
 pub sets-append : (l : List ℕ) (i : ℕ) (us vs : List ℕ) → sets l i (us ++ vs) ≡ sets (sets l i us) (i + length us) vs
 sets-append l i [] vs = ap (λ (k : ℕ). sets l k vs) (omega arith)
-sets-append l i (u ∷ us) vs = sets-append (set l i u) (suc i) us vs ∙ ap (λ (k : ℕ). sets (sets (set l i u) (suc i) us) k vs) (omega arith)
+sets-append l i (u ∷ us) vs = sets-append (set l i u) (suc i) us vs
+    ∙ ap (λ (k : ℕ). sets (sets (set l i u) (suc i) us) k vs) (omega arith)
 
 pub sets-next : (l : List ℕ) (i : ℕ) (vs : List ℕ) (k : ℕ) → k < length vs
     → sets l i (take (k + 1) vs) ≡ set (sets l i (take k vs)) (i + k) (getD vs k 0)

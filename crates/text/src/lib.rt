@@ -1,4 +1,5 @@
-// Text in a lent byte buffer, piece by piece. What does not fit is passed over and only counted, so that the place after
+// Text in a lent byte buffer, piece by piece. What does not fit is passed over and only counted, so that the place
+// after
 // the last piece is the length that the whole text needs.
 ghost use mathlib.Core.Path.{_≡_};
 ghost use Prim.Native.Nat.{_+_, _<_};

@@ -40,7 +40,13 @@ distinctOf (Refined.Refused r) table = 0
 abbrev pub comes : Line → Outcome
 comes l =
     let x = refiningOf (l .script) (replicate (l .table) 9) (replicate (l .work) 9) in
-    record { answer = answerOf (x .reply); distinct = distinctOf (x .reply) (x .table); table = x .table; work = x .work }
+    record {
+      answer = answerOf (x .reply);
+      distinct = distinctOf (x .reply)
+          (x .table);
+      table = x .table;
+      work = x .work;
+    }
 
 abbrev pub flat : List (List ℕ) → List ℕ
 flat [] = []
@@ -49,13 +55,20 @@ flat (r ∷ rs) = r ++ flat rs
 -- only success and 12 alter the work buffer, and only success the table
 abbrev pub leavesOf : Expected → ℕ → ℕ → Outcome
 leavesOf (refused number place) t w =
-    record { answer = refusal number place; distinct = 0; table = replicate t 9; work = replicate w (cond (eqb number 12) 0 9) }
+    record {
+      answer = refusal number place;
+      distinct = 0;
+      table = replicate t 9;
+      work = replicate w
+          (cond (eqb number 12) 0 9);
+    }
 leavesOf (pieces rows distinct) t w =
     record {
       answer = value (length rows);
       distinct = distinct;
       table = flat rows ++ replicate (t - length (flat rows)) 9;
-      work = replicate w 0 }
+      work = replicate w 0;
+    }
 
 abbrev pub leaves : Line → Outcome
 leaves l = leavesOf (l .expected) (l .table) (l .work)
@@ -113,7 +126,8 @@ lines =
       script = lengths 10 10 ++ direct 0 0 10 ++ end;
       table = 7;
       work = 4;
-      expected = pieces ((1 ∷ 0 ∷ 0 ∷ 10 ∷ 0 ∷ []) ∷ []) 1 }
+      expected = pieces ((1 ∷ 0 ∷ 0 ∷ 10 ∷ 0 ∷ []) ∷ []) 1;
+    }
     -- direct 1 0 10: 8 at 9
     ∷ record { script = lengths 10 10 ++ direct 1 0 10 ++ end; table = 5; work = 4; expected = refused 8 9 }
     -- direct 1 0 4294967295: 8 at 9; the sum must not wrap
@@ -121,7 +135,8 @@ lines =
       script = lengths 10 10 ++ (0x44 ∷ small 1 ++ small 0 ++ largest) ++ end;
       table = 5;
       work = 4;
-      expected = refused 8 9 }
+      expected = refused 8 9;
+    }
     -- the run above
     ∷ record { script = run; table = 60; work = 50; expected = runPieces }
     -- that run with 40 numbers of table gives 8 rows; with 39, and 28 of work or more, refusal 12
@@ -134,48 +149,52 @@ lines =
       script = lengths 4 4 ++ direct 0 0 4 ++ direct 0 0 4 ++ end;
       table = 10;
       work = 8;
-      expected = pieces ((1 ∷ 0 ∷ 0 ∷ 4 ∷ 0 ∷ []) ∷ (2 ∷ 0 ∷ 0 ∷ 4 ∷ 0 ∷ []) ∷ []) 1 }
+      expected = pieces ((1 ∷ 0 ∷ 0 ∷ 4 ∷ 0 ∷ []) ∷ (2 ∷ 0 ∷ 0 ∷ 4 ∷ 0 ∷ []) ∷ []) 1;
+    }
     -- the same lengths, direct 0 0 4 and reversed 0 0 4: 2 pieces, 1 distinct
     ∷ record {
       script = lengths 4 4 ++ direct 0 0 4 ++ backward 0 0 4 ++ end;
       table = 10;
       work = 8;
-      expected = pieces ((1 ∷ 0 ∷ 0 ∷ 4 ∷ 0 ∷ []) ∷ (2 ∷ 0 ∷ 0 ∷ 4 ∷ 1 ∷ []) ∷ []) 1 }
+      expected = pieces ((1 ∷ 0 ∷ 0 ∷ 4 ∷ 0 ∷ []) ∷ (2 ∷ 0 ∷ 0 ∷ 4 ∷ 1 ∷ []) ∷ []) 1;
+    }
     -- lengths 5 5, direct 0 0 4, direct 0 1 4: 8 pieces of length 1; one round of carrying would miss some
     ∷ record {
       script = lengths 5 5 ++ direct 0 0 4 ++ direct 0 1 4 ++ end;
       table = 40;
       work = 32;
       expected =
-        pieces
-        ((1 ∷ 0 ∷ 0 ∷ 1 ∷ 0 ∷ [])
-        ∷ (1 ∷ 1 ∷ 1 ∷ 1 ∷ 0 ∷ [])
-        ∷ (1 ∷ 2 ∷ 2 ∷ 1 ∷ 0 ∷ [])
-        ∷ (1 ∷ 3 ∷ 3 ∷ 1 ∷ 0 ∷ [])
-        ∷ (2 ∷ 0 ∷ 1 ∷ 1 ∷ 0 ∷ [])
-        ∷ (2 ∷ 1 ∷ 2 ∷ 1 ∷ 0 ∷ [])
-        ∷ (2 ∷ 2 ∷ 3 ∷ 1 ∷ 0 ∷ [])
-        ∷ (2 ∷ 3 ∷ 4 ∷ 1 ∷ 0 ∷ [])
-        ∷ [])
-        8 }
+          pieces
+          ((1 ∷ 0 ∷ 0 ∷ 1 ∷ 0 ∷ [])
+          ∷ (1 ∷ 1 ∷ 1 ∷ 1 ∷ 0 ∷ [])
+          ∷ (1 ∷ 2 ∷ 2 ∷ 1 ∷ 0 ∷ [])
+          ∷ (1 ∷ 3 ∷ 3 ∷ 1 ∷ 0 ∷ [])
+          ∷ (2 ∷ 0 ∷ 1 ∷ 1 ∷ 0 ∷ [])
+          ∷ (2 ∷ 1 ∷ 2 ∷ 1 ∷ 0 ∷ [])
+          ∷ (2 ∷ 2 ∷ 3 ∷ 1 ∷ 0 ∷ [])
+          ∷ (2 ∷ 3 ∷ 4 ∷ 1 ∷ 0 ∷ [])
+          ∷ [])
+          8;
+    }
     -- (not M) a staircase that needs several rounds, direct and reversed
     ∷ record {
       script = lengths 12 12 ++ direct 0 0 2 ++ direct 1 2 2 ++ direct 2 1 4 ++ backward 3 5 3 ++ end;
       table = 55;
       work = 44;
       expected =
-        pieces
-        ((1 ∷ 0 ∷ 0 ∷ 1 ∷ 0 ∷ [])
-        ∷ (1 ∷ 1 ∷ 1 ∷ 1 ∷ 0 ∷ [])
-        ∷ (2 ∷ 1 ∷ 2 ∷ 1 ∷ 0 ∷ [])
-        ∷ (2 ∷ 2 ∷ 3 ∷ 1 ∷ 0 ∷ [])
-        ∷ (3 ∷ 2 ∷ 1 ∷ 1 ∷ 0 ∷ [])
-        ∷ (3 ∷ 3 ∷ 2 ∷ 1 ∷ 0 ∷ [])
-        ∷ (3 ∷ 4 ∷ 3 ∷ 1 ∷ 0 ∷ [])
-        ∷ (3 ∷ 5 ∷ 4 ∷ 1 ∷ 0 ∷ [])
-        ∷ (4 ∷ 3 ∷ 7 ∷ 1 ∷ 1 ∷ [])
-        ∷ (4 ∷ 4 ∷ 6 ∷ 1 ∷ 1 ∷ [])
-        ∷ (4 ∷ 5 ∷ 5 ∷ 1 ∷ 1 ∷ [])
-        ∷ [])
-        11 }
+          pieces
+          ((1 ∷ 0 ∷ 0 ∷ 1 ∷ 0 ∷ [])
+          ∷ (1 ∷ 1 ∷ 1 ∷ 1 ∷ 0 ∷ [])
+          ∷ (2 ∷ 1 ∷ 2 ∷ 1 ∷ 0 ∷ [])
+          ∷ (2 ∷ 2 ∷ 3 ∷ 1 ∷ 0 ∷ [])
+          ∷ (3 ∷ 2 ∷ 1 ∷ 1 ∷ 0 ∷ [])
+          ∷ (3 ∷ 3 ∷ 2 ∷ 1 ∷ 0 ∷ [])
+          ∷ (3 ∷ 4 ∷ 3 ∷ 1 ∷ 0 ∷ [])
+          ∷ (3 ∷ 5 ∷ 4 ∷ 1 ∷ 0 ∷ [])
+          ∷ (4 ∷ 3 ∷ 7 ∷ 1 ∷ 1 ∷ [])
+          ∷ (4 ∷ 4 ∷ 6 ∷ 1 ∷ 1 ∷ [])
+          ∷ (4 ∷ 5 ∷ 5 ∷ 1 ∷ 1 ∷ [])
+          ∷ [])
+          11;
+    }
     ∷ []

@@ -30,7 +30,8 @@ returns-2 c =
     rw (
       sym (told .before .before .carry .ensures .0) ∙ told .refusal .given .1,
       c .before .place-of .ensures,
-      c .number-of .ensures)
+      c .number-of .ensures,
+    )
 
 pub carry-from-spec : {M : Type 1} → statement M
 carry-from-spec =

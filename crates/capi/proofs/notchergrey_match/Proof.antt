@@ -33,7 +33,8 @@ returns-2 c =
     rw (
       sym (told .before .before .find-match .ensures) ∙ told .refusal .given .1,
       c .before .place-of .ensures,
-      c .number-of .ensures)
+      c .number-of .ensures,
+    )
 
 pub notchergrey-match-spec : {M : Type 1} → statement M
 notchergrey-match-spec =

@@ -32,7 +32,8 @@ returns-2 c =
     rw (
       reading-refused bytes (told .before .before .read .ensures) (told .verdict2 .given .1),
       c .before .place-of .ensures,
-      c .number-of .ensures)
+      c .number-of .ensures,
+    )
 
 pub notchergrey-read-spec : {M : Type 1} → statement M
 notchergrey-read-spec =

@@ -41,9 +41,13 @@ returns-2 : tie.Need-returns-2
 returns-2 c =
     let refused = c .before .before .before in
     let called = refused .before .before .before .before .before .before in
-    let told = sym (called .refine .ensures .0) ∙ refused .refusal .given .1 in
-    (rw (told, c .before .place-of .ensures, c .number-of .ensures), (called .refine .ensures .1 .0,
-      called .refine .ensures .1 .1 .0))
+    let told = sym (called .refine .ensures .0) ∙ refused .refusal .given .1 in (
+      rw (told, c .before .place-of .ensures, c .number-of .ensures),
+      (
+        called .refine .ensures .1 .0,
+        called .refine .ensures .1 .1 .0,
+      ),
+    )
 
 pub notchergrey-refine-spec : {M : Type 1} → statement M
 notchergrey-refine-spec =

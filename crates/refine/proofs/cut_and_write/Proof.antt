@@ -1,4 +1,5 @@
--- `cut_and_write` meets its contract: the closure's set holds all cuts of A, and the rows between them are the least table.
+-- `cut_and_write` meets its contract: the closure's set holds all cuts of A, and the rows between them are the least
+-- table.
 -- Assumes nothing.
 use mathlib.Core.Path.{refl}
 use Rattle.refine.proofs.Calls.{told-cuts, cuts-writable, rows-tabled}

@@ -24,63 +24,74 @@ array-share-prefix-left-a c =
     let told = c .before .before .before .before .before in
     let bytes = told .before .before .before .before .before .before .args .script .now in
     let held = holds-admitted bytes (told .before .before .read .ensures) (told .verdict2 .given .1) in
-    column-reaches (told .before .before .read .result .«left_a») (λ m. m .«left_a») (held .matches) _ (held .left-a) (held .counted) .0
+    column-reaches (told .before .before .read .result .«left_a») (λ m. m .«left_a») (held .matches) _ (held .left-a)
+    (held .counted) .0
 
 slice-aggregate-refine-matches : tie.Need-slice-aggregate-refine-matches
 slice-aggregate-refine-matches c =
     let told = c .before .before .before .before .before .before in
     let bytes = told .before .before .before .before .before .before .args .script .now in
     let held = holds-admitted bytes (told .before .before .read .ensures) (told .verdict2 .given .1) in
-    column-reaches (told .before .before .read .result .«left_a») (λ m. m .«left_a») (held .matches) _ (held .left-a) (held .counted) .1
+    column-reaches (told .before .before .read .result .«left_a») (λ m. m .«left_a») (held .matches) _ (held .left-a)
+    (held .counted) .1
 
 array-share-prefix-left-b : tie.Need-array-share-prefix-left-b
 array-share-prefix-left-b c =
     let told = c .before .before .before .before .before .before in
     let bytes = told .before .before .before .before .before .before .args .script .now in
     let held = holds-admitted bytes (told .before .before .read .ensures) (told .verdict2 .given .1) in
-    column-reaches (told .before .before .read .result .«left_b») (λ m. m .«left_b») (held .matches) _ (held .left-b) (held .counted) .0
+    column-reaches (told .before .before .read .result .«left_b») (λ m. m .«left_b») (held .matches) _ (held .left-b)
+    (held .counted) .0
 
 slice-aggregate-refine-matches-2 : tie.Need-slice-aggregate-refine-matches-2
 slice-aggregate-refine-matches-2 c =
     let told = c .before .before .before .before .before .before .before in
     let bytes = told .before .before .before .before .before .before .args .script .now in
     let held = holds-admitted bytes (told .before .before .read .ensures) (told .verdict2 .given .1) in
-    column-reaches (told .before .before .read .result .«left_b») (λ m. m .«left_b») (held .matches) _ (held .left-b) (held .counted) .1
+    column-reaches (told .before .before .read .result .«left_b») (λ m. m .«left_b») (held .matches) _ (held .left-b)
+    (held .counted) .1
 
 array-share-prefix-lengths : tie.Need-array-share-prefix-lengths
 array-share-prefix-lengths c =
     let told = c .before .before .before .before .before .before .before in
     let bytes = told .before .before .before .before .before .before .args .script .now in
     let held = holds-admitted bytes (told .before .before .read .ensures) (told .verdict2 .given .1) in
-    column-reaches (told .before .before .read .result .length) (λ m. m .length) (held .matches) _ (held .letters) (held .counted) .0
+    column-reaches (told .before .before .read .result .length) (λ m. m .length) (held .matches) _ (held .letters)
+    (held .counted) .0
 
 slice-aggregate-refine-matches-3 : tie.Need-slice-aggregate-refine-matches-3
 slice-aggregate-refine-matches-3 c =
     let told = c .before .before .before .before .before .before .before .before in
     let bytes = told .before .before .before .before .before .before .args .script .now in
     let held = holds-admitted bytes (told .before .before .read .ensures) (told .verdict2 .given .1) in
-    column-reaches (told .before .before .read .result .length) (λ m. m .length) (held .matches) _ (held .letters) (held .counted) .1
+    column-reaches (told .before .before .read .result .length) (λ m. m .length) (held .matches) _ (held .letters)
+    (held .counted) .1
 
 array-share-prefix-reversed : tie.Need-array-share-prefix-reversed
 array-share-prefix-reversed c =
     let told = c .before .before .before .before .before .before .before .before in
     let bytes = told .before .before .before .before .before .before .args .script .now in
     let held = holds-admitted bytes (told .before .before .read .ensures) (told .verdict2 .given .1) in
-    column-reaches (told .before .before .read .result .reversed) (λ m. m .reversed) (held .matches) _ (held .reversed) (held .counted) .0
+    column-reaches (told .before .before .read .result .reversed) (λ m. m .reversed) (held .matches) _
+    (held .reversed) (held .counted) .0
 
 slice-aggregate-refine-matches-4 : tie.Need-slice-aggregate-refine-matches-4
 slice-aggregate-refine-matches-4 c =
     let told = c .before .before .before .before .before .before .before .before .before in
     let bytes = told .before .before .before .before .before .before .args .script .now in
     let held = holds-admitted bytes (told .before .before .read .ensures) (told .verdict2 .given .1) in
-    column-reaches (told .before .before .read .result .reversed) (λ m. m .reversed) (held .matches) _ (held .reversed) (held .counted) .1
+    column-reaches (told .before .before .read .result .reversed) (λ m. m .reversed) (held .matches) _
+    (held .reversed) (held .counted) .1
 
 refine-matches-requires : tie.Need-refine-matches-requires
 refine-matches-requires c κs =
     let told = c .before .before .before .before .before .before .before .before .before .before .before in
     let bytes = told .before .before .before .before .before .before .args .script .now in
-    let held = holds-admitted bytes (told .before .before .read .ensures) (told .verdict2 .given .1) in
-    (held-fit held, column-few (told .before .before .read .result .length) (λ m. m .length) (held .matches) _ (held .letters) (held .counted) (held .few))
+    let held = holds-admitted bytes (told .before .before .read .ensures) (told .verdict2 .given .1) in (
+      held-fit held,
+      column-few (told .before .before .read .result .length) (λ m. m .length) (held .matches) _
+          (held .letters) (held .counted) (held .few),
+    )
 
 returns : tie.Need-returns
 returns c =
@@ -99,11 +110,12 @@ same-length-2 c = search needs
 
 returns-2 : tie.Need-returns-2
 returns-2 c =
-    let told = c .before .before .before .before .before .before .before .before .before .before .before .before .before .before .before .before in
+    let called = c .before .before .before .before in
+    let told = called .before .before .before .before .before .before .before .before .before .before .before .before in
     let start = told .before .before .before .before .before .before in
     let bytes = start .args .script .now in
     let held = holds-admitted bytes (told .before .before .read .ensures) (told .verdict2 .given .1) in
-    let done = c .before .before .before .before .refine-matches .ensures bytes (held-admitted held) in
+    let done = called .refine-matches .ensures bytes (held-admitted held) in
     refining-contract bytes (start .args .table .now) (start .args .work .now) (sym done)
 
 pub refine-spec : {M : Type 1} → statement M

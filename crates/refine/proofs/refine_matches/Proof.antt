@@ -34,7 +34,8 @@ returns-2 c = λ script a.
     let cut = cleared .before .before .before .before .before .before in
     let start = cut .before .before .before .before .before .before .before .before .before .before in
     let ended = cleared .clear .ensures ∙ ap (λ (n : ℕ). replicate n 0) (cut .cut-and-write .kept .1 .1 .1 .1 .1 .0) in
-    rw ended (tabled-refines _ (start .args .table .now) _ (start .args .work .now) (cut .cut-and-write .result) (omega arith)
+    rw ended (tabled-refines _ (start .args .table .now) _ (start .args .work .now) (cut .cut-and-write .result)
+    (omega arith)
     (cut .cut-and-write .ensures) script a)
 
 pub refine-matches-spec : {M : Type 1} → statement M

@@ -25,13 +25,16 @@ enum-known-p c = search needs
 read-matches-requires : tie.Need-read-matches-requires
 read-matches-requires c κs =
     let called = c .before .before .before in
-    opening-reach (ap openingOf (sym (called .before .read-command .ensures)) ∙ sym (called .judge-opening .ensures) ∙ c .before .p .given .1)
+    opening-reach (ap openingOf (sym (called .before .read-command .ensures)) ∙ sym (called .judge-opening .ensures)
+    ∙ c .before .p .given .1)
 
 returns : tie.Need-returns
 returns c =
     let called = c .before .before .before .before in
     let opening = ap openingOf (sym (called .before .read-command .ensures)) ∙ sym (called .judge-opening .ensures) in
-    c .refused .ensures ∙ ap scriptOf (sym (opening-refused (called .before .before .before .args .script .now) (opening ∙ c .before .before .refusal .given .1)))
+    c .refused .ensures ∙ ap scriptOf
+    (sym (opening-refused (called .before .before .before .args .script .now)
+    (opening ∙ c .before .before .refusal .given .1)))
 
 returns-2 : tie.Need-returns-2
 returns-2 c = c .read-matches .ensures

@@ -1,4 +1,5 @@
--- `read_matches` meets its contract. The loop keeps `Progress`: good commands alone stand before `at`, and the columns hold
+-- `read_matches` meets its contract. The loop keeps `Progress`: good commands alone stand before `at`, and the
+-- columns hold
 -- their matches. The measure is what is left of the script. Assumes nothing.
 use Prim.Native.Nat.{_-_}
 use lib.ListN as List
@@ -71,7 +72,8 @@ returns : tie.Need-returns Inv-loop μ-loop
 returns c =
     let called = c .before .before .before .before in
     let progress = called .before .before .before .loop .inv in
-    let step = comes progress (called .before .read-command .ensures) (called .judge .ensures) (c .before .before .refusal .given .1) in
+    let step = comes progress (called .before .read-command .ensures) (called .judge .ensures)
+    (c .before .before .refusal .given .1) in
     c .refused .ensures ∙ ap scriptOf (sym (progress-refused progress step))
 
 enum-told : tie.Need-enum-told Inv-loop μ-loop
@@ -81,7 +83,8 @@ returns-2 : tie.Need-returns-2 Inv-loop μ-loop
 returns-2 c =
     let called = c .before .before in
     let progress = called .before .before .before .loop .inv in
-    progress-finished progress (comes progress (called .before .read-command .ensures) (called .judge .ensures) (c .enum-told .given .1))
+    progress-finished progress
+    (comes progress (called .before .read-command .ensures) (called .judge .ensures) (c .enum-told .given .1))
 
 enum-known-found : tie.Need-enum-known-found Inv-loop μ-loop
 enum-known-found c = search needs
@@ -90,7 +93,8 @@ loop-again : tie.Need-loop-again Inv-loop μ-loop
 loop-again c =
     let called = c .before .before .before in
     let progress = called .before .before .before .loop .inv in
-    let step = comes progress (called .before .read-command .ensures) (called .judge .ensures) (c .before .found .given .1) in
+    let step = comes progress (called .before .read-command .ensures) (called .judge .ensures)
+    (c .before .found .given .1) in
     progress-taken progress step
 
 array-write-left-a : tie.Need-array-write-left-a Inv-loop μ-loop

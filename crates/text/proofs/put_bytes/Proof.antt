@@ -41,7 +41,8 @@ loop-again c =
     let more : turn .loop .k < length (start .args .bytes .now) = omega arith in (
       omega arith,
       c .before .before .put-byte .ensures .1
-          ∙ ap (λ l. set l (start .args .at + turn .loop .k) (getD (start .args .bytes .now) (turn .loop .k) 0)) (turn .loop .inv .1)
+          ∙ ap (λ l. set l (start .args .at + turn .loop .k) (getD (start .args .bytes .now) (turn .loop .k) 0))
+          (turn .loop .inv .1)
           ∙ sym (sets-next (start .args .text .now) (start .args .at) (start .args .bytes .now) (turn .loop .k) more),
     )
 
@@ -56,7 +57,8 @@ returns c =
     let start = c .before .before .before .before in (
       omega arith,
       c .before .loop .inv .1
-          ∙ sets-whole (start .args .text .now) (start .args .at) (start .args .bytes .now) (c .before .loop .k) (c .loop-test .left),
+          ∙ sets-whole (start .args .text .now) (start .args .at) (start .args .bytes .now) (c .before .loop .k)
+          (c .loop-test .left),
     )
 
 pub put-bytes-spec : {M : Type 1} → statement M

@@ -24,7 +24,8 @@ put-bytes-requires : tie.Need-put-bytes-requires
 put-bytes-requires c κs =
     let start = c .before .before .before .before .before in
     let spelled = c .before .before .decimal .ensures in
-    let count = places-fewest 19 (start .args .number) (c .before .before .decimal .result) (omega arith) (spelled .1 .0) in
+    let count = places-fewest 19 (start .args .number) (c .before .before .decimal .result) (omega arith)
+    (spelled .1 .0) in
     omega (arith, spelled .0 .1, count, places-few 19 (start .args .number))
 
 same-length : tie.Need-same-length

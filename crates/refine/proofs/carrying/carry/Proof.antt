@@ -4,7 +4,8 @@ use borrow.Author.Needs.{needs}
 use Rattle.refinement.specs.Match.{other, onSide}
 use Rattle.refinement.specs.declared.Side.{Side}
 use Rattle.refine.specs.declared.answers.Carried.{Carried}
-use Rattle.refine.proofs.CarryingOutcome.{carrying-refused, carrying-off, carrying-to, carrying-demand, found-fits}
+use Rattle.refine.proofs.CarryingOutcome.{carrying-refused, carrying-off, carrying-to, carrying-demand}
+use Rattle.refine.proofs.CarryingOutcome.{found-fits}
 use Rattle.refine.proofs.carrying.carry.Statement.{statement}
 use Rattle.refine.proofs.carrying.carry.Tie as tie
 
@@ -40,7 +41,8 @@ carry-requires c κs =
     let x = told .found .given .0 .0 in
     let found = sym (told .before .before .find-match .ensures) ∙ told .found .given .1 in
     let from-is = c .before .before .before .before .on-side .ensures in
-    let to-is = c .before .before .on-side2 .ensures ∙ ap (λ (s : Side). onSide s (x .«left_a») (x .«left_b»)) (c .before .before .before .opposite .ensures) in
+    let to-is = c .before .before .on-side2 .ensures
+    ∙ ap (λ (s : Side). onSide s (x .«left_a») (x .«left_b»)) (c .before .before .before .opposite .ensures) in
     let test = sym (c .before .spans .ensures) ∙ c .if1 .taken in
     let fits = found-fits bytes number found (other side) in
     (test, omega (arith, to-is))
@@ -57,9 +59,12 @@ returns c =
     let x = told .found .given .0 .0 in
     let found = sym (told .before .before .find-match .ensures) ∙ told .found .given .1 in
     let from-is = spanned .before .before .before .before .on-side .ensures in
-    let to-is = spanned .before .before .on-side2 .ensures ∙ ap (λ (s : Side). onSide s (x .«left_a») (x .«left_b»)) (spanned .before .before .before .opposite .ensures) in
+    let to-is = spanned .before .before .on-side2 .ensures
+    ∙ ap (λ (s : Side). onSide s (x .«left_a») (x .«left_b»))
+    (spanned .before .before .before .opposite .ensures) in
     let test = sym (spanned .before .spans .ensures) ∙ spanned .if1 .taken in
-    let replied = ap Carried.To (c .carry .ensures) ∙ sym (carrying-to bytes number side position found from-is to-is test) in
+    let replied = ap Carried.To (c .carry .ensures)
+    ∙ sym (carrying-to bytes number side position found from-is to-is test) in
     (replied, carrying-demand bytes number side position replied)
 
 returns-2 : tie.Need-returns-2
@@ -84,7 +89,8 @@ returns-3 c =
     let x = told .found .given .0 .0 in
     let found = sym (told .before .before .find-match .ensures) ∙ told .found .given .1 in
     let from-is = c .before .before .before .before .on-side .ensures in
-    let to-is = c .before .before .on-side2 .ensures ∙ ap (λ (s : Side). onSide s (x .«left_a») (x .«left_b»)) (c .before .before .before .opposite .ensures) in
+    let to-is = c .before .before .on-side2 .ensures
+    ∙ ap (λ (s : Side). onSide s (x .«left_a») (x .«left_b»)) (c .before .before .before .opposite .ensures) in
     let test = sym (c .before .spans .ensures) ∙ c .if1 .left in
     let replied = sym (carrying-off bytes number side position found from-is test) in
     (replied, carrying-demand bytes number side position replied)

@@ -21,8 +21,13 @@ number-at-requires-3 c κs = search needs
 returns-2 : tie.Need-returns-2
 returns-2 c =
     let whole = c .before .before .before in
-    rw
-    (c .before .before .number-at .ensures, c .before .number-at2 .ensures, c .number-at3 .ensures, le-ltb _ _ (whole .if1 .left))
+    rw (
+      c .before .before .number-at .ensures,
+      c .before .number-at2 .ensures,
+      c .number-at3 .ensures,
+      le-ltb _ _
+          (whole .if1 .left),
+    )
 
 pub read-match-spec : {M : Type 1} → statement M
 read-match-spec =
