@@ -24,8 +24,9 @@ use Rattle.refine.specs.Refining.{capacityOf, workNeeded, Refining, refi
 use Rattle.refine.specs.Demands.{Answer, value, refusal, answerOf, Admitted, reads, Fits, EveryExceeds}
 use Rattle.refine.specs.Demands.{RefiningOutcome, Stand, Demand1, Demand2, Demand3}
 use Rattle.refine.specs.declared.answers.Refined.{Refined}
+use Rattle.refine.proofs.Placing.{length-numbers}
 use Rattle.refine.proofs.Numbered.{admitted-unique, admitted-matches}
-use Rattle.refine.proofs.RefiningCases.{length-numbers, written, fits-exceeds, refining-refused, refining-short}
+use Rattle.refine.proofs.RefiningCases.{written, fits-exceeds, refining-refused, refining-short}
 use Rattle.refine.proofs.RefiningCases.{refining-crowded, refining-written, Case, refusing, short, crowded}
 use Rattle.refine.proofs.RefiningCases.{writing, case}
 

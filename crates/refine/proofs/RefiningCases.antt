@@ -1,14 +1,14 @@
 -- What `refiningOf` is in each of its four cases, and that one of them applies.
---     length-numbers, written, written-sets   the numbers of rows; over the start of a table, also as code stores them
+--     written, written-sets                   rows over the start of a table, also as code stores them
 --     fits-or-exceeds, fits-exceeds           12's condition and its contrary: one holds, and not both
 --     refining-refused, refining-short, refining-crowded, refining-written
 --                                             the script's refusal, 11, 12, and the rows of the least table
 --     Case, CaseOf, case                      the four as a data type, for proofs that go through them
 -- Assumes nothing.
-use Prim.Native.Nat.{ℕ, _*_, _≤_, _<_}
+use Prim.Native.Nat.{ℕ, _≤_, _<_}
 use mathlib.Core.Path.{_≡_, refl, ap, subst, _∙_}
 use mathlib.Core.Logic.{_⊎_, inl, inr}
-use mathlib.Core.List.{List, [], _∷_, _++_}
+use mathlib.Core.List.{List, [], _++_}
 use native.Mathlib.Omega.{arith}
 use native.Mathlib.Nat.{zero-add}
 use native.Mathlib.Decide.{decLt}
@@ -29,12 +29,8 @@ use Rattle.refine.specs.Refining.{capacityOf, workNeeded, zeroed, Refini
 use Rattle.refine.specs.Demands.{Admitted, reads, Fits, EveryExceeds}
 use Rattle.refine.specs.declared.answers.Refined.{Refined}
 use Rattle.refine.specs.declared.answers.Refined.the-variants.{Rows, Refused}
+use Rattle.refine.proofs.Placing.{length-numbers}
 use Rattle.refine.proofs.Numbered.{admitted-of, admitted-matches}
-
-pub length-numbers : (rs : List Match) → length (numbersOf rs) ≡ 5 * length rs
-unfolding numbersOf
-length-numbers [] = refl
-length-numbers (r ∷ rs) = omega (arith, length-numbers rs)
 
 -- ---- room for some resolved refinement, or for none
 

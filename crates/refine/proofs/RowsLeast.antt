@@ -1,25 +1,24 @@
 -- Where a rising run holds just the cuts of A, the rows that are written are the least table.
 --     rows-least     the law
 -- Assumes nothing.
-use Prim.Native.Nat.{ℕ, zero, suc, _+_, _≤_, _<_}
+use Prim.Native.Nat.{ℕ, zero, suc, _+_, _<_}
 use mathlib.Core.Path.{_≡_, refl, sym, ap, _∙_}
 use mathlib.Core.Bool.{Bool, true, false, cond, false≢true}
-use mathlib.Core.Logic.{_↔_, ⊎-elim, ite, if-pos, if-neg}
-use mathlib.Core.List.{List, [], _∷_, _++_, map, flatMap, filter, append-nil, append-assoc, Memᴰ·of-map}
-use mathlib.Core.List.{List·Memᴰ·cases-cons, List·Memᴰ·not-nil}
+use mathlib.Core.Logic.{_↔_, ite, if-pos, if-neg}
+use mathlib.Core.List.{List, [], _∷_, _++_, map, flatMap, filter, append-nil, append-assoc}
 use native.Mathlib.Omega.{arith}
 use lib.ListN.{length, getD}
 use Rattle.refinement.specs.declared.Side.the-variants.{A}
 use Rattle.refinement.specs.Order.{_∈_, Rising}
 use Rattle.refinement.specs.Match.{Match, left, spanned}
 use Rattle.refinement.specs.Cut.{Cut}
-use Rattle.refinement.specs.Refinement.{Matches}
 use Rattle.refinement.specs.Least.{spans?, leastCuts, cutsWithin, piecesBetween, piecesOf, tableFrom, leastTable}
-use Rattle.refinement.proofs.Lists.{∈-filter, ∈-unfilter, rising-filter, rising-map}
+use Rattle.refinement.proofs.Lists.{∈-filter, ∈-unfilter, rising-filter}
 use Rattle.refinement.proofs.Geometry.{spanned-iff}
 use Rattle.refinement.proofs.Theorem.{cuts-of-match}
 use Rattle.refine.specs.Columns.{Fit, upFrom, matchAt, matchesOf}
 use Rattle.refine.specs.Rows.{within, rowsOver}
+use Rattle.refine.proofs.Indexed.{matches-good}
 
 -- The numbers that a match spans, by the test and by the decision.
 within-filter : (m : Match) (xs : List ℕ) → within (left m A) (m .length) xs ≡ filter (spans? m A) xs
@@ -33,32 +32,7 @@ within-filter m (x ∷ xs) = step (spanned (left m A) (m .length) x) refl (withi
     step false e {zs} same =
         same ∙ sym (if-neg (spans? m A x) (λ t. false≢true (sym e ∙ spanned-iff m A x .1 t)) (x ∷ zs) zs)
 
--- The matches of columns that fit.
-from-above : (n first : ℕ) {k : ℕ} → k ∈ upFrom first n → (first ≤ k) × (k < first + n)
-unfolding upFrom
-from-above zero first i = absurd (List·Memᴰ·not-nil i)
-from-above (suc n) first i =
-    ⊎-elim (λ e. (omega arith, omega arith))
-    (λ j. let b = from-above n (suc first) j in (omega (arith, b), omega (arith, b))) (List·Memᴰ·cases-cons i)
-
-from-rises : (n first : ℕ) → Rising _<_ (upFrom first n)
-unfolding upFrom
-from-rises zero first = tt
-from-rises (suc n) first = (λ y i. from-above n (suc first) i .0, from-rises n (suc first))
-
 module _ {a b d : List ℕ} {r : List Bool} (fit : Fit a b d r) where
-  fit-matches : Matches (matchesOf a b d r)
-  unfolding matchesOf
-  fit-matches = record {
-    lettered = λ m i.
-        let t = Memᴰ·of-map (matchAt a b d r) (upFrom 0 (length d)) i in
-        let less = from-above (length d) 0 (t .1) .1 in
-        rw (← (t .2)) (fit .lettered (t .0) (omega arith));
-    numbered =
-        rising-map _<_ (λ m m′. m .number < m′ .number) (matchAt a b d r) (upFrom 0 (length d))
-        (λ x y _ _ l. omega arith) (from-rises (length d) 0);
-  }
-
   module _ {run : List ℕ} (rise : Rising _<_ run)
       (all : (x : ℕ) → (x ∈ run) ↔ Cut (matchesOf a b d r) [] (record { track = 0; position = x })) where
     match-cuts :
@@ -67,7 +41,7 @@ module _ {a b d : List ℕ} {r : List Bool} (fit : Fit a b d r) where
     match-cuts k =
         let m = matchAt a b d r k in
         within-filter m run
-        ∙ cuts-of-match (matchesOf a b d r) [] fit-matches m (filter (spans? m A) run)
+        ∙ cuts-of-match (matchesOf a b d r) [] (matches-good a b d r fit) m (filter (spans? m A) run)
         (rising-filter (spans? m A) _<_ run rise) (λ h. (
           λ i. let t = ∈-unfilter (spans? m A) run i in (t .1, all h .0 (t .0)),
           λ t. ∈-filter (spans? m A) (all h .1 (t .1)) (t .0),
