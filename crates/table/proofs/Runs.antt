@@ -1,10 +1,11 @@
 -- The run of rows that the finder hands back.
 --     leading-more, leading-stop, leading-none     the count of leading rows, row by row
 --     leading-inside                               they are rows of the list
---     size-found, start-found                      the part that the code takes where the number occurs
---     size-missing, start-missing                  and where it does not
+--     start-found, end-found                       from where to where the part stands where the number occurs
+--     start-missing, size-missing                  and where it does not
 --     Found                                        what 01 says of the part: which run it is, or that there is none
 --     part-found                                   it holds of the part
+--     part-inside                                  which lies in the table
 --     found-once                                   and of no other
 -- Assumes nothing.
 use Prim.Native.Nat.{ℕ, zero, suc, _+_, _-_, _*_, _≤_, _<_, zero-le, suc-le-suc}
@@ -21,6 +22,7 @@ use lib.Seq.{drop-cons, getD-drop}
 use Rattle.table.specs.Rows.{rowWidth, rowOf, rowAt, rowsOf}
 use Rattle.table.specs.Finding.{leading, numbered, numberedElse, before, run, startOf, sizeOf}
 use Rattle.table.specs.declared.rows.Row.{Row}
+use Rattle.table.proofs.TableRows.{rows-length}
 
 -- ---- row by row: r is the row that was read at k
 
@@ -47,14 +49,16 @@ leading-inside p (r ∷ rs) = go (p r) (leading-inside p rs)
     go true h = suc-le-suc h
     go false h = zero-le
 
--- ---- the part that the code takes
+-- ---- from where to where the part stands
 
-module _ (n : ℕ) (t : List ℕ) (first end : ℕ) (reached : first ≡ before n (rowsOf t)) where
-  pub size-found : end ≡ first + run n (drop first (rowsOf t)) → end * rowWidth - first * rowWidth ≡ sizeOf n t
-  size-found ended = rw (ended, reached) (omega arith)
+module _ (n : ℕ) (t : List ℕ) {first : ℕ} (reached : first ≡ before n (rowsOf t)) (inside : first < length (rowsOf t))
+  where
+    pub start-found : first * rowWidth ≡ startOf n t
+    start-found = rw (← reached, lt-ltb first (length (rowsOf t)) inside) (omega arith)
 
-  pub start-found : first < length (rowsOf t) → first * rowWidth ≡ startOf n t
-  start-found inside = rw (← reached, lt-ltb first (length (rowsOf t)) inside) (omega arith)
+    pub end-found : {end : ℕ} → end ≡ first + run n (drop first (rowsOf t))
+        → end * rowWidth ≡ startOf n t + sizeOf n t
+    end-found ended = rw (← start-found, ended, ← reached) (omega arith)
 
 module _ (n : ℕ) (t : List ℕ) (none : length (rowsOf t) ≤ before n (rowsOf t)) where
   pub size-missing : sizeOf n t ≡ 0
@@ -148,6 +152,13 @@ part-found n t =
           let none : length rs ≤ b = le-of-not-lt h in
           rw (start-missing n t none, size-missing n t none) (missing (λ k l. first-else n rs k (omega arith)))
     ]
+
+found-inside : {n : ℕ} {rs : List Row} {s z : ℕ} → Found n rs s z → s + z ≤ rowWidth * length rs
+found-inside (Found.found f t r) = omega (arith, r .some, r .inside)
+found-inside (Found.missing none) = zero-le
+
+pub part-inside : (n : ℕ) (t : List ℕ) → startOf n t + sizeOf n t ≤ length t
+part-inside n t = omega (arith, found-inside (part-found n t), rows-length t)
 
 module _ {n : ℕ} {rs : List Row} {f t f′ t′ : ℕ} (r : Run n rs f t) (r′ : Run n rs f′ t′) where
   no-later : f < f′ → ⊥

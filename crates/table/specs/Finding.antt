@@ -5,6 +5,7 @@
 --     run n rs         how many rows with the number n rs starts with
 --     startOf n t      where the part begins, in numbers from the start of t
 --     sizeOf n t       how many numbers it has
+--     spanOf n t       from where to where it stands, in numbers from the start of t
 --     partOf n t       the part
 --     further i p      the place i numbers behind the place p
 -- 01, "The table and its buffers". Assumes nothing.
@@ -15,6 +16,7 @@ use lib.ListN.{length, take, drop}
 use lib.Dec.{eqb, ltb}
 use Rattle.table.specs.Rows.{rowWidth, rowsOf}
 use Rattle.table.specs.declared.rows.Row.{Row}
+use Rattle.table.specs.declared.finding.Span.{Span}
 
 -- how many rows pass the test before the first that fails it
 unfoldable pub leading : (Row → Bool) → List Row → ℕ
@@ -46,6 +48,10 @@ startOf n t =
 -- the rows of the run behind the rows before it; none where no row has the number
 abbrev pub sizeOf : ℕ → List ℕ → ℕ
 sizeOf n t = rowWidth * run n (drop (before n (rowsOf t)) (rowsOf t))
+
+-- the part by its place in the table: its first number, and the number behind its last
+abbrev pub spanOf : ℕ → List ℕ → Span
+spanOf n t = record { start = startOf n t; end = startOf n t + sizeOf n t }
 
 -- "the very part of the caller's table that holds them"
 abbrev pub partOf : ℕ → List ℕ → List ℕ

@@ -6,7 +6,7 @@ ghost use mathlib.Core.Path.{_≡_};
 ghost use Prim.Native.Nat.{_+_, _≤_};
 ghost use lib.ListN.{length, drop};
 ghost use Rattle.table.specs.Rows.{rowsOf};
-ghost use Rattle.table.specs.Finding.{before, run, startOf, partOf, further};
+ghost use Rattle.table.specs.Finding.{before, run, startOf, spanOf, partOf, further};
 
 fn rows_before(table: &[u32], number: u32) -> usize
     ensures { λ r. ⌜ r ≡ before number (rowsOf (now (table .entry))) ⌝ }
@@ -39,18 +39,35 @@ fn run_end(table: &[u32], number: u32, start: usize) -> usize
     k
 }
 
-// The rows with that number from the first on until another number follows; the empty part at the start if none has it.
-pub fn rows_of(table: &[u32], number: u32) -> &[u32]
-    ensures contents { λ r. ⌜ now r ≡ partOf number (now (table .entry)) ⌝ }
-    ensures place { λ r. ⌜ r .ptr ≡ further (startOf number (now (table .entry))) (table .entry .ptr) ⌝ }
+// A part of a table: from the number at `start` up to the number at `end`.
+pub struct Span {
+    pub start: usize,
+    pub end: usize,
+}
+
+// Where the rows with that number stand, from the first on until another number follows; 0 and 0 if none has it.
+pub fn span_of(table: &[u32], number: u32) -> Span
+    ensures { λ r. ⌜ r ≡ spanOf number (now (table .entry)) ⌝ }
 {
     let rows = row_count(table);
     let first = rows_before(table, number);
     if first < rows {
         let end = run_end(table, number, first);
-        let from = first * ROW_WIDTH;
-        let to = end * ROW_WIDTH;
-        return &table[from..to];
+        return Span {
+            start: first * ROW_WIDTH,
+            end: end * ROW_WIDTH,
+        };
     }
-    &table[0..0]
+    Span { start: 0, end: 0 }
+}
+
+// The rows with that number from the first on until another number follows; the empty part at the start if none has it.
+pub fn rows_of(table: &[u32], number: u32) -> &[u32]
+    ensures contents { λ r. ⌜ now r ≡ partOf number (now (table .entry)) ⌝ }
+    ensures place { λ r. ⌜ r .ptr ≡ further (startOf number (now (table .entry))) (table .entry .ptr) ⌝ }
+{
+    let span = span_of(table, number);
+    let from = span.start;
+    let to = span.end;
+    &table[from..to]
 }

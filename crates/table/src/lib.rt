@@ -5,6 +5,13 @@ pub mod finding;
 pub mod rows;
 pub mod summing;
 
+pub use finding::Span;
 pub use finding::rows_of;
+pub use finding::span_of;
+pub use rows::ROW_WIDTH;
+pub use rows::Row;
+pub use rows::row_at;
+pub use rows::row_count;
+pub use summing::CLASSES;
 pub use summing::Summary;
 pub use summing::sum_up;

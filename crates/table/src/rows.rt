@@ -17,13 +17,13 @@ pub struct Row {
 }
 
 // Numbers at the end that form no row are none.
-pub(crate) fn row_count(table: &[u32]) -> usize
+pub fn row_count(table: &[u32]) -> usize
     ensures { λ r. ⌜ r ≡ length (rowsOf (now (table .entry))) ⌝ }
 {
     table.len() / ROW_WIDTH
 }
 
-pub(crate) fn row_at(table: &[u32], k: usize) -> Row
+pub fn row_at(table: &[u32], k: usize) -> Row
     requires { ⌜ k < length (rowsOf (now table)) ⌝ }
     ensures { λ r. ⌜ r ≡ rowAt (rowsOf (now (table .entry))) k ⌝ }
 {

@@ -1,95 +1,59 @@
-use Prim.Native.Nat.{ℕ, _*_, _≤_}
-use mathlib.Core.Path.{ap, ap₂}
+use Prim.Native.Nat.{ℕ, _+_, _-_, _≤_}
+use mathlib.Core.Path.{_≡_, ap, ap₂}
 use native.Mathlib.Omega.{arith}
-use lib.ListN.{length, take, drop, length-drop}
+use lib.ListN.{length, take, drop}
 use borrow.Author.Needs.{needs}
-use Rattle.table.specs.Rows.{rowWidth, rowsOf}
-use Rattle.table.specs.Finding.{numbered, before}
-use Rattle.table.proofs.TableRows.{rows-length}
-use Rattle.table.proofs.Runs.{leading-inside, size-found, start-found, size-missing, start-missing}
+use Rattle.table.specs.Finding.{startOf, sizeOf}
+use Rattle.table.specs.declared.finding.Span.{Span}
+use Rattle.table.proofs.Runs.{part-inside}
 use Rattle.table.proofs.finding.rows_of.Statement.{statement}
 use Rattle.table.proofs.finding.rows_of.Tie as tie
 
-row-count-requires : tie.Need-row-count-requires
-row-count-requires c κs = search needs
+span-of-requires : tie.Need-span-of-requires
+span-of-requires c κs = search needs
 
-rows-before-requires : tie.Need-rows-before-requires
-rows-before-requires c κs = search needs
+-- where the part begins
+abbrev start : tie.After-span-of → ℕ
+start c = startOf (c .before .before .args .number) (c .before .before .args .table .now)
 
-run-end-requires : tie.Need-run-end-requires
-run-end-requires c κs = search needs
+-- how many numbers it has
+abbrev size : tie.After-span-of → ℕ
+size c = sizeOf (c .before .before .args .number) (c .before .before .args .table .now)
 
--- the run ends in the table
-inside : (c : tie.After-run-end)
-    → c .run-end .result * rowWidth ≤ length (c .before .before .before .before .before .args .table .now)
-inside c =
-    let at = c .before .before .before .before .before .args in
-    let first = c .before .before .rows-before .result in
-    let rs = rowsOf (at .table .now) in
-    omega
-    (arith, rows-length (at .table .now), leading-inside (numbered (at .number)) (drop first rs), length-drop first rs)
+starts : (c : tie.After-span-of) → c .span-of .result .start ≡ start c
+starts c = ap (λ (s : Span). s .start) (c .span-of .ensures)
 
-mul-from : tie.Need-mul-from
-mul-from c = omega (arith, inside c)
+ends : (c : tie.After-span-of) → c .span-of .result .end ≡ start c + size c
+ends c = ap (λ (s : Span). s .end) (c .span-of .ensures)
 
-mul-to : tie.Need-mul-to
-mul-to c = omega (arith, inside c)
+sized : (c : tie.After-span-of) → c .span-of .result .end - c .span-of .result .start ≡ size c
+sized c = omega (arith, starts c, ends c)
+
+inside : (c : tie.After-span-of) → start c + size c ≤ length (c .before .before .args .table .now)
+inside c = part-inside (c .before .before .args .number) (c .before .before .args .table .now)
 
 mul-result : tie.Need-mul-result
-mul-result c = omega (arith, inside c)
+mul-result c = omega (arith, starts c, inside c)
 
 sub-result : tie.Need-sub-result
-sub-result c = search needs
+sub-result c = omega (arith, starts c, ends c)
 
 part-result-start : tie.Need-part-result-start
-part-result-start c = search needs
+part-result-start c = omega (arith, starts c, ends c)
 
 part-result-end : tie.Need-part-result-end
-part-result-end c = omega (arith, inside c)
+part-result-end c = omega (arith, ends c, inside c)
 
 returns : tie.Need-returns
 returns c =
-    let at = c .before .before .before .before .before .before .args in
+    let at = c .before .before .before .args in
     let t = at .table .now in
-    let first = c .before .before .before .rows-before in
-    let end = c .before .run-end in
-    let size = size-found (at .number) t (first .result) (end .result) (first .ensures) (end .ensures) in
-    let start = start-found (at .number) t (first .result) (end .result) (first .ensures) (omega arith) in
-    (ap₂ (λ (n i : ℕ). take n (drop i t)) size start, ap (λ (i : ℕ). (at .table .ptr .0, i)) (omega (arith, start)))
-
-sub-result-2 : tie.Need-sub-result-2
-sub-result-2 c = search needs
-
-part-result-start-2 : tie.Need-part-result-start-2
-part-result-start-2 c = search needs
-
-part-result-end-2 : tie.Need-part-result-end-2
-part-result-end-2 c = search needs
-
-returns-2 : tie.Need-returns-2
-returns-2 c =
-    let at = c .before .before .before .before .before .args in
-    let t = at .table .now in
-    let none : length (rowsOf t) ≤ before (at .number) (rowsOf t) = omega arith in (
-      rw (size-missing (at .number) t none),
-      ap (λ (i : ℕ). (at .table .ptr .0, i)) (omega (arith, start-missing (at .number) t none)),
+    let begun = starts (c .before) in (
+      ap₂ (λ (n i : ℕ). take n (drop i t)) (sized (c .before)) begun,
+      ap (λ (i : ℕ). (at .table .ptr .0, i)) (omega (arith, begun)),
     )
 
 pub rows-of-spec : {M : Type 1} → statement M
 rows-of-spec =
     tie.close
-    (tie.spec
-    row-count-requires
-    rows-before-requires
-    run-end-requires
-    mul-from
-    mul-to
-    mul-result
-    sub-result
-    part-result-start
-    part-result-end
-    returns
-    sub-result-2
-    part-result-start-2
-    part-result-end-2
-    returns-2)
+    (tie.spec span-of-requires mul-result sub-result part-result-start part-result-end returns)
