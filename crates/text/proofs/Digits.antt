@@ -1,6 +1,7 @@
 -- A number has one fewest count of decimal digits, and `places` computes it.
 --     places-fewest     the fewest digits that hold a number of 64 bits are `places`
 --     places-few        and are at most 20
+--     decimal-short     so a number in decimal has at most 20
 -- Assumes nothing.
 use Prim.Native.Nat.{ℕ, zero, suc, _-_, _*_, _/_, _^_, _≤_, _<_}
 use mathlib.Core.Path.{_≡_, refl, ap}
@@ -11,8 +12,9 @@ use native.Mathlib.Numerals.{sub-one}
 use borrow.Author.Tests.{lt-ltb, le-ltb}
 use mathlib.Core.Bool.{Bool, true, false, cond}
 use lib.Dec.{ltb}
-use Rattle.io.specs.Digits.{Fewest}
-use Rattle.text.specs.Decimal.{placesWithin}
+use lib.ListN.{length, length-append}
+use Rattle.io.specs.Digits.{Fewest, digits}
+use Rattle.text.specs.Decimal.{placesWithin, places, decimal}
 
 one-less : (j : ℕ) → suc (suc j) - 1 ≡ suc j
 one-less j = sub-one (suc (suc j))
@@ -63,3 +65,10 @@ places-few (suc most) n = go (ltb n 10) (places-few most (n / 10))
         → cond b 1 (suc (placesWithin most (n / 10))) ≤ suc (suc most)
     go true h = omega arith
     go false h = omega arith
+
+digits-length : (b k n : ℕ) → length (digits b k n) ≡ k
+digits-length b zero n = refl
+digits-length b (suc k) n = simp length-append (omega (arith, digits-length b k (n / b)))
+
+pub decimal-short : (n : ℕ) → length (decimal n) ≤ 20
+decimal-short n = omega (arith, digits-length 10 (places n) n, places-few 19 n)

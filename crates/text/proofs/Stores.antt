@@ -2,14 +2,17 @@
 --     sets-append     storing joined lists
 --     sets-next       storing one element more
 --     sets-whole      storing all of them
+--     put-then        so bytes put behind bytes are their join
+--     put-same        and may be named otherwise
 -- Assumes nothing.
 use Prim.Native.Nat.{ℕ, suc, _+_, _≤_, _<_}
-use mathlib.Core.Path.{_≡_, ap, _∙_}
+use mathlib.Core.Path.{_≡_, sym, ap, ap₂, subst, _∙_}
 use mathlib.Core.List.{List, [], _∷_, _++_}
 use native.Mathlib.Omega.{arith}
 use native.Mathlib.Numerals.{add-one}
-use lib.ListN.{length, getD, take, set}
+use lib.ListN.{length, getD, take, set, length-append}
 use lib.Seq.{sets, take-suc, take-all, length-take-le}
+use Rattle.text.specs.Putting.{Put}
 
 pub sets-append : (l : List ℕ) (i : ℕ) (us vs : List ℕ) → sets l i (us ++ vs) ≡ sets (sets l i us) (i + length us) vs
 sets-append l i [] vs = ap (λ (k : ℕ). sets l k vs) (omega arith)
@@ -25,3 +28,15 @@ sets-next l i vs k h =
 
 pub sets-whole : (l : List ℕ) (i : ℕ) (vs : List ℕ) (k : ℕ) → length vs ≤ k → sets l i (take k vs) ≡ sets l i vs
 sets-whole l i vs k h = ap (sets l i) (take-all k vs h)
+
+pub put-then : {xs ys t t′ t″ : List ℕ} {at at′ at″ : ℕ} → Put xs t at t′ at′ → Put ys t′ at′ t″ at″
+    → Put (xs ++ ys) t at t″ at″
+put-then {xs} {ys} {t} {at = at} a b =
+    record {
+      place = omega (arith, length-append xs ys);
+      stored = b .stored ∙ ap₂ (λ (l : List ℕ) (k : ℕ). sets l k ys) (a .stored) (a .place)
+          ∙ sym (sets-append t at xs ys);
+    }
+
+pub put-same : {xs ys t t′ : List ℕ} {at at′ : ℕ} → xs ≡ ys → Put xs t at t′ at′ → Put ys t at t′ at′
+put-same {t = t} {t′} {at} {at′} e p = subst (λ l. Put l t at t′ at′) e p

@@ -9,7 +9,7 @@ add-result : tie.Need-add-result
 add-result c = search needs
 
 returns : tie.Need-returns
-returns c = (refl, sym (set-out _ _ _ (c .if1 .taken)))
+returns c = record { place = refl; stored = sym (set-out _ _ _ (c .if1 .taken)) }
 
 slice-write-text : tie.Need-slice-write-text
 slice-write-text c = search needs

@@ -40,7 +40,7 @@ loop-again c =
     let start = turn .before .before .before in
     let more : turn .loop .k < length (start .args .bytes .now) = omega arith in (
       omega arith,
-      c .before .before .put-byte .ensures .1
+      c .before .before .put-byte .ensures .stored
           ∙ ap (λ l. set l (start .args .at + turn .loop .k) (getD (start .args .bytes .now) (turn .loop .k) 0))
           (turn .loop .inv .1)
           ∙ sym (sets-next (start .args .text .now) (start .args .at) (start .args .bytes .now) (turn .loop .k) more),
@@ -54,12 +54,13 @@ same-length c = ap length (c .before .loop .inv .1) ∙ simp length-sets
 
 returns : tie.Need-returns Inv-loop μ-loop
 returns c =
-    let start = c .before .before .before .before in (
-      omega arith,
-      c .before .loop .inv .1
+    let start = c .before .before .before .before in
+    record {
+      place = omega arith;
+      stored = c .before .loop .inv .1
           ∙ sets-whole (start .args .text .now) (start .args .at) (start .args .bytes .now) (c .before .loop .k)
-          (c .loop-test .left),
-    )
+          (c .loop-test .left);
+    }
 
 pub put-bytes-spec : {M : Type 1} → statement M
 put-bytes-spec =

@@ -1,12 +1,10 @@
 -- `put_number` meets its contract: the digits that `io::decimal` writes are the fewest. Assumes nothing.
-use Prim.Native.Nat.{ℕ, _+_}
+use Prim.Native.Nat.{ℕ}
 use mathlib.Core.Path.{ap, _∙_}
-use mathlib.Core.List.{List}
 use native.Mathlib.Omega.{arith}
-use lib.ListN.{length}
-use lib.Seq.{sets}
 use Rattle.io.specs.Digits.{digits}
 use Rattle.text.proofs.Digits.{places-fewest, places-few}
+use Rattle.text.proofs.Stores.{put-same}
 use borrow.Author.Needs.{needs}
 use Rattle.text.proofs.put_number.Statement.{statement}
 use Rattle.text.proofs.put_number.Tie as tie
@@ -38,10 +36,7 @@ returns c =
     let spelled = written .before .before .before .decimal .ensures in
     let k = written .before .before .before .decimal .result in
     let count = places-fewest 19 (start .args .number) k (omega arith) (spelled .1 .0) in
-    let is = spelled .1 .1 ∙ ap (λ (n : ℕ). digits 10 n (start .args .number)) count in (
-      written .put-bytes .ensures .0 ∙ ap (λ (l : List ℕ). start .args .at + length l) is,
-      written .put-bytes .ensures .1 ∙ ap (λ (l : List ℕ). sets (start .args .text .now) (start .args .at) l) is,
-    )
+    put-same (spelled .1 .1 ∙ ap (λ (n : ℕ). digits 10 n (start .args .number)) count) (written .put-bytes .ensures)
 
 pub put-number-spec : {M : Type 1} → statement M
 put-number-spec =
