@@ -7,5 +7,6 @@ pub mod Minimal
 pub mod Closure
 pub mod Theorem
 pub mod Count
+pub mod Letters
 pub mod Paper
-pub mod Lines
+pub mod NearMisses

@@ -13,7 +13,7 @@
 --     single-resolved      6  single letters are a resolved refinement, so that there always is one ..
 --     single-length        6  .. with rows of one letter
 --     bare, cuts-relisted  7  the order and the numbers of the matches change no cut
--- The bounds of point 5 are in Count; what tells the least table from single letters is shown in Lines.
+-- The bounds of point 5 are in Count; what tells the least table from single letters is shown in NearMisses.
 -- Assumes nothing.
 use Prim.Native.Nat.{ℕ, _+_, _<_}
 use mathlib.Core.Path.{_≡_, refl, sym, ap, ap₂, subst, _∙_}
