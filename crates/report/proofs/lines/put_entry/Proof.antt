@@ -1,0 +1,19 @@
+use borrow.Author.Needs.{needs}
+use Rattle.text.proofs.Stores.{put-then}
+use Rattle.report.proofs.lines.put_entry.Statement.{statement}
+use Rattle.report.proofs.lines.put_entry.Tie as tie
+
+put-bytes-requires : tie.Need-put-bytes-requires
+put-bytes-requires c κs = search needs
+
+put-field-requires : tie.Need-put-field-requires
+put-field-requires c κs = search needs
+
+same-length : tie.Need-same-length
+same-length c = search needs
+
+returns : tie.Need-returns
+returns c = search (needs, put-then)
+
+pub put-entry-spec : {M : Type 1} → statement M
+put-entry-spec = tie.close (tie.spec put-bytes-requires put-field-requires same-length returns)
