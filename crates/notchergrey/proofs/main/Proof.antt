@@ -1,0 +1,59 @@
+-- `main` meets its contract: what was read is a part of the buffer. Assumes nothing.
+use mathlib.Core.Path.{sym}
+use lib.Seq.{length-take-le}
+use borrow.Author.Needs.{needs}
+use Rattle.notchergrey.proofs.main.Statement.{statement}
+use Rattle.notchergrey.proofs.main.Tie as tie
+
+slice-aggregate-read-input : tie.Need-slice-aggregate-read-input
+slice-aggregate-read-input c = search needs
+
+read-input-requires : tie.Need-read-input-requires
+read-input-requires c κs = search needs
+
+enum-known-count : tie.Need-enum-known-count
+enum-known-count c = search needs
+
+array-share-prefix-bytes : tie.Need-array-share-prefix-bytes
+array-share-prefix-bytes c =
+    let called = c .before .before .before .before in
+    rw (c .before .count .given .1) at (called .read-input .ensures)
+
+slice-aggregate-print-report : tie.Need-slice-aggregate-print-report
+slice-aggregate-print-report c =
+    let called = c .before .before .before .before .before in
+    sym (length-take-le _ _ (rw (c .before .before .count .given .1) at (called .read-input .ensures)))
+
+print-report-requires : tie.Need-print-report-requires
+print-report-requires c κs = search needs
+
+enum-told : tie.Need-enum-told
+enum-told c = search needs
+
+slice-aggregate-fail : tie.Need-slice-aggregate-fail
+slice-aggregate-fail c = search needs
+
+fail-requires : tie.Need-fail-requires
+fail-requires c κs = search needs
+
+returns : tie.Need-returns
+returns c = search needs
+
+returns-2 : tie.Need-returns-2
+returns-2 c = search needs
+
+pub main-spec : {M : Type 1} → statement M
+main-spec =
+    tie.close
+    (tie.spec
+    slice-aggregate-read-input
+    read-input-requires
+    enum-known-count
+    array-share-prefix-bytes
+    slice-aggregate-print-report
+    print-report-requires
+    enum-told
+    slice-aggregate-fail
+    fail-requires
+    returns
+    returns-2)
