@@ -2,12 +2,16 @@
 -- Assumes nothing.
 use Prim.Native.Nat.{ℕ}
 use mathlib.Core.Bool.{Bool, true, false}
+use mathlib.Core.List.{List}
 use lib.ListN.{length}
 use Rattle.script.specs.Refusals.{numberOf, placeOf}
 use Rattle.script.specs.Reading.{Reading, admitted, refused}
 use Rattle.script.specs.declared.find.Finding.{Finding}
 use Rattle.refine.specs.declared.answers.Refined.{Refined}
 use Rattle.refine.specs.declared.answers.Carried.{Carried}
+use Rattle.report.specs.declared.Reported.{Reported}
+use Rattle.table.specs.declared.finding.Span.{Span}
+use Rattle.table.specs.declared.summing.Summary.{Summary}
 
 -- the number returned, and what stands behind the pointers
 pub record ReadReply : Type 0 where
@@ -75,3 +79,33 @@ pub record CarryReply : Type 0 where
 abbrev pub carryDoor : Carried → CarryReply → CarryReply
 carryDoor (Carried.To x) was = record { number = 0; place = was .place; carried = x }
 carryDoor (Carried.Refused r) was = record { number = numberOf r; place = placeOf r; carried = was .carried }
+
+pub record RowsReply : Type 0 where
+  pub number : ℕ
+  pub start : ℕ
+  pub end : ℕ
+
+-- always 0, and where the rows of a match stand
+abbrev pub rowsDoor : Span → RowsReply
+rowsDoor s = record { number = 0; start = s .start; end = s .end }
+
+pub record SummaryReply : Type 0 where
+  pub number : ℕ
+  pub pieces : ℕ
+  pub distinct : ℕ
+  pub letters : ℕ
+  pub classes : List ℕ
+
+-- always 0, and every number of the summary
+abbrev pub summaryDoor : Summary → SummaryReply
+summaryDoor s =
+    record { number = 0; pieces = s .pieces; distinct = s .distinct; letters = s .letters; classes = s .classes }
+
+pub record ReportReply : Type 0 where
+  pub number : ℕ
+  pub length : ℕ
+
+-- a text that fits: 0 and its length; else 16 and the length that it needs
+abbrev pub reportDoor : Reported → ReportReply
+reportDoor (Reported.Printed n) = record { number = 0; length = n }
+reportDoor (Reported.TextTooShort n) = record { number = 16; length = n }

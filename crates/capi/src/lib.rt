@@ -1,21 +1,32 @@
 // Doors for C and Rust: plain functions over the library, prefix notchergrey_. Each returns 0 or the refusal's number
-// and
-// hands the rest out through pointers. Like a call of the library, a refused one alters no lent number but `place`.
+// and hands the rest out through pointers. Like a call of the library, a refused one alters no lent number but `place`.
+// The doors on tables refuse nothing.
 use refine::answers::Carried;
 use refine::answers::Refined;
 use refinement::Side;
+use report::Reported;
 use script::Verdict;
 use script::find::Finding;
 use script::find::find_match;
 use script::refusal::number_of;
 use script::refusal::place_of;
+use table::CLASSES;
+use table::span_of;
+use table::sum_up;
 ghost use mathlib.Core.Path.{_≡_};
 ghost use Rattle.script.specs.Reading.{readScript};
 ghost use Rattle.script.specs.Finding.{findingOf};
-ghost use Rattle.capi.specs.Doors.{bitOf, readDoor, matchDoor, refineDoor, carryDoor};
+ghost use Rattle.capi.specs.Doors.{bitOf, readDoor, matchDoor, refineDoor, carryDoor, rowsDoor, summaryDoor};
+ghost use Rattle.capi.specs.Doors.{reportDoor};
 ghost use Rattle.refine.specs.Refining.{refiningOf};
 ghost use Rattle.refine.specs.Carrying.{carryingOf};
 ghost use Rattle.refinement.specs.declared.Side.{Side};
+ghost use Rattle.report.specs.Reporting.{reportingOf};
+ghost use Rattle.table.specs.Finding.{spanOf};
+ghost use Rattle.table.specs.Summing.{summaryOf};
+
+// The number that a request after 01 gives a lent buffer that is too short; 01 itself has none for it.
+const TOO_SHORT: u32 = 16;
 
 // 01's number for a direction: 0 direct, 1 reversed.
 fn bit(reversed: bool) -> u32
@@ -34,7 +45,13 @@ pub extern "C" fn notchergrey_read(
     count: &mut usize,
 ) -> u32
     ensures { λ r. ⌜
-        record { number = r; place = now (place .exit); p = now (p .exit); q = now (q .exit); count = now (count .exit) }
+        record {
+          number = r;
+          place = now (place .exit);
+          p = now (p .exit);
+          q = now (q .exit);
+          count = now (count .exit);
+        }
         ≡ readDoor (readScript (now (script .entry)))
         (record {
           number = 0;
@@ -197,4 +214,71 @@ pub extern "C" fn notchergrey_carry_from_b(
         (record { number = 0; place = now (place .entry); carried = now (carried .entry) }) ⌝ }
 {
     carry_from(script, number, Side::B, position, place, carried)
+}
+
+// The rows of the match of this number: from the table's number at `start` up to its number at `end`.
+#[no_mangle]
+pub extern "C" fn notchergrey_rows_of(
+    table: &[u32],
+    number: u32,
+    start: &mut usize,
+    end: &mut usize,
+) -> u32
+    ensures { λ r. ⌜
+        record { number = r; start = now (start .exit); end = now (end .exit) }
+        ≡ rowsDoor (spanOf number (now (table .entry))) ⌝ }
+{
+    let span = span_of(table, number);
+    *start = span.start;
+    *end = span.end;
+    0
+}
+
+// The summary of a table.
+#[no_mangle]
+pub extern "C" fn notchergrey_summary(
+    table: &[u32],
+    pieces: &mut usize,
+    distinct: &mut usize,
+    letters: &mut u64,
+    classes: &mut [usize; CLASSES],
+) -> u32
+    ensures { λ r. ⌜
+        record {
+          number = r;
+          pieces = now (pieces .exit);
+          distinct = now (distinct .exit);
+          letters = now (letters .exit);
+          classes = now (classes .exit);
+        }
+        ≡ summaryDoor (summaryOf (now (table .entry))) ⌝ }
+{
+    let summary = sum_up(table);
+    *pieces = summary.pieces;
+    *distinct = summary.distinct;
+    *letters = summary.letters;
+    let counts = summary.classes;
+    *classes = counts;
+    0
+}
+
+// The text that the program prints for a script; `length` becomes its length, or the length that it needs and the buffer
+// does not have.
+#[no_mangle]
+pub extern "C" fn notchergrey_report(script: &[u8], text: &mut [u8], length: &mut usize) -> u32
+    ensures { λ r. ⌜
+        record { number = r; length = now (length .exit) }
+        ≡ reportDoor (reportingOf (now (script .entry)) (now (text .entry)) .reply) ⌝ }
+    ensures { λ _. ⌜ now (text .exit) ≡ reportingOf (now (script .entry)) (now (text .entry)) .text ⌝ }
+{
+    match report::report(script, text) {
+        Reported::Printed(n) => {
+            *length = n;
+            0
+        }
+        Reported::TextTooShort(n) => {
+            *length = n;
+            TOO_SHORT
+        }
+    }
 }

@@ -1,0 +1,69 @@
+//! Reads the script in the file named on the command line and prints its piece table, as the program notchergrey does
+//! for its standard input. From the repository's root, after `rt staticlib capi`:
+//!
+//!     cargo run --manifest-path bindings/rust/Cargo.toml --example print_table -- examples/two-matches.script
+
+use notchergrey::{read, refine_within, Refusal, Row};
+use std::env;
+use std::fmt::Write as _;
+use std::fs;
+use std::io::{self, Write as _};
+use std::process::ExitCode;
+
+/// The rows that the program makes room for.
+const ROWS: usize = 3_000;
+
+fn main() -> ExitCode {
+    let mut words = env::args_os().skip(1);
+    let (Some(file), None) = (words.next(), words.next()) else {
+        eprintln!("usage: print_table SCRIPT");
+        return ExitCode::from(2);
+    };
+    let printed =
+        fs::read(&file).and_then(|script| io::stdout().write_all(text_of(&script).as_bytes()));
+    match printed {
+        Ok(()) => ExitCode::SUCCESS,
+        Err(error) => {
+            eprintln!("{}: {error}", file.to_string_lossy());
+            ExitCode::FAILURE
+        }
+    }
+}
+
+/// The whole text, or the line of a refusal.
+fn text_of(script: &[u8]) -> String {
+    lines_of(script).unwrap_or_else(|refusal| {
+        eprintln!("{refusal}");
+        format!("refused {} {}\n", refusal.number(), refusal.place())
+    })
+}
+
+fn lines_of(script: &[u8]) -> Result<String, Refusal> {
+    let read = read(script)?;
+    let table = refine_within(script, ROWS)?;
+    let summary = table.summary();
+    let mut text = format!("lengths {} {}\n", read.p, read.q);
+    let _ = writeln!(
+        text,
+        "matches {} pieces {} distinct {} letters {}",
+        read.matches, summary.pieces, summary.distinct, summary.letters
+    );
+    table.rows().for_each(|row| text += &row_line(&row));
+    for (c, count) in summary
+        .classes
+        .iter()
+        .enumerate()
+        .filter(|&(_, &count)| count > 0)
+    {
+        let _ = writeln!(text, "class {c} {count}");
+    }
+    Ok(text)
+}
+
+fn row_line(row: &Row) -> String {
+    let sign = if row.reversed { '-' } else { '+' };
+    format!(
+        "{} {} {} {} {sign}\n",
+        row.number, row.left_a, row.left_b, row.length
+    )
+}

@@ -1,0 +1,132 @@
+//! The doors of the archive, as safe functions: the only module with `unsafe`. `include/notchergrey.h` says what each
+//! door needs and does.
+
+use crate::refusal::Refusal;
+use crate::script::Side;
+use crate::table::CLASSES;
+use notchergrey_sys::{
+    notchergrey_carry_from_a, notchergrey_carry_from_b, notchergrey_match, notchergrey_read,
+    notchergrey_refine, notchergrey_report, notchergrey_rows_of, notchergrey_summary,
+};
+
+// SAFETY, in each function here: a door takes a pointer and the length behind it as one slice, and any other pointer
+// as one number or one array. All come from borrows that last through the call; those that are written to are unique,
+// so that none overlaps with another. A door keeps no pointer, and writes nothing but the numbers it is lent.
+
+/// p, q and the count of matches.
+pub fn read(script: &[u8]) -> Result<(u32, u32, usize), Refusal> {
+    let (mut place, mut p, mut q, mut count) = (0, 0, 0, 0);
+    let number = unsafe {
+        notchergrey_read(
+            script.as_ptr(),
+            script.len(),
+            &mut place,
+            &mut p,
+            &mut q,
+            &mut count,
+        )
+    };
+    Refusal::unless_zero(number, place)?;
+    Ok((p, q, count))
+}
+
+/// Left-A, left-B, length and direction.
+pub fn find_match(script: &[u8], number: u32) -> Result<(u32, u32, u32, u32), Refusal> {
+    let mut place = 0;
+    let (mut left_a, mut left_b, mut length, mut reversed) = (0, 0, 0, 0);
+    let number = unsafe {
+        notchergrey_match(
+            script.as_ptr(),
+            script.len(),
+            number,
+            &mut place,
+            &mut left_a,
+            &mut left_b,
+            &mut length,
+            &mut reversed,
+        )
+    };
+    Refusal::unless_zero(number, place)?;
+    Ok((left_a, left_b, length, reversed))
+}
+
+/// The count of rows.
+pub fn refine(script: &[u8], table: &mut [u32], work: &mut [u32]) -> Result<usize, Refusal> {
+    let (mut place, mut rows) = (0, 0);
+    let number = unsafe {
+        notchergrey_refine(
+            script.as_ptr(),
+            script.len(),
+            table.as_mut_ptr(),
+            table.len(),
+            work.as_mut_ptr(),
+            work.len(),
+            &mut place,
+            &mut rows,
+        )
+    };
+    Refusal::unless_zero(number, place)?;
+    Ok(rows)
+}
+
+/// The position on the other side.
+pub fn carry(script: &[u8], number: u32, side: Side, position: u32) -> Result<u32, Refusal> {
+    let carry_from = match side {
+        Side::A => notchergrey_carry_from_a,
+        Side::B => notchergrey_carry_from_b,
+    };
+    let (mut place, mut carried) = (0, 0);
+    let number = unsafe {
+        carry_from(
+            script.as_ptr(),
+            script.len(),
+            number,
+            position,
+            &mut place,
+            &mut carried,
+        )
+    };
+    Refusal::unless_zero(number, place)?;
+    Ok(carried)
+}
+
+/// The first number of the rows in the table, and the one behind their last. This door refuses nothing.
+pub fn rows_of(table: &[u32], number: u32) -> (usize, usize) {
+    let (mut start, mut end) = (0, 0);
+    unsafe {
+        notchergrey_rows_of(table.as_ptr(), table.len(), number, &mut start, &mut end);
+    }
+    (start, end)
+}
+
+/// Pieces, distinct pieces, letters and classes. This door refuses nothing.
+pub fn summary(table: &[u32]) -> (usize, usize, u64, [usize; CLASSES]) {
+    let (mut pieces, mut distinct, mut letters) = (0, 0, 0);
+    let mut classes = [0; CLASSES];
+    unsafe {
+        notchergrey_summary(
+            table.as_ptr(),
+            table.len(),
+            &mut pieces,
+            &mut distinct,
+            &mut letters,
+            &mut classes,
+        );
+    }
+    (pieces, distinct, letters, classes)
+}
+
+/// The text's length, and whether the text was written: it is not where the buffer is too short.
+pub fn report(script: &[u8], text: &mut [u8]) -> (usize, bool) {
+    let mut length = 0;
+    let number = unsafe {
+        notchergrey_report(
+            script.as_ptr(),
+            script.len(),
+            text.as_mut_ptr(),
+            text.len(),
+            &mut length,
+        )
+    };
+    (length, number == 0)
+}

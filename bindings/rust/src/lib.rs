@@ -1,0 +1,52 @@
+//! The piece table of two genomes: safe calls of the proved library, which is linked as a C archive.
+//!
+//! A match says that a stretch of sequence A and a stretch of sequence B belong together, read in the same direction or
+//! reversed. Where matches overlap, the table cuts them into pieces so that no end of a piece lies inside another, and
+//! into no more pieces than that takes.
+//!
+//! Matches go in as a script: bytes, in which a command is one byte and its operands are numbers of four bytes, least
+//! byte first. `L` (4C) gives the letter counts of A and B, `D` (44) a direct match and `R` (52) a reversed one, each
+//! with left-A, left-B and length, and `E` (45) is the end. Positions lie between letters and are counted from 0.
+//!
+//! ```
+//! fn command(letter: u8, operands: &[u32]) -> Vec<u8> {
+//!     let numbers = operands.iter().flat_map(|number| number.to_le_bytes());
+//!     std::iter::once(letter).chain(numbers).collect()
+//! }
+//!
+//! let script = [
+//!     command(b'L', &[10, 10]),
+//!     command(b'D', &[0, 0, 6]),
+//!     command(b'R', &[2, 3, 5]),
+//!     command(b'E', &[]),
+//! ]
+//! .concat();
+//!
+//! let table = notchergrey::refine(&script)?;
+//! assert_eq!(table.len(), 8);
+//! for row in table.rows() {
+//!     println!("match {}: {} letters from {} of A", row.number, row.length, row.left_a);
+//! }
+//! assert_eq!(table.summary().distinct, 7);
+//! # Ok::<(), notchergrey::Refusal>(())
+//! ```
+//!
+//! What cannot be answered comes back as a [`Refusal`], which says in plain words what to do about it.
+//!
+//! The archive is written by `rt staticlib capi` to `target/staticlib` of the repository. If it lies elsewhere, the
+//! environment variable `NOTCHERGREY_STATICLIB` names its folder when this crate is built.
+
+#![warn(missing_docs)]
+
+mod door;
+mod refining;
+mod refusal;
+mod report;
+mod script;
+mod table;
+
+pub use refining::{refine, refine_into, refine_within, WORK_NUMBERS};
+pub use refusal::{Refusal, Word};
+pub use report::report;
+pub use script::{carry, find_match, read, Match, Script, Side};
+pub use table::{rows, rows_of, summary, Row, Rows, Summary, Table, CLASSES, ROW_NUMBERS};

@@ -1,0 +1,124 @@
+/*
+ * The piece table of two genomes: the functions of the static library that `rt staticlib capi` writes to
+ * target/staticlib/libcapi.a. Link it behind your own objects: cc -Iinclude program.o target/staticlib/libcapi.a
+ *
+ * Every function returns 0, or the number of a refusal (below). None allocates memory, keeps a pointer or ends the
+ * program; for reading, refining, carrying and the calls on tables a stack of 256 kB is enough. What holds of all:
+ *
+ * - A pointer followed by a length is a buffer of that many elements. With length 0 it may be null.
+ * - Any other pointer must point to one number, or to the array that it names. It may not be null.
+ * - What a function writes to may not overlap with anything else that the same call is lent.
+ * - Whatever the buffers and numbers hold before a call does not matter. What a comment does not name is kept: on
+ *   success `place` keeps its value, on a refusal everything but `place` does, with one exception: see
+ *   notchergrey_refine.
+ * - `place` becomes the offset in the script of the command that is refused, the script's length if bytes ran out where
+ *   a command was due, the first extra byte for NOTCHERGREY_TAIL, and 0 for the refusals from 11 on.
+ *
+ * A script is bytes; its numbers have four bytes, least byte first:
+ *   4C p q                   the letter counts of sequences A and B, 1 to 1,000,000,000 each; first command, once
+ *   44 left-A left-B length  a direct match, from left-A on of A and from left-B on of B, counted from 0
+ *   52 left-A left-B length  a reversed match
+ *   45                       the end
+ * Matches are numbered from 1 in the order of the script.
+ */
+#ifndef NOTCHERGREY_H
+#define NOTCHERGREY_H
+
+#include <stddef.h>
+#include <stdint.h>
+
+#ifdef __cplusplus
+extern "C" {
+#endif
+
+/* Why a script or a call is refused. Reading goes from left to right, and the first fault counts. */
+enum notchergrey_refusal {
+    NOTCHERGREY_HEADLESS = 1,             /* the script is empty, or its first byte isn't 4C */
+    NOTCHERGREY_UNKNOWN_COMMAND = 2,      /* a later command byte isn't 4C, 44, 52 or 45 */
+    NOTCHERGREY_CUT_SHORT = 3,            /* operands incomplete, or bytes run out before 45 */
+    NOTCHERGREY_SECOND_LENGTHS = 4,       /* 4C again */
+    NOTCHERGREY_LENGTH_OUT_OF_RANGE = 5,  /* p or q is 0 or above 1,000,000,000 */
+    NOTCHERGREY_TOO_MANY_MATCHES = 6,     /* the command of match 2,049 */
+    NOTCHERGREY_EMPTY_MATCH = 7,          /* a match of length 0 */
+    NOTCHERGREY_BEYOND_A = 8,             /* left-A + length is above p */
+    NOTCHERGREY_BEYOND_B = 9,             /* left-B + length is above q */
+    NOTCHERGREY_TAIL = 10,                /* bytes after 45 */
+    NOTCHERGREY_WORK_TOO_SHORT = 11,      /* the work buffer has under four numbers for each row of the table */
+    NOTCHERGREY_TOO_MANY_PIECES = 12,     /* every resolved refinement has more pieces than the table has rows */
+    NOTCHERGREY_NO_SUCH_MATCH = 13,       /* the match number is 0 or above the count of matches */
+    NOTCHERGREY_OFF_THE_MATCH = 14,       /* the position is outside the match on its side */
+    NOTCHERGREY_BUFFER_TOO_SHORT = 16     /* the text does not fit into its buffer */
+};
+
+/* A row of a table: match number, left-A, left-B, length, direction (0 direct, 1 reversed). */
+#define NOTCHERGREY_ROW_NUMBERS 5
+/* The numbers of work that refining needs for each row that the table has room for. */
+#define NOTCHERGREY_WORK_NUMBERS 4
+/* The classes of lengths that a summary counts. */
+#define NOTCHERGREY_CLASSES 30
+/* No longer script is admitted, and the first 26,635 bytes of a longer one decide how it is refused. */
+#define NOTCHERGREY_LONGEST_SCRIPT 26634
+
+/*
+ * Reads a script. Returns 0 and sets p, q and the count of matches, or refuses with 1 to 10.
+ */
+uint32_t notchergrey_read(const uint8_t *script, size_t script_len, size_t *place, uint32_t *p, uint32_t *q,
+                          size_t *count);
+
+/*
+ * One match of a script, by its number from 1. Returns 0 and sets its left ends, its length and `reversed` (0 or 1), or
+ * refuses with 1 to 10 or 13.
+ */
+uint32_t notchergrey_match(const uint8_t *script, size_t script_len, uint32_t number, size_t *place, uint32_t *left_a,
+                           uint32_t *left_b, uint32_t *length, uint32_t *reversed);
+
+/*
+ * Makes the piece table of a script. The table has room for table_len / 5 rows; work needs four numbers for each of
+ * them. Returns 0, writes the rows to the table's start, by match number and then by left-A, and sets `rows` to their
+ * count; the numbers behind them are kept, and all of work is zero. Refuses with 1 to 10, 11 or 12. On 12 all of work
+ * is zero too, and the table is kept: lend a larger one.
+ */
+uint32_t notchergrey_refine(const uint8_t *script, size_t script_len, uint32_t *table, size_t table_len,
+                            uint32_t *work, size_t work_len, size_t *place, size_t *rows);
+
+/*
+ * Carries a position of A, between letters and counted from 0, to B over one match, by its number from 1; both ends of
+ * the match can be carried. Returns 0 and sets `carried`, or refuses with 1 to 10, 13 or 14.
+ */
+uint32_t notchergrey_carry_from_a(const uint8_t *script, size_t script_len, uint32_t number, uint32_t position,
+                                  size_t *place, uint32_t *carried);
+
+/*
+ * The same from B to A.
+ */
+uint32_t notchergrey_carry_from_b(const uint8_t *script, size_t script_len, uint32_t number, uint32_t position,
+                                  size_t *place, uint32_t *carried);
+
+/*
+ * Where the rows of one match stand in a table: from table[start] up to, not including, table[end]. It is the first
+ * run of rows with that number; without one both are 0. Always returns 0. Hand over the finished rows alone, table_len
+ * = 5 * rows: whatever stands behind them would be read as rows too. Up to four numbers that form no row are ignored.
+ */
+uint32_t notchergrey_rows_of(const uint32_t *table, size_t table_len, uint32_t number, size_t *start, size_t *end);
+
+/*
+ * Sums a table up: its pieces, the distinct ones among them (by left-A, left-B and length), the sum of their lengths
+ * modulo 2^64, and in classes[c] the pieces whose length is at least 2^c and below 2^(c+1). `classes` must point to
+ * thirty numbers; all are set. Always returns 0. Hand over the finished rows alone, as for notchergrey_rows_of.
+ */
+uint32_t notchergrey_summary(const uint32_t *table, size_t table_len, size_t *pieces, size_t *distinct,
+                             uint64_t *letters, size_t classes[NOTCHERGREY_CLASSES]);
+
+/*
+ * The text that the program notchergrey prints for this script, with its table of 3,000 rows; a refused script has a
+ * text too, the line that says so. Returns 0, writes the text to the buffer's start, with no zero byte behind it, and
+ * sets `length` to its length; the bytes behind it are kept. If the buffer is too short it returns
+ * NOTCHERGREY_BUFFER_TOO_SHORT, keeps the buffer and sets `length` to the length that is needed.
+ */
+uint32_t notchergrey_report(const uint8_t *script, size_t script_len, uint8_t *text, size_t text_len, size_t *length);
+
+#ifdef __cplusplus
+}
+#endif
+
+#endif
