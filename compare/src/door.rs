@@ -2,6 +2,11 @@
 //!
 //! Each door returns 0 or the refusal's number, and writes to the numbers and buffers it is lent.
 
+use crate::slow::carrying::Side;
+use notchergrey_sys::{
+    notchergrey_carry_from_a, notchergrey_carry_from_b, notchergrey_match, notchergrey_read,
+    notchergrey_refine, notchergrey_report, notchergrey_rows_of, notchergrey_summary,
+};
 use std::ptr;
 
 /// The numbers lent to the door that reads a script.
@@ -24,7 +29,6 @@ pub struct OneMatch {
 }
 
 /// The numbers lent to the door that refines, beside the table and the work buffer.
-#[cfg(feature = "refine")]
 #[derive(Clone, Copy, Debug, PartialEq, Eq)]
 pub struct Refining {
     pub place: usize,
@@ -32,7 +36,6 @@ pub struct Refining {
 }
 
 /// The numbers lent to the doors that carry.
-#[cfg(feature = "carry")]
 #[derive(Clone, Copy, Debug, PartialEq, Eq)]
 pub struct Carrying {
     pub place: usize,
@@ -40,7 +43,6 @@ pub struct Carrying {
 }
 
 /// The numbers lent to the door that finds the rows of a match: indices of numbers in the table.
-#[cfg(feature = "table")]
 #[derive(Clone, Copy, Debug, PartialEq, Eq)]
 pub struct RowsOf {
     pub start: usize,
@@ -48,101 +50,17 @@ pub struct RowsOf {
 }
 
 /// The numbers lent to the door that sums a table up.
-#[cfg(feature = "table")]
 #[derive(Clone, Copy, Debug, PartialEq, Eq)]
 pub struct Summary {
     pub pieces: usize,
     pub distinct: usize,
     pub letters: u64,
-    pub classes: [u64; 30],
-}
-
-extern "C" {
-    fn notchergrey_read(
-        script: *const u8,
-        script_len: usize,
-        place: *mut usize,
-        p: *mut u32,
-        q: *mut u32,
-        count: *mut usize,
-    ) -> u32;
-
-    fn notchergrey_match(
-        script: *const u8,
-        script_len: usize,
-        number: u32,
-        place: *mut usize,
-        left_a: *mut u32,
-        left_b: *mut u32,
-        length: *mut u32,
-        reversed: *mut u32,
-    ) -> u32;
-
-    #[cfg(feature = "refine")]
-    fn notchergrey_refine(
-        script: *const u8,
-        script_len: usize,
-        table: *mut u32,
-        table_len: usize,
-        work: *mut u32,
-        work_len: usize,
-        place: *mut usize,
-        rows: *mut usize,
-    ) -> u32;
-
-    #[cfg(feature = "carry")]
-    fn notchergrey_carry_from_a(
-        script: *const u8,
-        script_len: usize,
-        number: u32,
-        position: u32,
-        place: *mut usize,
-        carried: *mut u32,
-    ) -> u32;
-
-    #[cfg(feature = "carry")]
-    fn notchergrey_carry_from_b(
-        script: *const u8,
-        script_len: usize,
-        number: u32,
-        position: u32,
-        place: *mut usize,
-        carried: *mut u32,
-    ) -> u32;
-
-    #[cfg(feature = "table")]
-    fn notchergrey_rows_of(
-        table: *const u32,
-        table_len: usize,
-        number: u32,
-        start: *mut usize,
-        end: *mut usize,
-    ) -> u32;
-
-    #[cfg(feature = "table")]
-    fn notchergrey_summary(
-        table: *const u32,
-        table_len: usize,
-        pieces: *mut usize,
-        distinct: *mut usize,
-        letters: *mut u64,
-        classes: *mut u64,
-    ) -> u32;
-
-    #[cfg(feature = "report")]
-    fn notchergrey_report(
-        script: *const u8,
-        script_len: usize,
-        text: *mut u8,
-        text_len: usize,
-        length: *mut usize,
-    ) -> u32;
+    pub classes: [usize; 30],
 }
 
 // SAFETY, in each function here: the door takes a pointer and a length as one slice, and any other
-// pointer as one number, or as thirty where classes are meant. All come from borrows that last
-// through the call, and those that are written to do not overlap. A slice of no elements may have
-// any pointer.
+// pointer as one number or one array. All come from borrows that last through the call, and those
+// that are written to do not overlap. A slice of no elements may have any pointer.
 
 pub fn read(script: &[u8], lent: &mut Reading) -> u32 {
     unsafe {
@@ -172,7 +90,6 @@ pub fn one_match(script: &[u8], number: u32, lent: &mut OneMatch) -> u32 {
     }
 }
 
-#[cfg(feature = "refine")]
 pub fn refine(script: &[u8], table: &mut [u32], work: &mut [u32], lent: &mut Refining) -> u32 {
     unsafe {
         notchergrey_refine(
@@ -188,10 +105,13 @@ pub fn refine(script: &[u8], table: &mut [u32], work: &mut [u32], lent: &mut Ref
     }
 }
 
-#[cfg(feature = "carry")]
-pub fn carry_from_a(script: &[u8], number: u32, position: u32, lent: &mut Carrying) -> u32 {
+pub fn carry(script: &[u8], number: u32, side: Side, position: u32, lent: &mut Carrying) -> u32 {
+    let door = match side {
+        Side::A => notchergrey_carry_from_a,
+        Side::B => notchergrey_carry_from_b,
+    };
     unsafe {
-        notchergrey_carry_from_a(
+        door(
             start_of(script),
             script.len(),
             number,
@@ -202,21 +122,6 @@ pub fn carry_from_a(script: &[u8], number: u32, position: u32, lent: &mut Carryi
     }
 }
 
-#[cfg(feature = "carry")]
-pub fn carry_from_b(script: &[u8], number: u32, position: u32, lent: &mut Carrying) -> u32 {
-    unsafe {
-        notchergrey_carry_from_b(
-            start_of(script),
-            script.len(),
-            number,
-            position,
-            &mut lent.place,
-            &mut lent.carried,
-        )
-    }
-}
-
-#[cfg(feature = "table")]
 pub fn rows_of(table: &[u32], number: u32, lent: &mut RowsOf) -> u32 {
     unsafe {
         notchergrey_rows_of(
@@ -229,7 +134,6 @@ pub fn rows_of(table: &[u32], number: u32, lent: &mut RowsOf) -> u32 {
     }
 }
 
-#[cfg(feature = "table")]
 pub fn summary(table: &[u32], lent: &mut Summary) -> u32 {
     unsafe {
         notchergrey_summary(
@@ -238,13 +142,15 @@ pub fn summary(table: &[u32], lent: &mut Summary) -> u32 {
             &mut lent.pieces,
             &mut lent.distinct,
             &mut lent.letters,
-            lent.classes.as_mut_ptr(),
+            &mut lent.classes,
         )
     }
 }
 
-/// Returns 0, or another number and nothing written if the text is too long for the buffer.
-#[cfg(feature = "report")]
+/// The answer of the door that reports where the text is too long for the buffer lent to it.
+pub const BUFFER_TOO_SHORT: u32 = 16;
+
+/// A refusal's line is a text like any other: the answer is 0 wherever the text fits.
 pub fn report(script: &[u8], text: &mut [u8], length: &mut usize) -> u32 {
     unsafe {
         notchergrey_report(
@@ -266,7 +172,6 @@ fn start_of<T>(slice: &[T]) -> *const T {
     }
 }
 
-#[cfg(any(feature = "refine", feature = "report"))]
 fn start_of_lent<T>(slice: &mut [T]) -> *mut T {
     if slice.is_empty() {
         ptr::null_mut()

@@ -1,18 +1,18 @@
 //! The differential run: the same inputs to the slow program and to the proved one.
 //!
 //! Its last line is `compare: N calls, 0 differences` and its exit status 0 only if all answers
-//! agreed and every outcome was met often enough.
+//! agreed and every outcome was met often enough, which is not asked of a number of rounds.
 
 use compare::calls;
-use compare::part::{Element, Part};
+use compare::part::{Amount, Element, Part};
 use std::env;
 use std::process::ExitCode;
 
-const USAGE: &str = "usage: compare [--seed N] [--times N]";
+const USAGE: &str = "usage: compare [--seed N] [--times N | --rounds N]";
 
 struct Options {
     seed: u64,
-    times: usize,
+    amount: Amount,
 }
 
 fn main() -> ExitCode {
@@ -37,13 +37,14 @@ fn main() -> ExitCode {
 fn options(mut words: impl Iterator<Item = String>) -> Option<Options> {
     let mut options = Options {
         seed: 2002,
-        times: 1,
+        amount: Amount::Times(1),
     };
     while let Some(word) = words.next() {
         let value = words.next()?;
         match word.as_str() {
             "--seed" => options.seed = value.parse().ok()?,
-            "--times" => options.times = value.parse().ok()?,
+            "--times" => options.amount = Amount::Times(value.parse().ok()?),
+            "--rounds" => options.amount = Amount::Rounds(value.parse().ok()?),
             _ => return None,
         }
     }
@@ -56,34 +57,24 @@ fn all_parts(options: &Options) -> Result<usize, String> {
     calls += one_part(&calls::read::PART, options)?;
     calls += one_part(&calls::one_match::PART, options)?;
     calls += one_part(&calls::one_match::PART_OF_ALL_MATCHES, options)?;
-    #[cfg(feature = "refine")]
-    {
-        calls += one_part(&calls::refine::PART, options)?;
-        calls += one_part(&calls::refine::PART_OF_ALL_LENGTHS, options)?;
-    }
-    #[cfg(feature = "carry")]
-    {
-        calls += one_part(&calls::carry::PART, options)?;
-    }
-    #[cfg(feature = "table")]
-    {
-        calls += one_part(&calls::rows_of::PART, options)?;
-        calls += one_part(&calls::summary::PART, options)?;
-    }
-    #[cfg(feature = "report")]
-    {
-        calls += one_part(&calls::report::PART, options)?;
-    }
+    calls += one_part(&calls::refine::PART, options)?;
+    calls += one_part(&calls::refine::PART_OF_ALL_LENGTHS, options)?;
+    calls += one_part(&calls::carry::PART, options)?;
+    calls += one_part(&calls::rows_of::PART, options)?;
+    calls += one_part(&calls::summary::PART, options)?;
+    calls += one_part(&calls::report::PART, options)?;
     Ok(calls)
 }
 
 fn one_part<E: Element>(part: &Part<E>, options: &Options) -> Result<usize, String> {
     let tally = part
-        .run(options.seed, options.times)
+        .run(options.seed, options.amount)
         .map_err(|difference| difference.to_string())?;
     print!("{tally}");
-    match tally.too_seldom() {
-        Some(outcome) => Err(format!("{outcome}, so this run shows too little")),
-        None => Ok(tally.calls()),
+    match (options.amount, tally.too_seldom()) {
+        (Amount::Times(_), Some(outcome)) => {
+            Err(format!("{outcome}, so this run shows too little"))
+        }
+        _ => Ok(tally.calls()),
     }
 }

@@ -44,10 +44,19 @@ pub struct Difference {
     what: String,
 }
 
+/// How often the groups of each round are drawn.
+#[derive(Clone, Copy)]
+pub enum Amount {
+    /// Until there were so many times the part's least number of inputs.
+    Times(usize),
+    /// In so many rounds, which may be too few to show anything.
+    Rounds(usize),
+}
+
 impl<E: Element> Part<E> {
-    /// Runs the part at `times` its least number of inputs. The inputs and the rubbish come from
-    /// two generators, so that one seed gives the same inputs whatever is lent.
-    pub fn run(&self, seed: u64, times: usize) -> Result<Tally, Difference> {
+    /// The inputs and the rubbish come from two generators, so that one seed gives the same inputs
+    /// whatever is lent.
+    pub fn run(&self, seed: u64, amount: Amount) -> Result<Tally, Difference> {
         let mut for_inputs = Random::from_seed(seed);
         let mut for_rubbish = Random::from_seed(!seed);
         let mut tally = Tally::new(self.name, self.needs);
@@ -56,12 +65,21 @@ impl<E: Element> Part<E> {
             self.run_group(group, &mut for_inputs, &mut for_rubbish, &mut tally)?;
         }
         let each_round = self.each_round.iter().copied().flatten();
-        while tally.inputs() < self.least * times {
+        let mut rounds = 0;
+        while self.needs_a_round(amount, rounds, &tally) {
             for group in each_round.clone() {
                 self.run_group(group, &mut for_inputs, &mut for_rubbish, &mut tally)?;
             }
+            rounds += 1;
         }
         Ok(tally)
+    }
+
+    fn needs_a_round(&self, amount: Amount, rounds: usize, tally: &Tally) -> bool {
+        match amount {
+            Amount::Times(times) => tally.inputs() < self.least * times,
+            Amount::Rounds(wanted) => rounds < wanted,
+        }
     }
 
     fn run_group(

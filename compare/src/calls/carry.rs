@@ -92,10 +92,7 @@ fn compare_one(
     let wanted = wanted(lent, slow);
     tally.met(slow.map(|carried| carried as usize));
 
-    let answer = match side {
-        Side::A => door::carry_from_a(bytes, number, position, &mut lent),
-        Side::B => door::carry_from_b(bytes, number, position, &mut lent),
-    };
+    let answer = door::carry(bytes, number, side, position, &mut lent);
     same("the answer", Refusal::number_in(&slow), answer)
         .and_then(|()| same("place", wanted.place, lent.place))
         .and_then(|()| same("carried", wanted.carried, lent.carried))

@@ -37,7 +37,7 @@ fn compare(bytes: &[u8], random: &mut Random, tally: &mut Tally) -> Result<(), S
     }
     for room in [just_enough - 1, random.count_between(0, just_enough - 1)] {
         tally.met_outcome(Outcome::TextTooLong, room);
-        compare_unprinted(bytes, room, random)
+        compare_unprinted(bytes, just_enough, room, random)
             .map_err(|what| format!("with {room} bytes of text, {what}"))?;
     }
     Ok(())
@@ -59,15 +59,17 @@ fn compare_printed(
     same_all("text", &wanted, &got)
 }
 
-/// A text too long for the buffer leaves everything as it was.
-fn compare_unprinted(bytes: &[u8], room: usize, random: &mut Random) -> Result<(), String> {
+/// A buffer too short for the text is left as it was, and the length is the one it needs.
+fn compare_unprinted(
+    bytes: &[u8],
+    needed: usize,
+    room: usize,
+    random: &mut Random,
+) -> Result<(), String> {
     let before = random.any_bytes(room);
-    let length_before = random.any_usize();
-    let (mut got, mut length) = (before.clone(), length_before);
+    let (mut got, mut length) = (before.clone(), random.any_usize());
     let answer = door::report(bytes, &mut got, &mut length);
-    if answer == 0 {
-        return Err("the text is said to fit".to_string());
-    }
-    same("the length", length_before, length)?;
+    same("the answer", door::BUFFER_TOO_SHORT, answer)?;
+    same("the length", needed, length)?;
     same_all("text", &before, &got)
 }

@@ -21,7 +21,7 @@ fn compare(table: &[u32], random: &mut Random, tally: &mut Tally) -> Result<(), 
         pieces: random.any_usize(),
         distinct: random.any_usize(),
         letters: random.any_u64(),
-        classes: [(); 30].map(|()| random.any_u64()),
+        classes: [(); 30].map(|()| random.any_usize()),
     };
     let slow = summary(table);
     tally.met(Ok(slow.distinct));

@@ -70,7 +70,7 @@ pub struct Summary {
     pub pieces: usize,
     pub distinct: usize,
     pub letters: u64,
-    pub classes: [u64; CLASSES],
+    pub classes: [usize; CLASSES],
 }
 
 /// "The summary counts pieces, distinct pieces (same left-A, left-B and length), letters (the sum
@@ -82,7 +82,7 @@ pub fn summary(table: &[u32]) -> Summary {
     let mut classes = [0; CLASSES];
     for (c, count) in classes.iter_mut().enumerate() {
         let class = 1 << c..1 << (c + 1);
-        *count = lengths().filter(|length| class.contains(length)).count() as u64;
+        *count = lengths().filter(|length| class.contains(length)).count();
     }
     Summary {
         pieces: rows(table).count(),
