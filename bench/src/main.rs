@@ -2,12 +2,10 @@
 //! here tests a time.
 
 mod reader;
-#[cfg(feature = "refine")]
 mod refiner;
 mod timing;
 
 fn main() {
     reader::run();
-    #[cfg(feature = "refine")]
     refiner::run();
 }

@@ -1,4 +1,4 @@
-//! Medians of interleaved measurements.
+//! Medians of interleaved measurements of processor time.
 
 use std::hint::black_box;
 use std::time::{Duration, Instant};
@@ -18,9 +18,9 @@ pub struct Timing<'a> {
 }
 
 impl Timing<'_> {
-    /// Nanoseconds for one call of each work: the median of many measurements, of fewer if they
-    /// take long. The works take turns, so that whatever slows the machine for a while slows all
-    /// of them.
+    /// Nanoseconds of processor time for one call of each work: the median of many measurements, of
+    /// fewer if they take long. The works take turns, so that whatever slows the machine for a while
+    /// slows all of them.
     pub fn medians<const N: usize>(&self, mut works: [Work; N]) -> [f64; N] {
         for _ in 0..WARM_UP {
             self.measure_each(&mut works);
@@ -38,12 +38,38 @@ impl Timing<'_> {
     }
 
     fn measure(&self, work: Work) -> f64 {
-        let start = Instant::now();
+        let start = processor_time();
         for input in self.inputs.iter().cycle().take(self.calls) {
             work(black_box(input));
         }
-        start.elapsed().as_nanos() as f64 / self.calls as f64
+        (processor_time() - start).as_nanos() as f64 / self.calls as f64
     }
+}
+
+/// C's `struct timespec` on 64-bit Linux.
+#[repr(C)]
+struct Timespec {
+    seconds: i64,
+    nanoseconds: i64,
+}
+
+const CLOCK_THREAD_CPUTIME_ID: i32 = 3;
+
+extern "C" {
+    fn clock_gettime(clock: i32, time: *mut Timespec) -> i32;
+}
+
+/// What this thread has taken. On a busy machine a clock on the wall would count the others' turns
+/// too, and far more of them in a long call than in a short one.
+fn processor_time() -> Duration {
+    let mut time = Timespec {
+        seconds: 0,
+        nanoseconds: 0,
+    };
+    // SAFETY: the pointer is to one timespec that lasts through the call.
+    let status = unsafe { clock_gettime(CLOCK_THREAD_CPUTIME_ID, &mut time) };
+    assert_eq!(status, 0, "Linux has this clock");
+    Duration::new(time.seconds as u64, time.nanoseconds as u32)
 }
 
 fn median(mut times: Vec<f64>) -> f64 {

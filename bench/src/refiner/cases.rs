@@ -1,6 +1,7 @@
 //! The scripts whose refining is timed.
 
 use super::plain::{refine, Ordered};
+use crate::timing::{Timing, Work};
 use compare::draft::DraftMatch;
 use compare::groups::shapes::{match_up_to, script, staircase, zigzag};
 use compare::random::Random;
@@ -11,6 +12,22 @@ use compare::slow::table::NUMBERS_OF_A_ROW;
 const LONGEST: u32 = LONGEST_SEQUENCE as u32;
 const MOST: u32 = MOST_MATCHES as u32;
 
+/// Matches of real sequences.
+const REAL: [(&str, &[u8]); 3] = [
+    (
+        "human-orang",
+        include_bytes!("../../../examples/real/human-orang.script"),
+    ),
+    (
+        "pylori-b",
+        include_bytes!("../../../examples/real/pylori-b.script"),
+    ),
+    (
+        "pylori-e",
+        include_bytes!("../../../examples/real/pylori-e.script"),
+    ),
+];
+
 /// Scripts of one kind, and the rows for which a table is lent.
 pub struct Case {
     pub name: String,
@@ -18,9 +35,21 @@ pub struct Case {
     pub capacity: usize,
 }
 
+impl Case {
+    /// What one call of each work takes; a measurement goes through all scripts once.
+    pub fn microseconds<const N: usize>(&self, works: [Work; N]) -> [f64; N] {
+        let timing = Timing {
+            calls: self.scripts.len(),
+            inputs: &self.scripts,
+        };
+        timing.medians(works).map(|nanoseconds| nanoseconds / 1e3)
+    }
+}
+
 pub fn all() -> Vec<Case> {
     let mut random = Random::from_seed(2002);
     let some = [10, 100, 1_000, MOST_MATCHES].map(|count| some_case(&mut random, count));
+    let real = REAL.map(|(name, script)| case(name, vec![script.to_vec()], ROWS));
     let shapes = [staircase_case(&mut random), repeats_case(&mut random)];
     let zigzags = [3_000, 100_000, 1_000_000].map(zigzag_case);
     let refused = [
@@ -31,6 +60,7 @@ pub fn all() -> Vec<Case> {
         refused_case("sliding", |i| DraftMatch::direct(i, 2 * i, 100_000)),
     ];
     some.into_iter()
+        .chain(real)
         .chain(shapes)
         .chain(zigzags)
         .chain(refused)

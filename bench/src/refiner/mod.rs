@@ -2,8 +2,9 @@
 
 mod cases;
 mod plain;
+#[cfg(feature = "seqan")]
+mod seqan;
 
-use crate::timing::Timing;
 use cases::Case;
 use compare::door::{self, Refining};
 use compare::slow::refusal::Refusal;
@@ -18,22 +19,21 @@ pub fn run() {
         "{:<28} {:>12} {:>12} {:>12} {:>6} {:>12} {:>6}",
         "refining", "rows", "Rattle us", "tree us", "ratio", "hash us", "ratio"
     );
-    for case in cases::all() {
-        let rows = checked_rows(&case);
-        report(&case, &rows);
+    let cases = cases::all();
+    for case in &cases {
+        let rows = checked_rows(case);
+        report(case, &rows);
     }
     println!("Rattle: notchergrey_refine. tree, hash: plain Rust with sets of either kind.");
+    #[cfg(feature = "seqan")]
+    seqan::run(&cases);
 }
 
 fn report(case: &Case, rows: &str) {
-    let mut lent = Lent::to(case);
+    let mut lent = Lent::to(case.capacity);
     let mut table_of_tree = lent.table.clone();
     let mut table_of_hash = lent.table.clone();
-    let timing = Timing {
-        calls: case.scripts.len(),
-        inputs: &case.scripts,
-    };
-    let nanoseconds = timing.medians([
+    let [rattle, tree, hash] = case.microseconds([
         &mut |script| {
             black_box(lent.refine(script));
         },
@@ -44,7 +44,6 @@ fn report(case: &Case, rows: &str) {
             _ = black_box(refine::<Hashed>(script, &mut table_of_hash));
         },
     ]);
-    let [rattle, tree, hash] = nanoseconds.map(|time| time / 1e3);
     println!(
         "{:<28} {:>12} {:>12.1} {:>12.1} {:>6.2} {:>12.1} {:>6.2}",
         case.name,
@@ -65,10 +64,10 @@ struct Lent {
 }
 
 impl Lent {
-    fn to(case: &Case) -> Lent {
+    fn to(capacity: usize) -> Lent {
         Lent {
-            table: vec![0; case.capacity * NUMBERS_OF_A_ROW],
-            work: vec![0; case.capacity * WORK_OF_A_ROW],
+            table: vec![0; capacity * NUMBERS_OF_A_ROW],
+            work: vec![0; capacity * WORK_OF_A_ROW],
             numbers: Refining { place: 0, rows: 0 },
         }
     }
@@ -89,13 +88,13 @@ fn checked_rows(case: &Case) -> String {
 }
 
 fn check(case: &Case, script: &[u8]) -> Result<usize, Refusal> {
-    let mut lent = Lent::to(case);
+    let mut lent = Lent::to(case.capacity);
     let (mut tree, mut hash) = (lent.table.clone(), lent.table.clone());
     let answer = refine::<Ordered>(script, &mut tree);
     assert_eq!(refine::<Hashed>(script, &mut hash), answer, "{}", case.name);
     assert!(hash == tree, "{}: two tables of plain Rust", case.name);
     if case.capacity <= ROWS {
-        let mut slow = Lent::to(case);
+        let mut slow = Lent::to(case.capacity);
         let slow_answer = table::refine(script, &mut slow.table, &mut slow.work);
         assert_eq!(slow_answer, answer, "{}", case.name);
         assert!(slow.table == tree, "{}: not the least table", case.name);
