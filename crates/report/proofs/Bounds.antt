@@ -68,12 +68,7 @@ pub class-lines-short : (c : ℕ) (ns : List ℕ) → length (classLines c ns) �
 unfolding classLines
 class-lines-short c [] = omega arith
 class-lines-short c (n ∷ ns) =
-    omega (
-      arith,
-      length-append (classLine c n) (classLines (suc c) ns),
-      class-line-short c n,
-      class-lines-short (suc c) ns,
-    )
+    simp length-append (omega (arith, class-line-short c n, class-lines-short (suc c) ns))
 
 length-parts : (a b c d : List ℕ) → length (a ++ b ++ c ++ d) ≡ length a + length b + length c + length d
 length-parts a b c d = simp length-append

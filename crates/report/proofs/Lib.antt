@@ -8,4 +8,4 @@ pub mod ReadBack
 pub mod SameReports
 pub mod Putting
 pub mod Printing
-pub mod Lending
+pub mod Answers

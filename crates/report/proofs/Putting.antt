@@ -10,6 +10,7 @@ use Prim.Native.Nat.{ℕ, suc, _+_, _<_}
 use mathlib.Core.Path.{_≡_, refl, sym, ap, _∙_}
 use mathlib.Core.List.{List, [], _∷_, _++_, append-assoc, append-nil}
 use native.Mathlib.Omega.{arith}
+use native.Mathlib.Nat.{add-zero}
 use native.Mathlib.Numerals.{add-one}
 use lib.ListN.{length, getD, take}
 use lib.Seq.{take-suc, length-take-le}
@@ -89,7 +90,7 @@ row-lines-more rs k h e = rw (e, take-more rs k h) (sym (row-lines-last (take k 
 class-lines-last : (c : ℕ) (ns : List ℕ) (n : ℕ)
     → classLines c (ns ++ n ∷ []) ≡ classLines c ns ++ classLine (c + length ns) n
 unfolding classLines
-class-lines-last c [] n = append-nil (classLine c n) ∙ ap (λ (k : ℕ). classLine k n) (omega arith)
+class-lines-last c [] n = simp (append-nil, add-zero)
 class-lines-last c (x ∷ ns) n =
     rw (class-lines-last (suc c) ns n)
     (sym (append-assoc (classLine c x) (classLines (suc c) ns) (classLine (suc c + length ns) n))

@@ -1,4 +1,4 @@
--- `print_refusal` meets its contract. Assumes nothing.
+-- `print_refusal` meets its contract: the line was measured before it is put. Assumes nothing.
 use borrow.Author.Needs.{needs}
 use Rattle.report.proofs.Printing.{reporting-short, reporting-whole}
 use Rattle.report.proofs.print_refusal.Statement.{statement}

@@ -1,4 +1,4 @@
--- `print_table` meets its contract. Assumes nothing.
+-- `print_table` meets its contract: the text was measured before it is put. Assumes nothing.
 use borrow.Author.Needs.{needs}
 use Rattle.report.proofs.Printing.{reporting-short, reporting-whole}
 use Rattle.report.proofs.print_table.Statement.{statement}

@@ -1,7 +1,7 @@
 -- `report` meets its contract: a refused script is printed as its refusal, an admitted one as refining leaves it.
 -- Assumes nothing.
 use borrow.Author.Needs.{needs}
-use Rattle.report.proofs.Lending.{report-refused, report-admits, reported}
+use Rattle.report.proofs.Answers.{report-refused, report-admits, reported}
 use Rattle.report.proofs.report.Statement.{statement}
 use Rattle.report.proofs.report.Tie as tie
 

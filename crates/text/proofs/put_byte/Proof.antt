@@ -1,5 +1,6 @@
 -- `put_byte` meets its contract: a store past the end is no store. Assumes nothing.
 use mathlib.Core.Path.{refl, sym}
+use native.Mathlib.Omega.{arith}
 use lib.Seq.{set-out}
 use borrow.Author.Needs.{needs}
 use Rattle.text.proofs.put_byte.Statement.{statement}
@@ -9,7 +10,7 @@ add-result : tie.Need-add-result
 add-result c = search needs
 
 returns : tie.Need-returns
-returns c = record { place = refl; stored = sym (set-out _ _ _ (c .if1 .taken)) }
+returns c = record { place = refl; stored = sym (set-out _ _ _ (omega arith)) }
 
 slice-write-text : tie.Need-slice-write-text
 slice-write-text c = search needs

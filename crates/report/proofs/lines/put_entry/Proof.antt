@@ -1,3 +1,4 @@
+-- `put_entry` meets its contract: the number stands behind the word. Assumes nothing.
 use borrow.Author.Needs.{needs}
 use Rattle.text.proofs.Stores.{put-then}
 use Rattle.report.proofs.lines.put_entry.Statement.{statement}

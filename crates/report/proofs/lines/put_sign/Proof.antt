@@ -1,4 +1,4 @@
--- `put_sign` meets its contract. Assumes nothing.
+-- `put_sign` meets its contract: a direct row has +, any other -. Assumes nothing.
 use borrow.Author.Needs.{needs}
 use borrow.Author.Tests.{eq-eqb, ne-eqb}
 use Rattle.report.proofs.lines.put_sign.Statement.{statement}
