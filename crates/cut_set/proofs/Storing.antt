@@ -4,7 +4,7 @@
 --     merged-kept, kept-then      merging some runs keeps the set; keeping it twice
 --     good-gathered       the short run of newly found members is merged into the long one
 --     gathered-alone      one of the two is empty
---     settled, settled-short, settled-long    newly found members become finished
+--     settled, settled-short, settled-apart, settled-long     newly found members become finished
 --     found-mergeable, finished-mergeable, short-mergeable, long-mergeable    two runs of the set can be merged
 --     joined              all members become one run
 --     put-added           a number is put into the short run of newly found members
@@ -63,21 +63,22 @@ kept-then {s = s} {t = t} p q = record {
 }
 
 module _ {xs ys : List ℕ} {s : CutSet} (g : Good xs s) where
-  pub merged-kept : {l : ℕ} {t : CutSet} → s .base ≤ l → t .base ≡ s .base → t .limit ≡ s .limit → t .used ≡ s .used →
-      Good ys t → Merged xs l (s .used) ys → Kept xs s ys t
-  merged-kept {l} {t} h b m u g′ p = record {
+  pub merged-kept : {l h : ℕ} {t : CutSet} → s .base ≤ l → h ≤ s .used → t .base ≡ s .base → t .limit ≡ s .limit →
+      t .used ≡ s .used → Good ys t → Merged xs l h ys → Kept xs s ys t
+  merged-kept {l} {h} {t} low high b m u g′ p = record {
     good = g′;
     base-same = b;
     limit-same = m;
     used-same = u;
-    members = λ y. rw (b, u) (merged-wide p h (omega arith) y);
+    members = λ y. rw (b, u) (merged-wide p low high y);
     outside = λ k o. ⊎-elim (λ v. p .before k (omega arith)) (λ v. p .behind k (omega (arith, g .room))) o;
   }
 
   module _ (n : length ys ≡ length xs) where
     pub good-gathered : Merged xs (s .done) (s .used) ys → Gathered xs s ys (withEnds s (s .long) (s .done) (s .used))
     good-gathered p = record {
-      kept = merged-kept (omega (arith, g .finished-long .order, g .finished-short .order)) refl refl refl good p;
+      kept = merged-kept (omega (arith, g .finished-long .order, g .finished-short .order)) (omega arith) refl refl refl
+          good p;
       done-same = refl;
       finished = λ y. (in-same (λ k l u. sym (front k u)), in-same (λ k l u. front k u));
       found = p .same;
@@ -106,9 +107,10 @@ module _ {xs ys : List ℕ} {s : CutSet} (g : Good xs s) where
               (omega arith) (g .distinct);
         }
 
-    pub settled : {l long : ℕ} → s .base ≤ l → Run ys (s .base) long → Run ys long (s .used) → s .used ≤ long + 512 →
-        Merged xs l (s .used) ys → AllFinished xs s ys (withEnds s long (s .used) (s .used))
-    settled {l} {long} h low high few p = record { kept = merged-kept h refl refl refl good p; all = refl }
+    pub settled : {l h long : ℕ} → s .base ≤ l → h ≤ s .used → Run ys (s .base) long → Run ys long (s .used) →
+        s .used ≤ long + 512 → Merged xs l h ys → AllFinished xs s ys (withEnds s long (s .used) (s .used))
+    settled {l} {h} {long} from to low high few p =
+        record { kept = merged-kept from to refl refl refl good p; all = refl }
       where
         end : Run ys (s .used) (s .used)
         end = empty-run (high .within)
@@ -123,12 +125,12 @@ module _ {xs ys : List ℕ} {s : CutSet} (g : Good xs s) where
           few-found = omega arith;
           room = g .room;
           within = omega (arith, n, g .within);
-          distinct = merged-distinct p h (omega arith) (g .distinct);
+          distinct = merged-distinct p from to (g .distinct);
         }
 
     pub settled-short : s .used ≤ s .long + 512 → Merged xs (s .long) (s .used) ys →
         AllFinished xs s ys (withEnds s (s .long) (s .used) (s .used))
-    settled-short few p = settled (g .finished-long .order)
+    settled-short few p = settled (g .finished-long .order) (omega arith)
         (run-same {xs = xs} (λ k l u. p .before k u) n (g .finished-long))
         (record {
           order = omega (arith, g .finished-short .order, g .found-long .order, g .found-short .order);
@@ -137,8 +139,12 @@ module _ {xs ys : List ℕ} {s : CutSet} (g : Good xs s) where
         })
         few p
 
+    pub settled-apart : s .used ≤ s .done + 512 → Merged xs (s .base) (s .done) ys →
+        Mergeable ys (s .base) (s .done) (s .used) → AllFinished xs s ys (withEnds s (s .done) (s .used) (s .used))
+    settled-apart few p m = settled (omega arith) (m .high .order) (m .low) (m .high) few p
+
     pub settled-long : Merged xs (s .base) (s .used) ys → AllFinished xs s ys (withEnds s (s .used) (s .used) (s .used))
-    settled-long p = settled (omega arith)
+    settled-long p = settled (omega arith) (omega arith)
         (record {
           order = omega (
             arith,

@@ -43,15 +43,16 @@ pub fn empty(a: &[u32], base: usize, limit: usize) -> CutSet
     }
 }
 
-// Whether x is in one of the three runs before the one that numbers are added to.
+// Whether x is in one of the three runs before the one that numbers are added to. What is found again
+// was mostly found a short while ago: the short run of finished members is searched first.
 fn in_other_runs(a: &[u32], s: CutSet, x: u32) -> bool
     requires { ⌜ Good (now a) s ⌝ }
     ensures { λ r. ⌜ Answers (In (now (a .entry)) (s .base) (s .fresh) x) r ⌝ }
 {
-    if runs::has(a, s.base, s.long, x) {
+    if runs::has(a, s.long, s.done, x) {
         return true;
     }
-    if runs::has(a, s.long, s.done, x) {
+    if runs::has(a, s.base, s.long, x) {
         return true;
     }
     runs::has(a, s.done, s.fresh, x)
@@ -148,8 +149,8 @@ pub fn first_found(a: &[u32], s: CutSet, x: u32) -> usize
     runs::lower_bound(a, s.done, s.used, x)
 }
 
-// Makes the members of one newly found run finished: they go to the short run if they fit there, and
-// else both go to the long run.
+// Makes the members of one newly found run finished: they go to the short run if they fit there. Else
+// that goes to the long run, and they become the short one, or go to the long one too if they are many.
 fn settle(a: &mut [u32], s: CutSet) -> CutSet
     requires { ⌜ Good (now a) s ⌝ }
     requires { ⌜ FoundRun (now a) s ⌝ }
@@ -167,6 +168,16 @@ fn settle(a: &mut [u32], s: CutSet) -> CutSet
         };
     }
     runs::merge(a, s.base, s.long, s.done);
+    if s.used - s.done <= 512 {
+        return CutSet {
+            base: s.base,
+            long: s.done,
+            done: s.used,
+            fresh: s.used,
+            used: s.used,
+            limit: s.limit,
+        };
+    }
     runs::merge_long(a, s.base, s.done, s.used);
     CutSet {
         base: s.base,

@@ -25,9 +25,9 @@ has-requires-3 c κs = search needs
 returns-3 : tie.Need-returns-3
 returns-3 c =
     let g = c .before .before .before .before .before .before .pre in
-    answers-later (g .finished-long .order)
+    answers-later (g .finished-long .order) (c .before .before .has2 .ensures .unless (c .before .if2 .left))
+    (answers-later (g .finished-short .order)
     (c .before .before .before .before .has .ensures .unless (c .before .before .before .if1 .left))
-    (answers-later (g .finished-short .order) (c .before .before .has2 .ensures .unless (c .before .if2 .left))
     (c .has3 .ensures))
 
 pub in-other-runs-spec : {M : Type 1} → statement M
