@@ -26,7 +26,8 @@ use Rattle.refinement.proofs.Count.{total, two-per-row, hits-bound, hits-all}
 use Rattle.refinement.proofs.Theorem.{table-resolved, table-cuts}
 use Rattle.refine.specs.Columns.{Fit, upFrom, matchAt, matchesOf}
 use Rattle.refine.specs.Worker.{hitsOn, hitsOver, Overflow}
-use Rattle.refine.specs.Engine.{at, leftsOn, Exceeds}
+use Rattle.refine.specs.Engine.{at, leftsOn}
+use Rattle.refine.specs.Demands.{EveryExceeds}
 use Rattle.refine.proofs.Indexed.{matches-length, matches-good, placed, alone}
 
 pub hits-none : (f d : List ℕ) (n : ℕ) → hitsOver f d n [] ≡ 0
@@ -136,12 +137,12 @@ module _ (a b d : List ℕ) (r : List Bool) where
     pub hits-exceed :
         {cap : ℕ} (u : Side) (xs : List ℕ) → Distinct xs
         → ((x : ℕ) → x ∈ xs → Cut (matchesOf a b d r) [] (at u x))
-        → cap + length d < hitsOver (leftsOn u a b) d (length d) xs → Exceeds (matchesOf a b d r) cap
+        → cap + length d < hitsOver (leftsOn u a b) d (length d) xs → EveryExceeds (matchesOf a b d r) cap
     hits-exceed u xs once cuts more rs R = omega (arith, hits-most R u xs once cuts)
 
     pub overflow-exceeds :
         {cap places : ℕ} {Q : ℕ → Type 0} (u : Side) → places ≡ 2 * cap → Overflow Q places
-        → ((x : ℕ) → Q x → Cut (matchesOf a b d r) [] (at u x)) → Exceeds (matchesOf a b d r) cap
+        → ((x : ℕ) → Q x → Cut (matchesOf a b d r) [] (at u x)) → EveryExceeds (matchesOf a b d r) cap
     overflow-exceeds {cap} A e o cuts rs R =
         omega (
           arith,

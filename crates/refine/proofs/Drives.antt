@@ -10,7 +10,8 @@ use mathlib.Core.List.{List}
 use native.Mathlib.Omega.{arith}
 use Rattle.refinement.specs.declared.Side.the-variants.{A, B}
 use Rattle.refine.specs.Columns.{matchesOf}
-use Rattle.refine.specs.Engine.{Open, unused, Exceeds, Stepped}
+use Rattle.refine.specs.Engine.{Open, unused, Stepped}
+use Rattle.refine.specs.Demands.{EveryExceeds}
 use Rattle.refine.specs.declared.steps.Cuts.{Cuts}
 use Rattle.refine.specs.declared.steps.Closing.{Closing}
 
@@ -18,7 +19,7 @@ abbrev pub Driving : List ℕ → List ℕ → List ℕ → List Bool → ℕ �
 Driving a b d r cap ys (Closing.Done c) = Open a b d r cap ys c A × (c .a .done ≡ c .a .used)
 Driving a b d r cap ys (Closing.MoreA c) = Open a b d r cap ys c A
 Driving a b d r cap ys (Closing.MoreB c) = Open a b d r cap ys c B
-Driving a b d r cap ys Closing.TooMany = Exceeds (matchesOf a b d r) cap
+Driving a b d r cap ys Closing.TooMany = EveryExceeds (matchesOf a b d r) cap
 
 abbrev pub pending : Closing → ℕ
 pending (Closing.Done c) = 0

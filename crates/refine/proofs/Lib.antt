@@ -16,6 +16,7 @@ pub mod RowsLeast
 pub mod Numbered
 pub mod RefiningCases
 pub mod Demands
+pub mod WrongCalls
 pub mod Standing
 pub mod CarryingOutcome
 pub mod Calls

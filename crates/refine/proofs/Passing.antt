@@ -2,24 +2,32 @@
 --     Passed              the invariant: they are carried over the first k matches
 --     pass-start, pass-step, pass-end     where it begins, one match more, and the end
 --     pass-too-much       no room for the images of one match more
+--     passable-start, passable-step, passable-then    matches are passed over, one after the other, and more of them
+--     Sifted              the invariant of a look at 32 matches
+--     sift-start, sift-step, sift-end     where it begins, one match more, and the end
+--     pass-over, pass-none    matches that reach no cut change nothing, nor does any match where there is no cut
 --     pass-ready, pass-run    what the next match needs
 -- Assumes nothing.
-use Prim.Native.Nat.{ℕ, zero, suc, _+_, _≤_, _<_}
+use Prim.Native.Nat.{ℕ, zero, suc, _+_, _-_, _≤_, _<_}
 use native.Mathlib.Omega.{arith}
 use native.Mathlib.Decide.{ℕ-discrete}
 use mathlib.Core.Path.{_≡_, refl, sym, _∙_}
-use mathlib.Core.Bool.{Bool, false}
+use mathlib.Core.Bool.{Bool, true, false, _||_, true≢false}
 use mathlib.Core.List.{List}
 use mathlib.Core.Logic.{_↔_, _⊎_, inl, inr, ⊎-elim}
 use lib.ListN.{length, getD}
 use lib.Seq.{slice}
+use borrow.Author.Tests.{le-leb}
+use Rattle.refinement.specs.Match.{spanned}
+use Rattle.refinement.proofs.Geometry.{spanned-bounds}
 use Rattle.cut_set.specs.Runs.{Same}
 use Rattle.cut_set.specs.Store.{Found, FoundRun, Stored}
 use Rattle.cut_set.specs.declared.CutSet.{CutSet}
+use Rattle.cut_set.proofs.Moving.{lt-or-le}
 use Rattle.cut_set.proofs.Membership.{in-same}
 use Rattle.cut_set.proofs.Laws.{stored-none, stored-same, stored-then}
-use Rattle.refine.specs.Worker.{Images, ImageBy, hitsOn, hitsOver, TooMuch, Ready}
-use Rattle.refine.proofs.RunLists.{slice-same}
+use Rattle.refine.specs.Worker.{Images, ImageBy, hitsOn, hitsOver, reaching, Passable, TooMuch, Ready}
+use Rattle.refine.proofs.RunLists.{slice-same, hits-none}
 use Rattle.refine.proofs.Storing.{base-done, done-used}
 use Rattle.refine.proofs.Storing.{too-much-more, too-much-then, same-apart, ready-then}
 
@@ -49,6 +57,82 @@ images-to h m = record {
   carried = m .carried;
   image = m .image;
 }
+
+-- matches without a hit
+hits-same :
+    (f d ns : List ℕ) (k n : ℕ) → k ≤ n
+    → ((j : ℕ) → k ≤ j → j < n → hitsOn (getD f j 0) (getD d j 0) ns ≡ 0) → hitsOver f d n ns ≡ hitsOver f d k ns
+hits-same f d ns k zero h none = let e : k ≡ 0 = omega arith in rw e
+hits-same f d ns k (suc n) h none =
+    go (ℕ-discrete k (suc n)) (λ l. hits-same f d ns k n l (λ j a b. none j a (omega arith)))
+  where
+    go : Dec (k ≡ suc n) → (k ≤ n → hitsOver f d n ns ≡ hitsOver f d k ns) → hitsOver f d (suc n) ns ≡ hitsOver f d k ns
+    go (yes e) before = rw e
+    go (no e) before = omega (arith, before (omega arith), none n (omega arith) (omega arith))
+
+-- a match that does not reach into a stretch spans no position there
+unreached :
+    (i d lowest highest x : ℕ) → reaching i d lowest highest ≡ false → lowest ≤ x → x ≤ highest → spanned i d x ≡ false
+unreached i d lowest highest x e l u = go (spanned i d x) refl
+  where
+    go : (b : Bool) → spanned i d x ≡ b → b ≡ false
+    go false q = refl
+    go true q =
+        let bounds = spanned-bounds i d x q in
+        let reached : reaching i d lowest highest ≡ true =
+        rw (le-leb i highest (omega (arith, bounds)), le-leb lowest (i + d) (omega (arith, bounds)))
+        in
+        absurd (true≢false (sym reached ∙ e))
+
+module _ {f d : List ℕ} {lowest highest k : ℕ} where
+  pub passable-start : k ≤ length d → Passable f d lowest highest k k
+  passable-start h = record { from = omega arith; to = h; past = λ j a b. absurd (omega arith) }
+
+  pub passable-step :
+      {n : ℕ} → Passable f d lowest highest k n → n < length d
+      → reaching (getD f n 0) (getD d n 0) lowest highest ≡ false → Passable f d lowest highest k (n + 1)
+  passable-step {n} p h e = record {
+    from = omega (arith, p .from);
+    to = omega arith;
+    past = λ j a b. go j a b (ℕ-discrete j n);
+  }
+    where
+      go : (j : ℕ) → k ≤ j → j < n + 1 → Dec (j ≡ n) → reaching (getD f j 0) (getD d j 0) lowest highest ≡ false
+      go j a b (yes q) = rw q e
+      go j a b (no q) = p .past j a (omega arith)
+
+  pub passable-then :
+      {m n : ℕ} → Passable f d lowest highest k m → Passable f d lowest highest m n → Passable f d lowest highest k n
+  passable-then {m} {n} p q = record {
+    from = omega (arith, p .from, q .from);
+    to = q .to;
+    past = λ j a b. ⊎-elim (λ h. p .past j a h) (λ h. q .past j h b) (lt-or-le j m);
+  }
+
+-- none of the matches from index k up to `at` reaches into the stretch, unless `any` says that one does
+pub record Sifted (f d : List ℕ) (lowest highest k : ℕ) (any : Bool) (at : ℕ) : Type 0 where
+  pub to : at ≤ k + 32
+  pub past : any ≡ false → Passable f d lowest highest k at
+
+module _ {f d : List ℕ} {lowest highest k : ℕ} (h : k + 32 ≤ length d) where
+  pub sift-start : Sifted f d lowest highest k false k
+  sift-start = record { to = omega arith; past = λ e. passable-start (omega arith) }
+
+  pub sift-step :
+      {any one : Bool} {at : ℕ} → Sifted f d lowest highest k any at → at < k + 32
+      → one ≡ reaching (getD f at 0) (getD d at 0) lowest highest → Sifted f d lowest highest k (any || one) (at + 1)
+  sift-step {any} {one} {at} s u e = record { to = omega arith; past = λ q. go any one q (s .past) e }
+    where
+      go : (a b : Bool) → (a || b) ≡ false → (a ≡ false → Passable f d lowest highest k at)
+          → b ≡ reaching (getD f at 0) (getD d at 0) lowest highest → Passable f d lowest highest k (at + 1)
+      go false false q p r = passable-step (p refl) (omega arith) (sym r)
+      go false true q p r = absurd (true≢false q)
+      go true b q p r = absurd (true≢false q)
+
+  pub sift-end :
+      {any : Bool} {at : ℕ} → Sifted f d lowest highest k any at → k + 32 ≤ at → any ≡ false
+      → Passable f d lowest highest k (k + 32)
+  sift-end {at = at} s l e = let same : at ≡ k + 32 = omega (arith, s .to) in rw same at (s .past e)
 
 module _ {f t d : List ℕ} {v : List Bool} {xs : List ℕ} {from to : CutSet} {hits most : ℕ} (r : Ready xs from to) where
   pub pass-start : hits ≤ most → Passed f t d v xs from to hits most xs to hits 0
@@ -145,6 +229,55 @@ module _ {f t d : List ℕ} {v : List Bool} {xs : List ℕ} {from to : CutSet} {
           (λ y q. images-to (omega arith) (next y .0 q))
           (omega (arith, more, one-more, p .counted))
           (too-much-then (r .to-good) (p .stored) m)
+
+    -- matches that span no newly found cut
+    skip :
+        {n : ℕ} → k ≤ n → n ≤ length d
+        → ((j i : ℕ) → k ≤ j → j < n → from .done ≤ i → i < from .used
+        → spanned (getD f j 0) (getD d j 0) (getD xs i 0) ≡ false)
+        → Passed f t d v xs from to hits most ys set count n
+    skip {n} a b none = record {
+      until = b;
+      lengths = p .lengths;
+      stored = stored-same (λ y. (images-to a, λ q. fewer q (lt-or-le (q .index) k))) (p .stored);
+      counted = omega (arith, p .counted, same);
+      few = p .few;
+    }
+      where
+        same :
+            hitsOver f d n (slice (from .done) (from .used) xs) ≡ hitsOver f d k (slice (from .done) (from .used) xs)
+        same = hits-same f d (slice (from .done) (from .used) xs) k n a (λ j l u.
+            hits-none xs (r .from-good .found-short .within) (done-used (r .from-good)) (getD f j 0) (getD d j 0)
+            (λ i l′ u′. none j i l u l′ u′))
+
+        fewer : {y : ℕ} (q : Images f t d v n (Found xs from) y) → (q .index < k) ⊎ (k ≤ q .index)
+            → Images f t d v k (Found xs from) y
+        fewer q (inl h) =
+            record { index = q .index; below = h; x = q .x; carried = q .carried; image = q .image }
+        fewer q (inr h) =
+            let c = q .carried in
+            let past = none (q .index) (c .place) h (q .below) (c .from) (c .below) in
+            absurd (true≢false (sym (rw (← (c .is)) at (q .image .spans)) ∙ past))
+
+    pub pass-over :
+        {n : ℕ} → FoundRun xs from → Passable f d (getD xs (from .done) 0) (getD xs (from .used - 1) 0) k n
+        → Passed f t d v xs from to hits most ys set count n
+    pass-over {n} up q = skip (q .from) (q .to) (λ j i a b l u.
+        unreached (getD f j 0) (getD d j 0) (getD xs (from .done) 0) (getD xs (from .used - 1) 0) (getD xs i 0)
+        (q .past j a b) (lowest i l u (lt-or-le (from .done) i)) (highest i l u (lt-or-le i (from .used - 1))))
+      where
+        lowest : (i : ℕ) → from .done ≤ i → i < from .used → (from .done < i) ⊎ (i ≤ from .done)
+            → getD xs (from .done) 0 ≤ getD xs i 0
+        lowest i l u (inl h) = omega (arith, up (from .done) i (omega arith) h u)
+        lowest i l u (inr h) = let e : i ≡ from .done = omega arith in rw e (omega arith)
+
+        highest : (i : ℕ) → from .done ≤ i → i < from .used → (i < from .used - 1) ⊎ (from .used - 1 ≤ i)
+            → getD xs i 0 ≤ getD xs (from .used - 1) 0
+        highest i l u (inl h) = omega (arith, up i (from .used - 1) l h (omega arith))
+        highest i l u (inr h) = let e : i ≡ from .used - 1 = omega arith in rw e (omega arith)
+
+    pub pass-none : from .done ≡ from .used → Passed f t d v xs from to hits most ys set count (length d)
+    pass-none e = skip (p .until) (omega arith) (λ j i a b l u. absurd (omega arith))
 
     pub pass-end :
         length d ≤ k

@@ -25,7 +25,8 @@ use Rattle.cut_set.specs.declared.Added.{Added}
 use Rattle.cut_set.proofs.Laws.{stored-none, stored-same, stored-then}
 use Rattle.refine.specs.Columns.{Fit, matchesOf}
 use Rattle.refine.specs.Worker.{Overflow}
-use Rattle.refine.specs.Engine.{at, setOn, leftsOn, hitsAt, Counted, Open, EndAt, EndOf, Seeding, Exceeds}
+use Rattle.refine.specs.Engine.{at, setOn, leftsOn, hitsAt, Counted, Open, EndAt, EndOf, Seeding}
+use Rattle.refine.specs.Demands.{EveryExceeds}
 use Rattle.refine.specs.declared.steps.Cuts.{Cuts}
 use Rattle.refine.proofs.Indexed.{∈-matches, matches-∈}
 use Rattle.refine.proofs.Counting.{hits-none, overflow-exceeds}
@@ -143,7 +144,8 @@ module _ (a b d : List ℕ) (r : List Bool) where
 
   pub seeded-exceeds :
       {cap : ℕ} {xs : List ℕ} {s : CutSet} → Fit a b d r → Emptied xs 0 (2 * cap) s
-      → Overflow (λ y. Member xs s y ⊎ EndOf a d (length d) y) (s .limit - s .base) → Exceeds (matchesOf a b d r) cap
+      → Overflow (λ y. Member xs s y ⊎ EndOf a d (length d) y) (s .limit - s .base)
+      → EveryExceeds (matchesOf a b d r) cap
   seeded-exceeds fit z o =
       overflow-exceeds a b d r fit A (omega (arith, z .base-is, z .limit-is)) o
       (λ y. ⊎-elim (λ p. absurd (none-in (omega (arith, z .base-is, z .used-is)) p)) end-cut)

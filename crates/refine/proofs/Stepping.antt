@@ -27,7 +27,8 @@ use Rattle.cut_set.proofs.Membership.{in-parts}
 use Rattle.refine.specs.Columns.{Fit, matchAt, matchesOf}
 use Rattle.refine.specs.Worker.{Images, hitsOver, Listed, before, behind, Ready}
 use Rattle.refine.specs.Worker.{TooMuch, crowded, excess, Turned, TurnedTooMany}
-use Rattle.refine.specs.Engine.{at, setOn, hitsAt, leftsOn, Counted, Open, unused, Exceeds, Stepped}
+use Rattle.refine.specs.Engine.{at, setOn, hitsAt, leftsOn, Counted, Open, unused, Stepped}
+use Rattle.refine.specs.Demands.{EveryExceeds}
 use Rattle.refine.specs.declared.steps.Cuts.{Cuts}
 use Rattle.refine.specs.declared.steps.Closing.{Closing}
 use Rattle.refine.proofs.Indexed.{∈-matches, matches-∈, placed, index-spans, index-carry}
@@ -109,14 +110,14 @@ module _ {a b d : List ℕ} {r : List Bool} {cap : ℕ} {xs : List ℕ} {c : Cut
       Fit a b d r
       → TurnedTooMany (leftsOn s a b) (leftsOn (other s) a b) d r xs (setOn s c) (setOn (other s) c) (hitsAt s c)
       (cap + length d)
-      → Exceeds (matchesOf a b d r) cap
+      → EveryExceeds (matchesOf a b d r) cap
   too-many fit t = go (t .why)
     where
       go :
           TooMuch xs (setOn (other s) c)
           (Images (leftsOn s a b) (leftsOn (other s) a b) d r (length d) (Found xs (setOn s c)))
           (hitsAt s c + hitsOver (leftsOn s a b) d (length d) (t .found)) (cap + length d)
-          → Exceeds (matchesOf a b d r) cap
+          → EveryExceeds (matchesOf a b d r) cap
       go (crowded v) =
           overflow-exceeds a b d r fit (other s) (room (other s)) v (λ y. ⊎-elim (o .sound (other s) y) image-cut)
       go (excess v) =

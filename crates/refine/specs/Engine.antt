@@ -3,11 +3,10 @@
 --     at u h              the position h of the side u as a place
 --     Open                all that holds between two steps, s being the side whose newly found cuts are next
 --     unused              the unused cut places, which fall with each step
---     Exceeds             every resolved refinement has more rows than there is room for
 --     EndOf, Seeding      the A ends of the matches, and what adding them does, by its answer
 --     Stepped, Closure    what a step and the whole closure do, by their answers
 -- Assumes nothing.
-use Prim.Native.Nat.{ℕ, _+_, _-_, _*_, _^_, _≤_, _<_}
+use Prim.Native.Nat.{ℕ, _+_, _-_, _*_, _≤_, _<_}
 use mathlib.Core.Path.{_≡_}
 use mathlib.Core.Logic.{_↔_, _⊎_}
 use mathlib.Core.Bool.{Bool}
@@ -18,12 +17,12 @@ use Rattle.refinement.specs.declared.Side.the-variants.{A, B}
 use Rattle.refinement.specs.Order.{_∈_, Distinct}
 use Rattle.refinement.specs.Match.{Match, Place, other, left, right, Spans, carry}
 use Rattle.refinement.specs.Cut.{Cut}
-use Rattle.refinement.specs.Refinement.{ResolvedRefinement}
 use Rattle.refinement.specs.Least.{leastTable}
 use Rattle.cut_set.specs.Store.{Good, Member, Finished, Stored}
 use Rattle.cut_set.specs.declared.CutSet.{CutSet}
 use Rattle.cut_set.specs.declared.Added.{Added}
 use Rattle.refine.specs.Columns.{matchesOf}
+use Rattle.refine.specs.Demands.{EveryExceeds}
 use Rattle.refine.specs.Worker.{hitsOver, Overflow}
 use Rattle.refine.specs.declared.steps.Cuts.{Cuts}
 use Rattle.refine.specs.declared.steps.Closing.{Closing}
@@ -72,14 +71,6 @@ pub record Open (a b d : List ℕ) (r : List Bool) (cap : ℕ) (xs : List ℕ) (
 abbrev pub unused : Cuts → ℕ
 unused c = (c .a .limit - c .a .used) + (c .b .limit - c .b .used)
 
-abbrev pub Exceeds : List Match → ℕ → Type 0
-Exceeds ms cap = (rs : List Match) → ResolvedRefinement ms [] rs → cap < length rs
-
--- the columns of the A ends: equally long, and the ends fit 32 bits
-pub record Ends (a d : List ℕ) : Type 0 where
-  pub same-length : length a ≡ length d
-  pub fits : (k : ℕ) → k < length d → getD a k 0 + getD d k 0 < 2 ^ 32
-
 -- y is the left or the right end of a match with left end i and length n
 abbrev pub EndAt : ℕ → ℕ → ℕ → Type 0
 EndAt i n y = (y ≡ i) ⊎ (y ≡ i + n)
@@ -100,7 +91,7 @@ abbrev pub Stepped : List ℕ → List ℕ → List ℕ → List Bool → ℕ �
 Stepped a b d r cap c ys (Closing.Done c′) = Open a b d r cap ys c′ A × (c′ .a .done ≡ c′ .a .used)
 Stepped a b d r cap c ys (Closing.MoreA c′) = Open a b d r cap ys c′ A × (unused c′ < unused c)
 Stepped a b d r cap c ys (Closing.MoreB c′) = Open a b d r cap ys c′ B × (unused c′ < unused c)
-Stepped a b d r cap c ys Closing.TooMany = Exceeds (matchesOf a b d r) cap
+Stepped a b d r cap c ys Closing.TooMany = EveryExceeds (matchesOf a b d r) cap
 
 -- the set holds exactly the cuts of A, and the least table has room
 pub record AllCuts (ms : List Match) (cap : ℕ) (ys : List ℕ) (s : CutSet) : Type 0 where
@@ -110,4 +101,4 @@ pub record AllCuts (ms : List Match) (cap : ℕ) (ys : List ℕ) (s : CutSet) : 
 
 abbrev pub Closure : List Match → ℕ → List ℕ → Closed → Type 0
 Closure ms cap ys (Closed.CutsOfA s) = AllCuts ms cap ys s
-Closure ms cap ys Closed.TooMany = Exceeds ms cap
+Closure ms cap ys Closed.TooMany = EveryExceeds ms cap

@@ -14,7 +14,7 @@ use Rattle.cut_set.specs.Runs.{In, Run}
 use Rattle.script.specs.declared.refusal.Refusal.the-variants.{TooManyPieces}
 use Rattle.refinement.specs.Match.{Match}
 use Rattle.refinement.specs.Least.{leastTable}
-use Rattle.refine.specs.Engine.{Exceeds}
+use Rattle.refine.specs.Demands.{EveryExceeds}
 use Rattle.refine.specs.Refining.{capacityOf, refiningOf}
 use Rattle.refine.specs.Demands.{Admitted}
 use Rattle.refine.specs.declared.answers.Refined.{Refined}
@@ -57,7 +57,8 @@ Tabled ms before after (Refined.Rows n) =
     (n ≡ length (leastTable ms []))
     × (length (leastTable ms []) ≤ capacityOf before)
     × (after ≡ sets before 0 (numbersOf (leastTable ms [])))
-Tabled ms before after (Refined.Refused r) = (r ≡ TooManyPieces) × Exceeds ms (capacityOf before) × (after ≡ before)
+Tabled ms before after (Refined.Refused r) =
+    (r ≡ TooManyPieces) × EveryExceeds ms (capacityOf before) × (after ≡ before)
 
 -- the whole call, of whatever script has these matches
 abbrev pub Refines : List Match → List ℕ → List ℕ → Refined → List ℕ → List ℕ → Type 0

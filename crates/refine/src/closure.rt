@@ -9,8 +9,8 @@ ghost use Prim.Native.Nat.{_+_, _*_, _^_, _≤_, _<_};
 ghost use lib.ListN.{length};
 ghost use Rattle.refinement.specs.declared.Side.{Side};
 ghost use Rattle.cut_set.specs.Store.{Good};
-ghost use Rattle.refine.specs.Columns.{Fit, matchesOf};
-ghost use Rattle.refine.specs.Engine.{Open, Ends, EndAt, EndOf, Seeding, Closure};
+ghost use Rattle.refine.specs.Columns.{Fit, Ends, matchesOf};
+ghost use Rattle.refine.specs.Engine.{Open, EndAt, EndOf, Seeding, Closure};
 
 // The cuts of A, or that every resolved refinement has more pieces than the capacity.
 pub enum Closed {

@@ -54,7 +54,7 @@ pub fn a_step(
         most,
     ) {
         Turn::TooMany => Closing::TooMany,
-        Turn::Carried { from, to, hits } => {
+        Turn::Carried { hits, from, to } => {
             let next = Cuts {
                 a: from,
                 b: to,
@@ -113,7 +113,7 @@ pub fn b_step(
         most,
     ) {
         Turn::TooMany => Closing::TooMany,
-        Turn::Carried { from, to, hits } => {
+        Turn::Carried { hits, from, to } => {
             let next = Cuts {
                 a: to,
                 b: from,

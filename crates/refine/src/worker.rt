@@ -2,64 +2,32 @@
 use cut_set::Added;
 use cut_set::CutSet;
 ghost use mathlib.Core.Path.{_≡_};
-ghost use mathlib.Core.Bool.{true};
+ghost use mathlib.Core.Bool.{false};
 ghost use Prim.Native.Nat.{_+_, _^_, _≤_, _<_};
 ghost use lib.ListN.{length};
 ghost use lib.Seq.{slice};
-ghost use Rattle.refinement.specs.Match.{spanned, carryOver};
-ghost use Rattle.cut_set.specs.Store.{Good, Found, FoundRun};
-ghost use Rattle.refine.specs.Columns.{Fit};
-ghost use Rattle.refine.specs.Worker.{Ready, ImageBy, hitsOn, Carrying, Working, Turning};
+ghost use Rattle.cut_set.specs.Store.{Found, FoundRun};
+ghost use Rattle.refine.specs.Columns.{Fit, Ends};
+ghost use Rattle.refine.specs.Worker.{Ready, ImageBy, hitsOn, reaching, Passable, Carrying, Working, Turning};
 
-// The set that images went to and the hits so far, or that there are too many for any table lent.
+// The hits so far and the set that images went to, or that there are too many for any table lent. The hits stand first:
+// right behind the answer's tag a set would be copied from odd places, which is slow.
 pub enum Worked {
-    Held { to: CutSet, hits: usize },
+    Held { hits: usize, to: CutSet },
     TooMany,
 }
 
 pub enum Turn {
     Carried {
+        hits: usize,
         from: CutSet,
         to: CutSet,
-        hits: usize,
     },
     TooMany,
 }
 
-// Carries one cut over a match that spans it. The hits are tested before they are counted, so they never pass `most`.
-fn carry_one(
-    work: &mut [u32],
-    to: CutSet,
-    left: u32,
-    other: u32,
-    length: u32,
-    reversed: bool,
-    cut: u32,
-    hits: usize,
-    most: usize,
-) -> Worked
-    requires { ⌜ Good (now work) to ⌝ }
-    requires { ⌜ spanned left length cut ≡ true ⌝ }
-    requires { ⌜ other + length < 2 ^ 32 ⌝ }
-    requires { ⌜ hits ≤ most ⌝ }
-    ensures { λ r. ⌜
-        Carrying (λ y. y ≡ carryOver reversed left other length cut) 1 (now (work .entry)) to hits most
-        (now (work .exit)) r ⌝ }
-{
-    if hits == most {
-        return Worked::TooMany;
-    }
-    let image = refinement::carry(left, other, length, reversed, cut);
-    match cut_set::add(work, to, image) {
-        Added::Held(set) => Worked::Held {
-            to: set,
-            hits: hits + 1,
-        },
-        Added::Full => Worked::TooMany,
-    }
-}
-
-// Carries the newly found cuts that one match spans: they follow each other in the run.
+// Carries the newly found cuts that one match spans: they follow each other in the run. The hits are tested before they
+// are counted, so they never pass `most`.
 fn carry_match(
     work: &mut [u32],
     from: CutSet,
@@ -89,19 +57,85 @@ fn carry_match(
         if !refinement::spans(left, length, cut) {
             break;
         }
-        match carry_one(work, set, left, other, length, reversed, cut, count, most) {
-            Worked::Held { to: t, hits: h } => {
-                set = t;
-                count = h;
-            }
-            Worked::TooMany => return Worked::TooMany,
+        if count == most {
+            return Worked::TooMany;
         }
+        let image = refinement::carry(left, other, length, reversed, cut);
+        match cut_set::add(work, set, image) {
+            Added::Held(s) => set = s,
+            Added::Full => return Worked::TooMany,
+        }
+        count += 1;
         at += 1;
     }
     Worked::Held {
-        to: set,
         hits: count,
+        to: set,
     }
+}
+
+// Whether the span of a match reaches into the stretch from lowest to highest. There is no branch in it.
+fn reaches(left: u32, length: u32, lowest: u32, highest: u32) -> bool
+    requires { ⌜ left + length < 2 ^ 32 ⌝ }
+    ensures { λ r. ⌜ r ≡ reaching left length lowest highest ⌝ }
+{
+    (left <= highest) & (lowest <= left + length)
+}
+
+// Whether one of 32 matches from index k on reaches into the stretch. All are looked at, several at a time once it is
+// compiled.
+fn any_near(lefts: &[u32], lengths: &[u32], k: usize, lowest: u32, highest: u32) -> bool
+    requires { ⌜ Ends (now lefts) (now lengths) ⌝ }
+    requires { ⌜ k + 32 ≤ length (now lengths) ⌝ }
+    ensures { λ r. ⌜
+        (r ≡ false → Passable (now (lefts .entry)) (now (lengths .entry)) lowest highest k (k + 32)) ⌝ }
+{
+    let mut any = false;
+    let mut at = k;
+    while at < k + 32 {
+        any = any | reaches(lefts[at], lengths[at], lowest, highest);
+        at += 1;
+    }
+    any
+}
+
+// Passes over matches from index k on, 32 at a time, while none of them reaches into the stretch.
+fn pass_many(lefts: &[u32], lengths: &[u32], k: usize, lowest: u32, highest: u32) -> usize
+    requires { ⌜ Ends (now lefts) (now lengths) ⌝ }
+    requires { ⌜ k ≤ length (now lengths) ⌝ }
+    ensures { λ r. ⌜ Passable (now (lefts .entry)) (now (lengths .entry)) lowest highest k r ⌝ }
+{
+    let mut at = k;
+    while 32 <= lengths.len() - at {
+        if any_near(lefts, lengths, at, lowest, highest) {
+            break;
+        }
+        at += 32;
+    }
+    at
+}
+
+// The next match from index k on that reaches into the stretch from lowest to highest. The others span no cut there,
+// and a step that found few cuts has hardly any but others: it pays to pass over them here.
+fn next_near(lefts: &[u32], lengths: &[u32], k: usize, lowest: u32, highest: u32) -> usize
+    requires { ⌜ Ends (now lefts) (now lengths) ⌝ }
+    requires { ⌜ k ≤ length (now lengths) ⌝ }
+    ensures { λ r. ⌜ Passable (now (lefts .entry)) (now (lengths .entry)) lowest highest k r ⌝ }
+{
+    if k == lengths.len() {
+        return k;
+    }
+    if reaches(lefts[k], lengths[k], lowest, highest) {
+        return k;
+    }
+    let mut near = pass_many(lefts, lengths, k, lowest, highest);
+    while near < lengths.len() {
+        if reaches(lefts[near], lengths[near], lowest, highest) {
+            break;
+        }
+        near += 1;
+    }
+    near
 }
 
 // Carries the newly found cuts, one rising run, over every match.
@@ -125,9 +159,16 @@ fn carry_found(
         (length (now (lengths .entry))) (now (work .entry)) from to
         (slice (from .done) (from .used) (now (work .entry))) hits most (now (work .exit)) r ⌝ }
 {
+    let first = from.done;
+    let end = from.used;
+    if first == end {
+        return Worked::Held { hits: hits, to: to };
+    }
+    let lowest = work[first];
+    let highest = work[end - 1];
     let mut set = to;
     let mut count = hits;
-    let mut k = 0;
+    let mut k = next_near(lefts, lengths, 0, lowest, highest);
     while k < lengths.len() {
         match carry_match(
             work,
@@ -140,17 +181,17 @@ fn carry_found(
             count,
             most,
         ) {
-            Worked::Held { to: t, hits: h } => {
-                set = t;
+            Worked::Held { hits: h, to: t } => {
                 count = h;
+                set = t;
             }
             Worked::TooMany => return Worked::TooMany,
         }
-        k += 1;
+        k = next_near(lefts, lengths, k + 1, lowest, highest);
     }
     Worked::Held {
-        to: set,
         hits: count,
+        to: set,
     }
 }
 
@@ -186,12 +227,12 @@ pub fn take_turn(
         most,
     ) {
         Worked::Held {
-            to: set,
             hits: count,
+            to: set,
         } => Turn::Carried {
+            hits: count,
             from: cut_set::finish(work, gathered),
             to: set,
-            hits: count,
         },
         Worked::TooMany => Turn::TooMany,
     }

@@ -58,8 +58,8 @@ a-step-take-turn-requires t c κs =
 a-step-enum-told : (t : ℕ) → a-step-lts.Need-enum-told (a-step-calls t) (a-step-at t) a-step.Post
 a-step-enum-told t c = search needs
 
-a-step-enum-known-from : (t : ℕ) → a-step-lts.Need-enum-known-from (a-step-calls t) (a-step-at t) a-step.Post
-a-step-enum-known-from t c = search needs
+a-step-enum-known-hits : (t : ℕ) → a-step-lts.Need-enum-known-hits (a-step-calls t) (a-step-at t) a-step.Post
+a-step-enum-known-hits t c = search needs
 
 a-step-same-length : (t : ℕ) → a-step-lts.Need-same-length (a-step-calls t) (a-step-at t) a-step.Post
 a-step-same-length t c = search needs
@@ -69,8 +69,8 @@ a-step-returns t c =
     let at-call = c .before .before .before .before .before .before .before in
     let at-start = at-call .before .before .before .before .before .before .before .before .before in
     let was = at-start .pre .1 .1 in
-    let told = c .before .before .before .from .given in
-    let next = after A (at-start .args .cuts) (told .0 .0) (told .0 .1 .0) (told .0 .1 .1 .0) in
+    let told = c .before .before .before .hits .given in
+    let next = after A (at-start .args .cuts) (told .0 .1 .0) (told .0 .1 .1 .0) (told .0 .0) in
     let turned = rw (told .1) at (at-call .take-turn .ensures) in
     finished B (turned-open was next turned refl) (c .if1 .taken)
 
@@ -82,8 +82,8 @@ a-step-returns-2 t c =
     let at-call = c .before .before .before .before .before .before .before .before in
     let at-start = at-call .before .before .before .before .before .before .before .before .before in
     let was = at-start .pre .1 .1 in
-    let told = c .before .before .before .before .from .given in
-    let next = after A (at-start .args .cuts) (told .0 .0) (told .0 .1 .0) (told .0 .1 .1 .0) in
+    let told = c .before .before .before .before .hits .given in
+    let next = after A (at-start .args .cuts) (told .0 .1 .0) (told .0 .1 .1 .0) (told .0 .0) in
     let turned = rw (told .1) at (at-call .take-turn .ensures) in
     (turned-open was next turned refl, turned-less was next turned (c .before .if1 .left))
 
@@ -95,8 +95,8 @@ a-step-b-step-requires t c κs =
     let at-call = c .before .before .before .before .before .before .before .before .before in
     let at-start = at-call .before .before .before .before .before .before .before .before .before in
     let was = at-start .pre .1 .1 in
-    let told = c .before .before .before .before .before .from .given in
-    let next = after A (at-start .args .cuts) (told .0 .0) (told .0 .1 .0) (told .0 .1 .1 .0) in
+    let told = c .before .before .before .before .before .hits .given in
+    let next = after A (at-start .args .cuts) (told .0 .1 .0) (told .0 .1 .1 .0) (told .0 .0) in
     let turned = rw (told .1) at (at-call .take-turn .ensures) in (
       omega (arith, at-start .pre .0, turned-less was next turned (c .before .before .if1 .left)),
       (at-start .pre .1 .0, turned-open was next turned refl),
@@ -119,8 +119,8 @@ a-step-returns-4 t c =
     let at-call = c .before .before .before .before .before .before .before .before .before .before .before .before in
     let at-start = at-call .before .before .before .before .before .before .before .before .before in
     let was = at-start .pre .1 .1 in
-    let told = c .before .before .before .before .before .before .before .before .from .given in
-    let next = after A (at-start .args .cuts) (told .0 .0) (told .0 .1 .0) (told .0 .1 .1 .0) in
+    let told = c .before .before .before .before .before .before .before .before .hits .given in
+    let next = after A (at-start .args .cuts) (told .0 .1 .0) (told .0 .1 .1 .0) (told .0 .0) in
     let turned = rw (told .1) at (at-call .take-turn .ensures) in
     let args = at-start .args in
     let step = c .before .before .b-step in
@@ -139,8 +139,8 @@ b-step-take-turn-requires t c κs =
 b-step-enum-told : (t : ℕ) → b-step-lts.Need-enum-told (b-step-calls t) (b-step-at t) b-step.Post
 b-step-enum-told t c = search needs
 
-b-step-enum-known-from : (t : ℕ) → b-step-lts.Need-enum-known-from (b-step-calls t) (b-step-at t) b-step.Post
-b-step-enum-known-from t c = search needs
+b-step-enum-known-hits : (t : ℕ) → b-step-lts.Need-enum-known-hits (b-step-calls t) (b-step-at t) b-step.Post
+b-step-enum-known-hits t c = search needs
 
 b-step-same-length : (t : ℕ) → b-step-lts.Need-same-length (b-step-calls t) (b-step-at t) b-step.Post
 b-step-same-length t c = search needs
@@ -150,8 +150,8 @@ b-step-returns t c =
     let at-call = c .before .before .before .before .before .before .before in
     let at-start = at-call .before .before .before .before .before .before .before .before .before in
     let was = at-start .pre .1 .1 in
-    let told = c .before .before .before .from .given in
-    let next = after B (at-start .args .cuts) (told .0 .0) (told .0 .1 .0) (told .0 .1 .1 .0) in
+    let told = c .before .before .before .hits .given in
+    let next = after B (at-start .args .cuts) (told .0 .1 .0) (told .0 .1 .1 .0) (told .0 .0) in
     let turned = rw (told .1) at (at-call .take-turn .ensures) in
     finished A (turned-open was next turned refl) (c .if1 .taken)
 
@@ -163,8 +163,8 @@ b-step-returns-2 t c =
     let at-call = c .before .before .before .before .before .before .before .before in
     let at-start = at-call .before .before .before .before .before .before .before .before .before in
     let was = at-start .pre .1 .1 in
-    let told = c .before .before .before .before .from .given in
-    let next = after B (at-start .args .cuts) (told .0 .0) (told .0 .1 .0) (told .0 .1 .1 .0) in
+    let told = c .before .before .before .before .hits .given in
+    let next = after B (at-start .args .cuts) (told .0 .1 .0) (told .0 .1 .1 .0) (told .0 .0) in
     let turned = rw (told .1) at (at-call .take-turn .ensures) in
     (turned-open was next turned refl, turned-less was next turned (c .before .if1 .left))
 
@@ -176,8 +176,8 @@ b-step-a-step-requires t c κs =
     let at-call = c .before .before .before .before .before .before .before .before .before in
     let at-start = at-call .before .before .before .before .before .before .before .before .before in
     let was = at-start .pre .1 .1 in
-    let told = c .before .before .before .before .before .from .given in
-    let next = after B (at-start .args .cuts) (told .0 .0) (told .0 .1 .0) (told .0 .1 .1 .0) in
+    let told = c .before .before .before .before .before .hits .given in
+    let next = after B (at-start .args .cuts) (told .0 .1 .0) (told .0 .1 .1 .0) (told .0 .0) in
     let turned = rw (told .1) at (at-call .take-turn .ensures) in (
       omega (arith, at-start .pre .0, turned-less was next turned (c .before .before .if1 .left)),
       (at-start .pre .1 .0, turned-open was next turned refl),
@@ -200,8 +200,8 @@ b-step-returns-4 t c =
     let at-call = c .before .before .before .before .before .before .before .before .before .before .before .before in
     let at-start = at-call .before .before .before .before .before .before .before .before .before in
     let was = at-start .pre .1 .1 in
-    let told = c .before .before .before .before .before .before .before .before .from .given in
-    let next = after B (at-start .args .cuts) (told .0 .0) (told .0 .1 .0) (told .0 .1 .1 .0) in
+    let told = c .before .before .before .before .before .before .before .before .hits .given in
+    let next = after B (at-start .args .cuts) (told .0 .1 .0) (told .0 .1 .1 .0) (told .0 .0) in
     let turned = rw (told .1) at (at-call .take-turn .ensures) in
     let args = at-start .args in
     let step = c .before .before .a-step in
@@ -218,7 +218,7 @@ pub +a-step+b-step-spec : {M : Type 1} → statement M
     (a-step-add-most t)
     (a-step-take-turn-requires t)
     (a-step-enum-told t)
-    (a-step-enum-known-from t)
+    (a-step-enum-known-hits t)
     (a-step-same-length t)
     (a-step-returns t)
     (a-step-same-length-2 t)
@@ -235,7 +235,7 @@ pub +a-step+b-step-spec : {M : Type 1} → statement M
     (b-step-add-most t)
     (b-step-take-turn-requires t)
     (b-step-enum-told t)
-    (b-step-enum-known-from t)
+    (b-step-enum-known-hits t)
     (b-step-same-length t)
     (b-step-returns t)
     (b-step-same-length-2 t)

@@ -16,15 +16,15 @@ carry-found-requires c κs =
     let run = gathered .gather .ensures in
     (pre .0, (turn-ready (pre .1 .0) run (search needs), (run .run, pre .1 .1)))
 
-enum-known-set : tie.Need-enum-known-set
-enum-known-set c = search needs
+enum-known-count : tie.Need-enum-known-count
+enum-known-count c = search needs
 
 finish-requires : tie.Need-finish-requires
 finish-requires c κs =
     let called = c .before .before .before .before .before .before in
     let gathered = called .before .before .before .before in
     let pre = gathered .before .before .before .before .before .before .before .pre in
-    let held = rw (c .before .before .set .given .1) at (called .carry-found .ensures) in
+    let held = rw (c .before .before .count .given .1) at (called .carry-found .ensures) in
     ready-then (turn-ready (pre .1 .0) (gathered .gather .ensures) (search needs)) (held .0) (search needs) .from-good
 
 enum-told : tie.Need-enum-told
@@ -39,7 +39,7 @@ returns c =
     let called = finished .before .before .before .before .before .before .before in
     let gathered = called .before .before .before .before in
     let pre = gathered .before .before .before .before .before .before .before .pre in
-    let held = rw (finished .before .before .before .set .given .1) at (called .carry-found .ensures) in
+    let held = rw (finished .before .before .before .count .given .1) at (called .carry-found .ensures) in
     let carried-length = finished .before .before .before .before .before .before .work2 .given in
     turned (pre .1 .0) (gathered .gather .ensures) (search needs) held (finished .finish .ensures)
     (search (needs, carried-length)) (search needs)
@@ -61,7 +61,7 @@ take-turn-spec =
     (tie.spec
     gather-requires
     carry-found-requires
-    enum-known-set
+    enum-known-count
     finish-requires
     enum-told
     same-length
