@@ -262,8 +262,8 @@ pub extern "C" fn notchergrey_summary(
     0
 }
 
-// The text that the program prints for a script; `length` becomes its length, or the length that it needs and the buffer
-// does not have.
+// The text that the program prints for a script; `length` becomes its length, or the length that it needs where the
+// buffer is too short.
 #[no_mangle]
 pub extern "C" fn notchergrey_report(script: &[u8], text: &mut [u8], length: &mut usize) -> u32
     ensures { λ r. ⌜
