@@ -1,5 +1,4 @@
--- The lemmas that belong to no one function. Each file cites only those before it; Laws and Lists are for the crates
--- above.
+-- The lemmas that belong to no one function. Each file cites only those before it; Laws is for the crates above.
 pub mod Moving
 pub mod Membership
 pub mod Searching
@@ -7,4 +6,3 @@ pub mod Merging
 pub mod Rearranging
 pub mod Storing
 pub mod Laws
-pub mod Lists
