@@ -3,7 +3,7 @@
  * target/staticlib/libcapi.a. Link it behind your own objects: cc -Iinclude program.o target/staticlib/libcapi.a
  *
  * Every function returns 0, or the number of a refusal (below). None allocates memory, keeps a pointer or ends the
- * program; for reading, refining, carrying and the calls on tables a stack of 256 kB is enough. What holds of all:
+ * program. A stack of 256 kB is enough, and 512 kB for notchergrey_report. What holds of all:
  *
  * - A pointer followed by a length is a buffer of that many elements. With length 0 it may be null.
  * - Any other pointer must point to one number, or to the array that it names. It may not be null.
