@@ -3,11 +3,12 @@
 //!
 //!     cargo run --manifest-path bindings/rust/Cargo.toml --example print_table -- examples/two-matches.script
 
-use notchergrey::{read, refine_within, Refusal, Row};
+use notchergrey::{read, refine_within, Error, Row, LONGEST_SCRIPT};
 use std::env;
 use std::fmt::Write as _;
-use std::fs;
-use std::io::{self, Write as _};
+use std::fs::File;
+use std::io::{self, Read as _, Write as _};
+use std::path::Path;
 use std::process::ExitCode;
 
 /// The rows that the program makes room for.
@@ -19,9 +20,7 @@ fn main() -> ExitCode {
         eprintln!("usage: print_table SCRIPT");
         return ExitCode::from(2);
     };
-    let printed =
-        fs::read(&file).and_then(|script| io::stdout().write_all(text_of(&script).as_bytes()));
-    match printed {
+    match print(Path::new(&file)) {
         Ok(()) => ExitCode::SUCCESS,
         Err(error) => {
             eprintln!("{}: {error}", file.to_string_lossy());
@@ -30,15 +29,32 @@ fn main() -> ExitCode {
     }
 }
 
-/// The whole text, or the line of a refusal.
-fn text_of(script: &[u8]) -> String {
-    lines_of(script).unwrap_or_else(|refusal| {
+/// Prints the whole text, or the line of a refusal.
+fn print(file: &Path) -> Result<(), Box<dyn std::error::Error>> {
+    let script = beginning_of(file)?;
+    let text = lines_of(&script).or_else(|error| {
+        let refusal = error.refusal().ok_or(error)?;
         eprintln!("{refusal}");
-        format!("refused {} {}\n", refusal.number(), refusal.place())
-    })
+        Ok::<String, Error>(format!(
+            "refused {} {}\n",
+            refusal.number(),
+            refusal.place()
+        ))
+    })?;
+    io::stdout().write_all(text.as_bytes())?;
+    Ok(())
 }
 
-fn lines_of(script: &[u8]) -> Result<String, Refusal> {
+/// One byte more than any admitted script has is enough to refuse a longer one.
+fn beginning_of(file: &Path) -> io::Result<Vec<u8>> {
+    let mut script = Vec::new();
+    File::open(file)?
+        .take(LONGEST_SCRIPT as u64 + 1)
+        .read_to_end(&mut script)?;
+    Ok(script)
+}
+
+fn lines_of(script: &[u8]) -> Result<String, Error> {
     let read = read(script)?;
     let table = refine_within(script, ROWS)?;
     let summary = table.summary();

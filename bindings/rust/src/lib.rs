@@ -28,25 +28,39 @@
 //!     println!("match {}: {} letters from {} of A", row.number, row.length, row.left_a);
 //! }
 //! assert_eq!(table.summary().distinct, 7);
-//! # Ok::<(), notchergrey::Refusal>(())
+//! # Ok::<(), notchergrey::Error>(())
 //! ```
 //!
-//! What cannot be answered comes back as a [`Refusal`], which says in plain words what to do about it.
+//! What cannot be answered comes back as a [`Refusal`], which says in plain words what to do about it. [`refine`] and
+//! [`refine_within`] make room for the rows themselves, so that memory may end: they return an [`Error`], which a
+//! refusal turns into by `?`.
 //!
 //! The archive is written by `rt staticlib capi` to `target/staticlib` of the repository. If it lies elsewhere, the
-//! environment variable `NOTCHERGREY_STATICLIB` names its folder when this crate is built.
+//! environment variable `NOTCHERGREY_STATICLIB` names its folder when this crate is built; a relative one is seen from
+//! where cargo is started.
+//!
+//! # Stack
+//!
+//! The calls need no more than the main thread and the threads of the standard library have by default. A thread with a
+//! stack of 512 kB may call any of them, and one with 256 kB any but [`report`]: that takes 243 kB, refining, finding a
+//! match and carrying 108 kB, the summary 99 kB, reading 81 kB, whatever the input, as measured on x86-64. With less
+//! the program is aborted, as on any overflow of the stack.
 
 #![warn(missing_docs)]
 
 mod door;
+mod error;
 mod refining;
 mod refusal;
 mod report;
 mod script;
 mod table;
+mod word;
 
+pub use error::Error;
 pub use refining::{refine, refine_into, refine_within, WORK_NUMBERS};
-pub use refusal::{Refusal, Word};
+pub use refusal::Refusal;
 pub use report::report;
-pub use script::{carry, find_match, read, Match, Script, Side};
+pub use script::{carry, find_match, read, Match, Script, Side, LONGEST_SCRIPT};
 pub use table::{rows, rows_of, summary, Row, Rows, Summary, Table, CLASSES, ROW_NUMBERS};
+pub use word::Word;

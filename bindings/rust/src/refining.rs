@@ -1,12 +1,18 @@
 //! Refining: the piece table of a script, in memory of its own or in lent buffers.
 
 use crate::door;
-use crate::refusal::{Refusal, Word};
-use crate::script::read;
+use crate::error::Error;
+use crate::refusal::Refusal;
+use crate::script::{letters, read};
 use crate::table::{Table, ROW_NUMBERS};
+use crate::word::Word;
+use std::mem::size_of;
 
 /// The numbers of work that refining needs for each row that the table has room for.
 pub const WORK_NUMBERS: usize = 4;
+
+/// The bytes that a row of room takes while a table is made: its numbers, and those of work.
+pub(crate) const ROW_BYTES: usize = (ROW_NUMBERS + WORK_NUMBERS) * size_of::<u32>();
 
 /// The rows that [`refine`] makes room for at first: as many as the program does.
 const FIRST_ROWS: usize = 3_000;
@@ -14,23 +20,24 @@ const FIRST_ROWS: usize = 3_000;
 /// The piece table of a script, however many rows it has.
 ///
 /// It makes room for 3,000 rows, and for twice as many as before as long as they are too few. This ends: a piece has at
-/// least one letter, so that no table needs more rows than the count of matches times the letters of the shorter
-/// sequence, and it never makes room for more. While it runs, a row of room takes 36 bytes, and beyond 3,000 there is
-/// room for less than twice the rows needed. Two matches can need nearly 2,000,000,000 rows, 72 GB: where scripts come
-/// from others, [`refine_within`] sets a limit.
+/// least one letter, so that no table has more rows than all matches together have letters, and it never makes room for
+/// more. While it runs, a row of room takes 36 bytes, and beyond 3,000 there is room for less than twice the rows that
+/// are needed. Two matches can need nearly 2,000,000,000 rows, 72 GB: where scripts come from others, [`refine_within`]
+/// sets a limit.
 ///
 /// ```
 /// let script = b"L\x05\0\0\0\x05\0\0\0D\0\0\0\0\0\0\0\0\x04\0\0\0D\0\0\0\0\x01\0\0\0\x04\0\0\0E";
 /// let table = notchergrey::refine(script)?;
 /// assert_eq!(table.len(), 8);
 /// assert!(table.rows().all(|row| row.length == 1));
-/// # Ok::<(), notchergrey::Refusal>(())
+/// # Ok::<(), notchergrey::Error>(())
 /// ```
 ///
 /// # Errors
 ///
-/// The refusals of [`read`], and 12 if there is no memory for the rows.
-pub fn refine(script: &[u8]) -> Result<Table, Refusal> {
+/// The refusals of [`read`], as [`Error::Refused`]; [`Error::OutOfMemory`] if the allocator has no room for the rows. A
+/// system that lends more memory than it has (Linux may) ends the program instead: only a limit is safe against that.
+pub fn refine(script: &[u8]) -> Result<Table, Error> {
     refine_within(script, usize::MAX)
 }
 
@@ -42,39 +49,39 @@ pub fn refine(script: &[u8]) -> Result<Table, Refusal> {
 ///
 /// let script = b"L\x05\0\0\0\x05\0\0\0D\0\0\0\0\0\0\0\0\x04\0\0\0D\0\0\0\0\x01\0\0\0\x04\0\0\0E";
 /// assert_eq!(refine_within(script, 8)?.len(), 8);
-/// assert_eq!(refine_within(script, 7).unwrap_err().word(), Word::TooManyPieces);
-/// # Ok::<(), notchergrey::Refusal>(())
+/// let refusal = refine_within(script, 7).unwrap_err().refusal();
+/// assert_eq!(refusal.map(|refusal| refusal.word()), Some(Word::TooManyPieces));
+/// # Ok::<(), notchergrey::Error>(())
 /// ```
 ///
 /// # Errors
 ///
-/// The refusals of [`read`], and 12 if the table has more rows, or if there is no memory for them.
-pub fn refine_within(script: &[u8], most_rows: usize) -> Result<Table, Refusal> {
-    let read = read(script)?;
-    let enough = read.matches.saturating_mul(read.p.min(read.q) as usize);
-    let most_rows = most_rows.min(enough);
+/// Those of [`refine`], and 12 as [`Error::Refused`] if the table has more rows than these.
+pub fn refine_within(script: &[u8], most_rows: usize) -> Result<Table, Error> {
+    let matches = read(script)?.matches;
+    let most_rows = most_rows.min(letters(script, matches));
     let mut room = FIRST_ROWS.min(most_rows);
     loop {
         match refine_with_room(script, room) {
-            Some(Err(refusal)) if refusal.word() == Word::TooManyPieces && room < most_rows => {
+            Err(Error::Refused(refusal))
+                if refusal.word() == Word::TooManyPieces && room < most_rows =>
+            {
                 room = room.saturating_mul(2).min(most_rows);
             }
-            Some(answer) => return answer,
-            None => return Err(Refusal::of_the_call(Word::TooManyPieces)),
+            answer => return answer,
         }
     }
 }
 
-/// None: there is no memory for so many rows.
-fn refine_with_room(script: &[u8], room: usize) -> Option<Result<Table, Refusal>> {
-    let mut numbers = zeros(room.checked_mul(ROW_NUMBERS)?)?;
-    let mut work = zeros(room.checked_mul(WORK_NUMBERS)?)?;
-    let refined = refine_into(script, &mut numbers, &mut work).map(<[u32]>::len);
-    Some(refined.map(|length| {
-        numbers.truncate(length);
-        numbers.shrink_to_fit();
-        Table::of_numbers(numbers)
-    }))
+fn refine_with_room(script: &[u8], rows: usize) -> Result<Table, Error> {
+    let room = |each| zeros(rows.checked_mul(each)?);
+    let (Some(mut numbers), Some(mut work)) = (room(ROW_NUMBERS), room(WORK_NUMBERS)) else {
+        return Err(Error::OutOfMemory { rows });
+    };
+    let length = refine_into(script, &mut numbers, &mut work)?.len();
+    numbers.truncate(length);
+    numbers.shrink_to_fit();
+    Ok(Table::of_numbers(numbers))
 }
 
 /// None: there is no memory for so many numbers.

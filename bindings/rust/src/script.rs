@@ -3,6 +3,14 @@
 use crate::door;
 use crate::refusal::Refusal;
 
+/// No longer script is admitted, and the first 26,635 bytes of a longer one decide how it is refused: whoever reads a
+/// script from a file needs no more of it.
+pub const LONGEST_SCRIPT: usize = 26_634;
+
+/// The bytes of the lengths, which come first, and of a match, whose last operand is its length.
+const LENGTHS_BYTES: usize = 9;
+const MATCH_BYTES: usize = 13;
+
 /// What a script says beside its matches.
 #[derive(Clone, Copy, Debug, PartialEq, Eq, Hash)]
 pub struct Script {
@@ -93,4 +101,14 @@ pub fn find_match(script: &[u8], number: u32) -> Result<Match, Refusal> {
 /// The refusals of [`find_match`], and 14 for a position that the match does not span on this side.
 pub fn carry(script: &[u8], number: u32, side: Side, position: u32) -> Result<u32, Refusal> {
     door::carry(script, number, side, position)
+}
+
+/// The letters of all matches together, of a script that is admitted and has so many.
+pub(crate) fn letters(script: &[u8], matches: usize) -> usize {
+    let commands = script[LENGTHS_BYTES..].chunks_exact(MATCH_BYTES);
+    let lengths = commands.take(matches).map(|command| {
+        let last = command.last_chunk().expect("a match has 13 bytes");
+        u32::from_le_bytes(*last) as usize
+    });
+    lengths.fold(0, usize::saturating_add)
 }

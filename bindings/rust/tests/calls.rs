@@ -1,33 +1,10 @@
-//! The calls on scripts and tables that the documentation does not show: growing, edges, and every refusal.
+//! The calls on scripts and tables that the documentation does not show: growing and edges.
 
-use notchergrey::{carry, find_match, read, refine, refine_into, refine_within, rows_of, Refusal};
+mod scripts;
+
+use notchergrey::{carry, read, refine, refine_into, refine_within, report, rows_of, Error};
 use notchergrey::{Row, Script, Side, Word, CLASSES, ROW_NUMBERS, WORK_NUMBERS};
-use std::error::Error;
-
-fn command(letter: u8, operands: &[u32]) -> Vec<u8> {
-    let numbers = operands.iter().flat_map(|number| number.to_le_bytes());
-    std::iter::once(letter).chain(numbers).collect()
-}
-
-/// Lengths, matches by their letter and operands, end.
-fn script(p: u32, q: u32, matches: &[(u8, [u32; 3])]) -> Vec<u8> {
-    let mut bytes = command(b'L', &[p, q]);
-    for (letter, operands) in matches {
-        bytes.extend(command(*letter, operands));
-    }
-    bytes.push(b'E');
-    bytes
-}
-
-/// Two matches one letter apart are cut into their letters, twice so many rows.
-fn zigzag(letters: u32) -> Vec<u8> {
-    let matches = [(b'D', [0, 0, letters]), (b'D', [0, 1, letters])];
-    script(letters + 1, letters + 1, &matches)
-}
-
-fn run_of_the_specification() -> Vec<u8> {
-    script(10, 10, &[(b'D', [0, 0, 6]), (b'R', [2, 3, 5])])
-}
+use scripts::{run_of_the_specification, script, zigzag, LONG};
 
 #[test]
 fn the_room_grows_until_the_table_fits() {
@@ -46,16 +23,18 @@ fn a_limit_of_rows_is_met_exactly() {
     for letters in [16, 1_500, 4_000] {
         let rows = 2 * letters as usize;
         assert_eq!(refine_within(&zigzag(letters), rows).unwrap().len(), rows);
-        let refusal = refine_within(&zigzag(letters), rows - 1).unwrap_err();
+        let Err(Error::Refused(refusal)) = refine_within(&zigzag(letters), rows - 1) else {
+            panic!("{rows} rows");
+        };
         assert_eq!((refusal.word(), refusal.place()), (Word::TooManyPieces, 0));
     }
 }
 
 #[test]
 fn no_match_gives_no_row() {
-    let script = script(1_000_000_000, 1, &[]);
+    let script = script(LONG, 1, &[]);
     let read_script = Script {
-        p: 1_000_000_000,
+        p: LONG,
         q: 1,
         matches: 0,
     };
@@ -113,57 +92,16 @@ fn a_position_goes_there_and_back() {
     }
 }
 
-/// A call for each refusal, with the place that it has.
-fn refusals() -> Vec<(Word, usize, Refusal)> {
-    let good = run_of_the_specification();
-    let cut = &good[..good.len() - 1];
-    let with = |more: &[u8]| [cut, more].concat();
-    let of_match = |operands: [u32; 3]| read(&with(&command(b'D', &operands))).unwrap_err();
-    let many = script(9, 9, &[(b'D', [0, 0, 1]); 2_049]);
-    let at = cut.len();
-    let refined =
-        |table: &mut [u32], work: &mut [u32]| refine_into(&good, table, work).unwrap_err();
-    vec![
-        (Word::Headless, 0, read(&[]).unwrap_err()),
-        (Word::UnknownCommand, at, read(&with(b"X")).unwrap_err()),
-        (Word::CutShort, at, read(cut).unwrap_err()),
-        (Word::SecondLengths, at, read(&with(b"L")).unwrap_err()),
-        (
-            Word::LengthOutOfRange,
-            0,
-            read(&script(0, 1, &[])).unwrap_err(),
-        ),
-        (Word::TooManyMatches, 26_633, read(&many).unwrap_err()),
-        (Word::EmptyMatch, at, of_match([0, 0, 0])),
-        (Word::BeyondA, at, of_match([1, 0, u32::MAX])),
-        (Word::BeyondB, at, of_match([0, 1, 10])),
-        (Word::Tail, at + 1, read(&with(b"EE")).unwrap_err()),
-        (Word::WorkTooShort, 0, refined(&mut [0; 40], &mut [0; 31])),
-        (Word::TooManyPieces, 0, refined(&mut [0; 39], &mut [0; 28])),
-        (Word::NoSuchMatch, 0, find_match(&good, 3).unwrap_err()),
-        (
-            Word::OffTheMatch,
-            0,
-            carry(&good, 2, Side::A, 8).unwrap_err(),
-        ),
-    ]
-}
-
 #[test]
-fn every_refusal_says_its_word_number_and_place() {
-    for (number, (word, place, refusal)) in (1..).zip(refusals()) {
-        assert_eq!((refusal.word(), refusal.place()), (word, place));
-        assert_eq!(refusal.number(), number);
-        let error: Box<dyn Error> = Box::new(refusal);
-        let text = error.to_string();
-        assert!(
-            text.contains(&format!("refused as {word} ({number})")),
-            "{text}"
-        );
-        assert_eq!(
-            text.contains(&format!("at byte {place}")),
-            number <= 10,
-            "{text}"
-        );
-    }
+fn the_text_is_that_of_the_program() {
+    let short = include_bytes!("../../../examples/two-matches.script");
+    assert_eq!(
+        report(short),
+        include_str!("../../../examples/two-matches.txt")
+    );
+    let long = include_bytes!("../../../examples/2048-matches.script");
+    assert_eq!(
+        report(long),
+        include_str!("../../../examples/2048-matches.txt")
+    );
 }

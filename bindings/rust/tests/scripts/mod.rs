@@ -1,0 +1,35 @@
+//! Scripts for the tests.
+
+#![allow(dead_code)] // no test needs all of them
+
+pub const LONG: u32 = 1_000_000_000;
+
+pub fn command(letter: u8, operands: &[u32]) -> Vec<u8> {
+    let numbers = operands.iter().flat_map(|number| number.to_le_bytes());
+    std::iter::once(letter).chain(numbers).collect()
+}
+
+/// Lengths, matches by their letter and operands, end.
+pub fn script(p: u32, q: u32, matches: &[(u8, [u32; 3])]) -> Vec<u8> {
+    let mut bytes = command(b'L', &[p, q]);
+    for (letter, operands) in matches {
+        bytes.extend(command(*letter, operands));
+    }
+    bytes.push(b'E');
+    bytes
+}
+
+/// Two matches one letter apart are cut into their letters, twice so many rows.
+pub fn zigzag(letters: u32) -> Vec<u8> {
+    let matches = [(b'D', [0, 0, letters]), (b'D', [0, 1, letters])];
+    script(LONG, LONG, &matches)
+}
+
+/// Eight rows.
+pub fn run_of_the_specification() -> Vec<u8> {
+    script(10, 10, &[(b'D', [0, 0, 6]), (b'R', [2, 3, 5])])
+}
+
+pub fn many_matches(count: usize) -> Vec<u8> {
+    script(LONG, LONG, &vec![(b'D', [0, 0, 1]); count])
+}
