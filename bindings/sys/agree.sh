@@ -4,7 +4,8 @@
 # with a line for each name, parameter and result; what has no such words differs.
 #
 # It reads texts alone. So it does not see whether the archive was made from these doors, nor anything that a type does
-# not say: how long a buffer must be, what may be null, the numbers of the refusals.
+# not say: how long a buffer must be, what may be null, the numbers of the refusals. Those numbers are held by runs, see
+# bindings/test.sh.
 set -euo pipefail
 cd "$(dirname "${BASH_SOURCE[0]}")/../.."
 export LC_ALL=C

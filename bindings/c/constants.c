@@ -1,0 +1,282 @@
+/*
+ * Holds the numbers of include/notchergrey.h to the library. Each refusal is provoked, by a script or a call made for
+ * it, through every door that can give it, and what comes back is compared with the constant by its name; each size is
+ * tried at its edge. Prints the name and number of each constant that held, one in a line, and ends with 1 at the first
+ * that does not.
+ */
+#include "notchergrey.h"
+
+#include <inttypes.h>
+#include <stdio.h>
+#include <stdlib.h>
+#include <string.h>
+
+/* What a script is made of, in bytes, and its limits. Nothing here is taken from the header. */
+#define LENGTHS_BYTES 9
+#define MATCH_BYTES 13
+#define MOST_MATCHES 2048
+#define MOST_LETTERS UINT32_C(1000000000)
+
+static uint8_t script[LENGTHS_BYTES + (MOST_MATCHES + 1) * MATCH_BYTES + 1];
+static size_t script_len;
+
+/* Room for the eight rows of two_matches. */
+#define ROWS 8
+#define TABLE_LEN (ROWS * NOTCHERGREY_ROW_NUMBERS)
+#define WORK_LEN (ROWS * NOTCHERGREY_WORK_NUMBERS)
+static uint32_t table[TABLE_LEN], work[WORK_LEN];
+
+/* A refusal that a call must give. */
+struct refusal {
+    const char *name;
+    uint32_t number;
+    size_t place;
+};
+#define REFUSAL(name, place) ((struct refusal){#name, name, place})
+
+/* What `place` holds before a call, so that one that sets no place is seen. */
+#define NOWHERE SIZE_MAX
+
+static void put(uint8_t byte)
+{
+    script[script_len++] = byte;
+}
+
+static void put_number(uint32_t number)
+{
+    for (int bits = 0; bits < 32; bits += 8)
+        put((uint8_t)(number >> bits & 255));
+}
+
+/* Begins a script. */
+static void lengths(uint32_t p, uint32_t q)
+{
+    script_len = 0;
+    put('L');
+    put_number(p);
+    put_number(q);
+}
+
+static void match(char command, uint32_t left_a, uint32_t left_b, uint32_t length)
+{
+    put((uint8_t)command);
+    put_number(left_a);
+    put_number(left_b);
+    put_number(length);
+}
+
+static void two_matches(void)
+{
+    lengths(10, 10);
+    match('D', 0, 0, 6);
+    match('R', 2, 3, 5);
+}
+
+static void many_matches(int count)
+{
+    lengths(MOST_LETTERS, MOST_LETTERS);
+    for (int at = 0; at < count; at++)
+        match('D', 0, 0, 1);
+}
+
+static void ensure(int holds, const char *name, const char *what)
+{
+    if (!holds) {
+        fprintf(stderr, "constants: %s does not hold: %s\n", name, what);
+        exit(1);
+    }
+}
+
+static void held(const char *name, uint32_t number)
+{
+    printf("%s %" PRIu32 "\n", name, number);
+}
+#define HELD(name) held(#name, name)
+
+static void ensure_refused(struct refusal wanted, uint32_t number, size_t place, const char *door)
+{
+    ensure(number == wanted.number && place == wanted.place, wanted.name, door);
+}
+
+static void refused_by_read(struct refusal wanted)
+{
+    size_t place = NOWHERE, count;
+    uint32_t p, q;
+    const uint32_t number = notchergrey_read(script, script_len, &place, &p, &q, &count);
+    ensure_refused(wanted, number, place, "notchergrey_read");
+}
+
+static void refused_by_match(struct refusal wanted, uint32_t of)
+{
+    size_t place = NOWHERE;
+    uint32_t left_a, left_b, length, reversed;
+    const uint32_t number = notchergrey_match(script, script_len, of, &place, &left_a, &left_b, &length, &reversed);
+    ensure_refused(wanted, number, place, "notchergrey_match");
+}
+
+static void refused_by_refine(struct refusal wanted, size_t table_len, size_t work_len)
+{
+    size_t place = NOWHERE, rows;
+    const uint32_t number = notchergrey_refine(script, script_len, table, table_len, work, work_len, &place, &rows);
+    ensure_refused(wanted, number, place, "notchergrey_refine");
+}
+
+static void refused_by_carry(struct refusal wanted, uint32_t of, uint32_t position)
+{
+    size_t place = NOWHERE;
+    uint32_t carried;
+    uint32_t number = notchergrey_carry_from_a(script, script_len, of, position, &place, &carried);
+    ensure_refused(wanted, number, place, "notchergrey_carry_from_a");
+    place = NOWHERE;
+    number = notchergrey_carry_from_b(script, script_len, of, position, &place, &carried);
+    ensure_refused(wanted, number, place, "notchergrey_carry_from_b");
+}
+
+/* Every door that reads a script refuses this one alike. */
+static void refused_script(struct refusal wanted)
+{
+    refused_by_read(wanted);
+    refused_by_match(wanted, 1);
+    refused_by_refine(wanted, TABLE_LEN, WORK_LEN);
+    refused_by_carry(wanted, 1, 0);
+    held(wanted.name, wanted.number);
+}
+
+static void hold_refusals_of_scripts(void)
+{
+    const size_t first = LENGTHS_BYTES, second = first + MATCH_BYTES, third = second + MATCH_BYTES;
+
+    script_len = 0;
+    refused_script(REFUSAL(NOTCHERGREY_HEADLESS, 0));
+
+    two_matches();
+    put('X');
+    refused_script(REFUSAL(NOTCHERGREY_UNKNOWN_COMMAND, third));
+
+    two_matches();
+    refused_script(REFUSAL(NOTCHERGREY_CUT_SHORT, third));
+
+    two_matches();
+    put('L');
+    refused_script(REFUSAL(NOTCHERGREY_SECOND_LENGTHS, third));
+
+    lengths(10, MOST_LETTERS + 1);
+    refused_script(REFUSAL(NOTCHERGREY_LENGTH_OUT_OF_RANGE, 0));
+
+    many_matches(MOST_MATCHES + 1);
+    refused_script(REFUSAL(NOTCHERGREY_TOO_MANY_MATCHES, first + MOST_MATCHES * MATCH_BYTES));
+
+    two_matches();
+    match('D', 0, 0, 0);
+    refused_script(REFUSAL(NOTCHERGREY_EMPTY_MATCH, third));
+
+    lengths(10, 20);
+    match('D', 5, 5, 6);
+    refused_script(REFUSAL(NOTCHERGREY_BEYOND_A, first));
+
+    lengths(20, 10);
+    match('D', 5, 5, 6);
+    refused_script(REFUSAL(NOTCHERGREY_BEYOND_B, first));
+
+    two_matches();
+    put('E');
+    put('E');
+    refused_script(REFUSAL(NOTCHERGREY_TAIL, third + 1));
+}
+
+/* With the numbers that the two sizes say, neither more nor less. */
+static void hold_refining(void)
+{
+    size_t place = NOWHERE, rows = 0;
+    two_matches();
+    put('E');
+    const uint32_t number = notchergrey_refine(script, script_len, table, TABLE_LEN, work, WORK_LEN, &place, &rows);
+    ensure(number == 0 && rows == ROWS, "NOTCHERGREY_ROW_NUMBERS or NOTCHERGREY_WORK_NUMBERS", "eight rows");
+
+    refused_by_refine(REFUSAL(NOTCHERGREY_WORK_TOO_SHORT, 0), TABLE_LEN, WORK_LEN - 1);
+    HELD(NOTCHERGREY_WORK_TOO_SHORT);
+    HELD(NOTCHERGREY_WORK_NUMBERS);
+
+    refused_by_refine(REFUSAL(NOTCHERGREY_TOO_MANY_PIECES, 0), TABLE_LEN - 1, WORK_LEN);
+    HELD(NOTCHERGREY_TOO_MANY_PIECES);
+    HELD(NOTCHERGREY_ROW_NUMBERS);
+}
+
+static void hold_refusals_of_carrying(void)
+{
+    const uint32_t none[] = {0, 3};
+    two_matches();
+    put('E');
+    for (int at = 0; at < 2; at++) {
+        refused_by_match(REFUSAL(NOTCHERGREY_NO_SUCH_MATCH, 0), none[at]);
+        refused_by_carry(REFUSAL(NOTCHERGREY_NO_SUCH_MATCH, 0), none[at], 3);
+    }
+    HELD(NOTCHERGREY_NO_SUCH_MATCH);
+
+    refused_by_carry(REFUSAL(NOTCHERGREY_OFF_THE_MATCH, 0), 2, 9);
+    HELD(NOTCHERGREY_OFF_THE_MATCH);
+}
+
+/* One byte fewer than the text has, and then as many as it has. */
+static void hold_reporting(void)
+{
+    static const char wanted[] = "refused 1 0\n";
+    const size_t wanted_len = sizeof wanted - 1;
+    uint8_t text[sizeof wanted];
+    size_t length = 0;
+    script_len = 0;
+    ensure(notchergrey_report(script, script_len, text, wanted_len - 1, &length) == NOTCHERGREY_BUFFER_TOO_SHORT &&
+               length == wanted_len,
+           "NOTCHERGREY_BUFFER_TOO_SHORT", "a byte too few");
+    ensure(notchergrey_report(script, script_len, text, wanted_len, &length) == 0 && length == wanted_len &&
+               memcmp(text, wanted, wanted_len) == 0,
+           "NOTCHERGREY_BUFFER_TOO_SHORT", "as many bytes as the text has");
+    HELD(NOTCHERGREY_BUFFER_TOO_SHORT);
+}
+
+/* Lengths from 2^29 on, below 2^30, are in the last class, and none is written behind it. */
+static void hold_classes(void)
+{
+    const uint32_t rows[] = {1, 0, 0, 536870912, 0, 2, 0, 0, 1073741823, 0, 3, 0, 0, 1073741824, 0};
+    enum { BEHIND = 64 };
+    size_t pieces, distinct, classes[NOTCHERGREY_CLASSES + BEHIND];
+    uint64_t letters;
+    for (size_t at = 0; at < NOTCHERGREY_CLASSES + BEHIND; at++)
+        classes[at] = 7;
+    notchergrey_summary(rows, sizeof rows / sizeof *rows, &pieces, &distinct, &letters, classes);
+    for (size_t at = 0; at < NOTCHERGREY_CLASSES + BEHIND; at++) {
+        const size_t wanted = at >= NOTCHERGREY_CLASSES ? 7 : at == NOTCHERGREY_CLASSES - 1 ? 2 : 0;
+        ensure(classes[at] == wanted, "NOTCHERGREY_CLASSES", "the last class");
+    }
+    HELD(NOTCHERGREY_CLASSES);
+}
+
+/* It passes, no other script is longer, and a byte more is enough to see that one is. */
+static void hold_longest_script(void)
+{
+    size_t place = NOWHERE, count = 0;
+    uint32_t p, q;
+    many_matches(MOST_MATCHES);
+    put('E');
+    ensure(notchergrey_read(script, script_len, &place, &p, &q, &count) == 0 && count == MOST_MATCHES &&
+               script_len == NOTCHERGREY_LONGEST_SCRIPT,
+           "NOTCHERGREY_LONGEST_SCRIPT", "2,048 matches");
+
+    many_matches(MOST_MATCHES + 1);
+    put('E');
+    refused_by_read(REFUSAL(NOTCHERGREY_TOO_MANY_MATCHES, NOTCHERGREY_LONGEST_SCRIPT - 1));
+    script_len = NOTCHERGREY_LONGEST_SCRIPT + 1;
+    refused_by_read(REFUSAL(NOTCHERGREY_TOO_MANY_MATCHES, NOTCHERGREY_LONGEST_SCRIPT - 1));
+    HELD(NOTCHERGREY_LONGEST_SCRIPT);
+}
+
+int main(void)
+{
+    hold_refusals_of_scripts();
+    hold_refining();
+    hold_refusals_of_carrying();
+    hold_reporting();
+    hold_classes();
+    hold_longest_script();
+    return 0;
+}
