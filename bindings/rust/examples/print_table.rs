@@ -32,15 +32,13 @@ fn main() -> ExitCode {
 /// Prints the whole text, or the line of a refusal.
 fn print(file: &Path) -> Result<(), Box<dyn std::error::Error>> {
     let script = beginning_of(file)?;
-    let text = lines_of(&script).or_else(|error| {
-        let refusal = error.refusal().ok_or(error)?;
-        eprintln!("{refusal}");
-        Ok::<String, Error>(format!(
-            "refused {} {}\n",
-            refusal.number(),
-            refusal.place()
-        ))
-    })?;
+    let text = match lines_of(&script) {
+        Err(Error::Refused(refusal)) => {
+            eprintln!("{refusal}");
+            format!("refused {} {}\n", refusal.number(), refusal.place())
+        }
+        lines => lines?,
+    };
     io::stdout().write_all(text.as_bytes())?;
     Ok(())
 }

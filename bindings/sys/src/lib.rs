@@ -1,8 +1,8 @@
 //! The doors of the archive libcapi.a, declared, and nothing else. `build.rs` links the archive; whoever calls a door
 //! says why that is safe.
 //!
-//! Each declaration mirrors one of `include/notchergrey.h`, which says what the door needs and does: the same names and
-//! types in the same order. `agree.sh` holds them to it.
+//! Each declaration mirrors one of `include/notchergrey.h`, which says what the door needs and does, alignment and stack
+//! included: the same names and types in the same order. `agree.sh` holds them to it.
 
 #![no_std]
 
