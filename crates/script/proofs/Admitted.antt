@@ -5,7 +5,7 @@
 --     admitted-short          an admitted script has at most 26,634 bytes
 -- Assumes nothing.
 use Prim.Native.Nat.{ℕ, _+_, _-_, _≤_}
-use mathlib.Core.Path.{_≡_, refl, sym, ap, subst, _∙_}
+use mathlib.Core.Path.{_≡_, refl, sym, ap, _∙_}
 use mathlib.Core.Bool.{false}
 use mathlib.Core.List.{List, map, List·Memᴰ}
 use native.Mathlib.Omega.{arith}
@@ -13,12 +13,13 @@ use lib.ListN.{length, take, replicate, length-map}
 use lib.Seq.{take-at}
 use Rattle.script.specs.Limits.{mostMatches, longestScript}
 use Rattle.script.specs.Reading.{Reading, admitted, refused, readScript, column, scriptOf}
+use Rattle.script.specs.Answers.{value, contents}
 use Rattle.script.specs.Outcomes.{InRange, Within, Reach, Outcome}
 use Rattle.script.specs.declared.refusal.Refusal.{Refusal}
 use Rattle.script.specs.declared.command.Match.{Match}
 use Rattle.script.specs.declared.Verdict.{Verdict}
 use Rattle.script.specs.declared.Script.{Script}
-use Rattle.script.proofs.Outcome.{reach-place, reach-within, reach-range, outcome-stated}
+use Rattle.script.proofs.Outcome.{reach-place, reach-within, reach-range, read-outcome}
 
 -- the end behind the good commands of an admitted script
 record Ended (s : List ℕ) (p q : ℕ) (ms : List Match) : Type 0 where
@@ -26,11 +27,11 @@ record Ended (s : List ℕ) (p q : ℕ) (ms : List Match) : Type 0 where
   reach : Reach s p q at ms
   end : at + 1 ≡ length s
 
-ended : {s : List ℕ} {p q : ℕ} {ms : List Match} → Outcome s (admitted p q ms) → Ended s p q ms
+ended : {s : List ℕ} {p q : ℕ} {ms : List Match} → Outcome s (value (contents p q ms)) → Ended s p q ms
 ended (Outcome.is-admitted {at} r b e) = record { at = at; reach = r; end = e }
 
 admitted-ended : {s : List ℕ} {p q : ℕ} {ms : List Match} → readScript s ≡ admitted p q ms → Ended s p q ms
-admitted-ended {s} e = ended (subst (Outcome s) e (outcome-stated s))
+admitted-ended e = ended (read-outcome e)
 
 pub admitted-short : (s : List ℕ) {p q : ℕ} {ms : List Match} → readScript s ≡ admitted p q ms
     → length s ≤ longestScript

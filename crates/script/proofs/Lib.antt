@@ -1,6 +1,7 @@
 pub mod Tests
 pub mod Seen
 pub mod Judged
+pub mod Named
 pub mod Outcome
 pub mod Progress
 pub mod Prefix

@@ -16,9 +16,11 @@ use lib.ListN.{length, take, length-take}
 use lib.Seq.{getD-take, take-all}
 use Rattle.script.specs.Limits.{mostMatches, longestScript}
 use Rattle.script.specs.Commands.{numberAt}
-use Rattle.script.specs.Reading.{Reading, readScript}
+use Rattle.script.specs.Reading.{readScript}
+use Rattle.script.specs.Answers.{Answer, Contents}
 use Rattle.script.specs.Outcomes.{Byte, MatchByte, MatchAt, LengthsAt, Reach, opened, taken, Short, Outcome}
 use Rattle.script.specs.declared.command.Match.{Match}
+use Rattle.script.proofs.Named.{answer-inj}
 use Rattle.script.proofs.Outcome.{reach-place, outcome-stated, outcome-alone}
 
 number-take : (n : ℕ) (s : List ℕ) (k : ℕ) → k + 4 ≤ n → numberAt (take n s) k ≡ numberAt s k
@@ -79,7 +81,7 @@ module _ {s : List ℕ} (n : ℕ) (long : n < length s) (enough : longestScript 
   short-take (Short.pairing r room b h) = absurd (omega (arith, reach-place r))
   short-take (Short.ran-out r e) = absurd (omega (arith, before-end r))
 
-  outcome-take : {r : Reading} → Outcome s r → Outcome (take n s) r
+  outcome-take : {a : Answer Contents} → Outcome s a → Outcome (take n s) a
   outcome-take (Outcome.headless (inl e)) = absurd (omega arith)
   outcome-take (Outcome.headless (inr x)) = Outcome.headless (inr (λ e. x (sym (getD-take n s 0 0 (omega arith)) ∙ e)))
   outcome-take (Outcome.unknown-command {at} r h n1 n2 n3 n4) =
@@ -103,5 +105,6 @@ pub prefix-decides : (s : List ℕ) → readScript (take (longestScript + 1) s) 
 prefix-decides s =
     elim (decLe (length s) (longestScript + 1)) [
       | yes h ↦ rw (take-all (longestScript + 1) s h)
-      | no h ↦ outcome-alone (outcome-take (longestScript + 1) (lt-of-not-le h) (omega arith) (outcome-stated s))
+      | no h ↦ answer-inj _ _
+          (outcome-alone (outcome-take (longestScript + 1) (lt-of-not-le h) (omega arith) (outcome-stated s)))
     ]

@@ -1,8 +1,9 @@
 -- 01's table of refusals a second time, as a relation: a constructor for each row that reading can meet, with the row's
--- condition, and one for an admitted script. `proofs/Outcome` shows that exactly one applies to each string of bytes,
--- and that it is what `readScript` computes. TO READ beside 01, "Refused scripts and calls".
+-- condition, its number and its place, and one for an admitted script. All numbers are 01's, written out. `proofs/Outcome`
+-- shows that exactly one applies to each string of bytes, and that it is what `readScript` computes. TO READ beside 01,
+-- "Refused scripts and calls".
 --     Reach s p q at ms     good commands alone stand before the offset at: lengths p q, then the matches ms
---     Outcome s r           the reading of the bytes s may be r
+--     Outcome s a           the answer to the bytes s may be a
 -- Assumes nothing.
 use Prim.Native.Nat.{ℕ, _+_, _≤_, _<_}
 use mathlib.Core.Path.{_≡_}
@@ -10,12 +11,8 @@ use mathlib.Core.Logic.{_≢_, _⊎_}
 use mathlib.Core.Bool.{Bool, true, false}
 use mathlib.Core.List.{List, [], _∷_, _++_}
 use lib.ListN.{length, getD}
-use Rattle.script.specs.Limits.{longest, mostMatches}
 use Rattle.script.specs.Commands.{numberAt}
-use Rattle.script.specs.Reading.{Reading, admitted, refused}
-use Rattle.script.specs.declared.refusal.Refusal.the-variants.{Headless, UnknownCommand, CutShort, SecondLengths}
-use Rattle.script.specs.declared.refusal.Refusal.the-variants.{LengthOutOfRange, TooManyMatches, EmptyMatch}
-use Rattle.script.specs.declared.refusal.Refusal.the-variants.{BeyondA, BeyondB, Tail}
+use Rattle.script.specs.Answers.{Answer, value, refusal, Contents, contents}
 use Rattle.script.specs.declared.command.Match.{Match}
 
 -- ---- what stands at an offset
@@ -50,7 +47,7 @@ pub record LengthsAt (s : List ℕ) (p q : ℕ) : Type 0 where
 -- "p and q are 1 to 1,000,000,000."
 pub record InRange (n : ℕ) : Type 0 where
   pub some : 1 ≤ n
-  pub few : n ≤ longest
+  pub few : n ≤ 1_000_000_000
 
 -- at least one letter, and none beyond A or B
 pub record Within (p q : ℕ) (m : Match) : Type 0 where
@@ -58,10 +55,10 @@ pub record Within (p q : ℕ) (m : Match) : Type 0 where
   pub in-a : m .«left_a» + m .length ≤ p
   pub in-b : m .«left_b» + m .length ≤ q
 
--- good commands alone stand before the offset
+-- good commands alone stand before the offset; "A script has 0 to 2,048 matches."
 pub data Reach (s : List ℕ) (p q : ℕ) : ℕ → List Match → Type 0 where
   opened : LengthsAt s p q → InRange p → InRange q → Reach s p q 9 []
-  taken : {at : ℕ} {ms : List Match} {m : Match} → Reach s p q at ms → length ms < mostMatches → MatchAt s at m
+  taken : {at : ℕ} {ms : List Match} {m : Match} → Reach s p q at ms → length ms < 2048 → MatchAt s at m
       → Within p q m
       → Reach s p q (at + 13) (ms ++ m ∷ [])
 
@@ -70,40 +67,40 @@ pub data Reach (s : List ℕ) (p q : ℕ) : ℕ → List Match → Type 0 where
 -- "operands incomplete, or bytes run out before 45"; the place is the command's offset, or the script's length
 pub data Short (s : List ℕ) : ℕ → Type 0 where
   lengths : Byte s 0 0x4C → length s < 9 → Short s 0
-  pairing : {p q at : ℕ} {ms : List Match} {way : Bool} → Reach s p q at ms → length ms < mostMatches
+  pairing : {p q at : ℕ} {ms : List Match} {way : Bool} → Reach s p q at ms → length ms < 2048
       → MatchByte s at way
       → length s < at + 13 → Short s at
   ran-out : {p q at : ℕ} {ms : List Match} → Reach s p q at ms → at ≡ length s → Short s at
 
-pub data Outcome (s : List ℕ) : Reading → Type 0 where
+pub data Outcome (s : List ℕ) : Answer Contents → Type 0 where
   -- 1: empty, or first byte isn't 4C
-  headless : (length s ≡ 0) ⊎ (getD s 0 0 ≢ 0x4C) → Outcome s (refused Headless)
+  headless : (length s ≡ 0) ⊎ (getD s 0 0 ≢ 0x4C) → Outcome s (refusal 1 0)
   -- 2: a later command byte isn't 4C, 44, 52 or 45
   unknown-command : {p q at : ℕ} {ms : List Match} → Reach s p q at ms → at < length s → getD s at 0 ≢ 0x4C
-      → getD s at 0 ≢ 0x44 → getD s at 0 ≢ 0x52 → getD s at 0 ≢ 0x45 → Outcome s (refused (UnknownCommand at))
+      → getD s at 0 ≢ 0x44 → getD s at 0 ≢ 0x52 → getD s at 0 ≢ 0x45 → Outcome s (refusal 2 at)
   -- 3: operands incomplete, or bytes run out before 45
-  cut-short : {at : ℕ} → Short s at → Outcome s (refused (CutShort at))
+  cut-short : {at : ℕ} → Short s at → Outcome s (refusal 3 at)
   -- 4: 4C again
   second-lengths : {p q at : ℕ} {ms : List Match} → Reach s p q at ms → Byte s at 0x4C
-      → Outcome s (refused (SecondLengths at))
+      → Outcome s (refusal 4 at)
   -- 5: p or q is 0 or too large
-  length-out-of-range : {p q : ℕ} → LengthsAt s p q → (InRange p → InRange q → ⊥) → Outcome s (refused LengthOutOfRange)
+  length-out-of-range : {p q : ℕ} → LengthsAt s p q → (InRange p → InRange q → ⊥) → Outcome s (refusal 5 0)
   -- 6: the command of match 2,049
-  too-many-matches : {p q at : ℕ} {ms : List Match} {way : Bool} → Reach s p q at ms → length ms ≡ mostMatches
-      → MatchByte s at way → Outcome s (refused (TooManyMatches at))
+  too-many-matches : {p q at : ℕ} {ms : List Match} {way : Bool} → Reach s p q at ms → length ms ≡ 2048
+      → MatchByte s at way → Outcome s (refusal 6 at)
   -- 7: length 0
-  empty-match : {p q at : ℕ} {ms : List Match} {m : Match} → Reach s p q at ms → length ms < mostMatches
+  empty-match : {p q at : ℕ} {ms : List Match} {m : Match} → Reach s p q at ms → length ms < 2048
       → MatchAt s at m
-      → m .length ≡ 0 → Outcome s (refused (EmptyMatch at))
+      → m .length ≡ 0 → Outcome s (refusal 7 at)
   -- 8: left-A + length above p
-  beyond-a : {p q at : ℕ} {ms : List Match} {m : Match} → Reach s p q at ms → length ms < mostMatches → MatchAt s at m
-      → 1 ≤ m .length → p < m .«left_a» + m .length → Outcome s (refused (BeyondA at))
+  beyond-a : {p q at : ℕ} {ms : List Match} {m : Match} → Reach s p q at ms → length ms < 2048 → MatchAt s at m
+      → 1 ≤ m .length → p < m .«left_a» + m .length → Outcome s (refusal 8 at)
   -- 9: left-B + length above q
-  beyond-b : {p q at : ℕ} {ms : List Match} {m : Match} → Reach s p q at ms → length ms < mostMatches → MatchAt s at m
-      → 1 ≤ m .length → m .«left_a» + m .length ≤ p → q < m .«left_b» + m .length → Outcome s (refused (BeyondB at))
+  beyond-b : {p q at : ℕ} {ms : List Match} {m : Match} → Reach s p q at ms → length ms < 2048 → MatchAt s at m
+      → 1 ≤ m .length → m .«left_a» + m .length ≤ p → q < m .«left_b» + m .length → Outcome s (refusal 9 at)
   -- 10: bytes after 45, at the first of them
   tail : {p q at : ℕ} {ms : List Match} → Reach s p q at ms → Byte s at 0x45 → at + 1 < length s
-      → Outcome s (refused (Tail (at + 1)))
+      → Outcome s (refusal 10 (at + 1))
   -- no refusal: 45 is the last byte
   is-admitted : {p q at : ℕ} {ms : List Match} → Reach s p q at ms → Byte s at 0x45 → at + 1 ≡ length s
-      → Outcome s (admitted p q ms)
+      → Outcome s (value (contents p q ms))

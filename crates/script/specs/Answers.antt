@@ -1,0 +1,22 @@
+-- An answer in 01's words, the same for every call. TO READ: contracts mean what stands here.
+--     Answer X            a value of X, or a refusal's number and place
+--     Contents            what an admitted script holds: p, q and its matches in script order
+--     readingAnswer r     a reading in these words
+-- 01: "A refusal returns its number and a place."; "Where an answer is an enum, a definition gives this paper's number
+-- and values for each case of the enum." Assumes nothing.
+use Prim.Native.Nat.{ℕ}
+use mathlib.Core.List.{List}
+use Rattle.script.specs.Refusals.{numberOf, placeOf}
+use Rattle.script.specs.Reading.{Reading, admitted, refused}
+use Rattle.script.specs.declared.command.Match.{Match}
+
+pub data Answer (X : Type 0) : Type 0 where
+  value : X → Answer X
+  refusal : (number place : ℕ) → Answer X
+
+pub data Contents : Type 0 where
+  contents : (p q : ℕ) → List Match → Contents
+
+abbrev pub readingAnswer : Reading → Answer Contents
+readingAnswer (admitted p q ms) = value (contents p q ms)
+readingAnswer (refused r) = refusal (numberOf r) (placeOf r)
