@@ -7,3 +7,4 @@ pub mod Progress
 pub mod Prefix
 pub mod Admitted
 pub mod Found
+pub mod Demands

@@ -6,3 +6,4 @@ pub mod Reading
 pub mod Answers
 pub mod Outcomes
 pub mod Finding
+pub mod Demands

@@ -9,6 +9,7 @@ ghost use Prim.Native.Nat.{_<_};
 ghost use Rattle.script.specs.Limits.{mostMatches};
 ghost use Rattle.script.specs.Reading.{readScript};
 ghost use Rattle.script.specs.Finding.{findingOf, matchIn};
+ghost use Rattle.script.specs.Demands.{findingAnswer, FindingDemand};
 
 pub enum Finding {
     Found(Match),
@@ -35,6 +36,7 @@ fn match_in(read: Script, index: usize) -> Match
 // The match of this number, counted from 1; refused as the script is, or with 13.
 pub fn find_match(script: &[u8], number: u32) -> Finding
     ensures { λ r. ⌜ r ≡ findingOf (readScript (now (script .entry))) number ⌝ }
+    ensures { λ r. ⌜ FindingDemand (now (script .entry)) number (findingAnswer r) ⌝ }
 {
     let found = read(script);
     let verdict = found.verdict;

@@ -20,6 +20,7 @@ ghost use lib.ListN.{replicate};
 ghost use Rattle.script.specs.Limits.{mostMatches};
 ghost use Rattle.script.specs.Reading.{readScript, scriptOf, refused};
 ghost use Rattle.script.specs.Outcomes.{Reach};
+ghost use Rattle.script.specs.Demands.{ReadingDemand};
 
 pub enum Verdict {
     Admitted { p: u32, q: u32, count: usize },
@@ -97,6 +98,7 @@ fn read_matches(script: &[u8], p: u32, q: u32) -> Script
 // The reading of any string of bytes.
 pub fn read(script: &[u8]) -> Script
     ensures { λ r. ⌜ r ≡ scriptOf (readScript (now (script .entry))) ⌝ }
+    ensures { λ r. ⌜ ReadingDemand (now (script .entry)) r ⌝ }
 {
     match judge_opening(read_command(script)) {
         Opening::Refuse(refusal) => refused(refusal),

@@ -1,9 +1,11 @@
--- `read` meets its contract: the first command decides, or opens the loop. Assumes nothing.
+-- `read` meets its contract: the first command decides, or opens the loop. The demand follows from the equation.
+-- Assumes nothing.
 use borrow.Author.Needs.{needs}
 use mathlib.Core.Path.{sym, ap, _∙_}
 use Rattle.script.specs.Steps.{openingOf}
 use Rattle.script.specs.Reading.{scriptOf}
 use Rattle.script.proofs.Progress.{opening-reach, opening-refused}
+use Rattle.script.proofs.Demands.{reading-contract}
 use Rattle.script.proofs.read.Statement.{statement}
 use Rattle.script.proofs.read.Tie as tie
 
@@ -31,13 +33,14 @@ read-matches-requires c κs =
 returns : tie.Need-returns
 returns c =
     let called = c .before .before .before .before in
+    let bytes = called .before .before .before .args .script .now in
     let opening = ap openingOf (sym (called .before .read-command .ensures)) ∙ sym (called .judge-opening .ensures) in
-    c .refused .ensures ∙ ap scriptOf
-    (sym (opening-refused (called .before .before .before .args .script .now)
-    (opening ∙ c .before .before .refusal .given .1)))
+    reading-contract bytes
+    (c .refused .ensures ∙ ap scriptOf
+    (sym (opening-refused bytes (opening ∙ c .before .before .refusal .given .1))))
 
 returns-2 : tie.Need-returns-2
-returns-2 c = c .read-matches .ensures
+returns-2 c = reading-contract _ (c .read-matches .ensures)
 
 pub read-spec : {M : Type 1} → statement M
 read-spec =

@@ -1,10 +1,12 @@
--- `find_match` meets its contract: the verdict tells the reading, and the columns hold its matches. Assumes nothing.
+-- `find_match` meets its contract: the verdict tells the reading, and the columns hold its matches. The
+-- demand follows from the equation. Assumes nothing.
 use mathlib.Core.Path.{sym, ap, _∙_}
 use native.Mathlib.Omega.{arith}
 use borrow.Author.Needs.{needs}
 use Rattle.script.specs.declared.find.Finding.{Finding}
 use Rattle.script.proofs.Admitted.{holds-admitted, reading-refused}
 use Rattle.script.proofs.Found.{found-none-zero, found-none-above, found-held}
+use Rattle.script.proofs.Demands.{finding-contract}
 use Rattle.script.proofs.find.find_match.Statement.{statement}
 use Rattle.script.proofs.find.find_match.Tie as tie
 
@@ -21,15 +23,17 @@ returns : tie.Need-returns
 returns c =
     let told = c .before .before in
     let bytes = told .before .before .before .before .args .script .now in
-    let held = holds-admitted bytes (told .before .before .read .ensures) (told .verdict2 .given .1) in
-    rw (c .if1 .taken) (sym (found-none-zero held))
+    let held = holds-admitted bytes (told .before .before .read .ensures .0) (told .verdict2 .given .1) in
+    let number = told .before .before .before .before .args .number in
+    finding-contract bytes number (rw (c .if1 .taken) (sym (found-none-zero held)))
 
 returns-2 : tie.Need-returns-2
 returns-2 c =
     let told = c .before .before .before in
     let bytes = told .before .before .before .before .args .script .now in
-    let held = holds-admitted bytes (told .before .before .read .ensures) (told .verdict2 .given .1) in
-    sym (found-none-above held (told .before .before .before .before .args .number) (c .if2 .taken))
+    let held = holds-admitted bytes (told .before .before .read .ensures .0) (told .verdict2 .given .1) in
+    let number = told .before .before .before .before .args .number in
+    finding-contract bytes number (sym (found-none-above held number (c .if2 .taken)))
 
 sub-match-in : tie.Need-sub-match-in
 sub-match-in c = search needs
@@ -38,21 +42,24 @@ match-in-requires : tie.Need-match-in-requires
 match-in-requires c κs =
     let told = c .before .before .before in
     let bytes = told .before .before .before .before .args .script .now in
-    let held = holds-admitted bytes (told .before .before .read .ensures) (told .verdict2 .given .1) in
+    let held = holds-admitted bytes (told .before .before .read .ensures .0) (told .verdict2 .given .1) in
     omega (arith, held .few)
 
 returns-3 : tie.Need-returns-3
 returns-3 c =
-    let bytes = c .before .before .before .before .before .args .script .now in
-    rw (reading-refused bytes (c .before .before .before .read .ensures) (c .before .verdict .given .1))
+    let start = c .before .before .before .before .before in
+    let bytes = start .args .script .now in
+    let none = reading-refused bytes (c .before .before .before .read .ensures .0) (c .before .verdict .given .1) in
+    finding-contract bytes (start .args .number) (rw none)
 
 returns-4 : tie.Need-returns-4
 returns-4 c =
     let told = c .before .before .before .before in
     let bytes = told .before .before .before .before .args .script .now in
-    let held = holds-admitted bytes (told .before .before .read .ensures) (told .verdict2 .given .1) in
+    let held = holds-admitted bytes (told .before .before .read .ensures .0) (told .verdict2 .given .1) in
     let number = told .before .before .before .before .args .number in
-    ap Finding.Found (c .match-in .ensures) ∙ sym (found-held held number (omega arith) (c .before .if2 .left))
+    finding-contract bytes number
+    (ap Finding.Found (c .match-in .ensures) ∙ sym (found-held held number (omega arith) (c .before .if2 .left)))
 
 pub find-match-spec : {M : Type 1} → statement M
 find-match-spec =
