@@ -2,6 +2,7 @@
 -- applies, and it is the reply.
 --     carrying-refused, carrying-off, carrying-to   what `carryingOf` is, by what is found and by its span
 --     carrying-demand                               the demand, of any reply that equals what `carryingOf` says
+--     carrying-back                                 from the other side the call carries back
 --     found-fits                                    the ends of a match that is found fit 32 bits
 -- Numbers that rise name one match each, so the match found is the one in the theory's list. Assumes nothing.
 use Prim.Native.Nat.{ℕ, zero, suc, _+_, _^_, _<_}
@@ -13,22 +14,23 @@ use mathlib.Core.List.{List·Memᴰ·head as here, List·Memᴰ·tail as there}
 use native.Mathlib.Omega.{arith}
 use lib.ListN.{length}
 use Rattle.script.specs.Reading.{Reading, admitted, refused, readScript}
+use Rattle.script.specs.Answers.{Answer, value, contents}
 use Rattle.script.specs.Outcomes.{Outcome}
 use Rattle.script.specs.Finding.{foundIn, findingOf}
 use Rattle.script.specs.declared.command.Match.{Match as ScriptMatch}
 use Rattle.script.specs.declared.refusal.Refusal.{Refusal}
 use Rattle.script.specs.declared.refusal.Refusal.the-variants.{NoSuchMatch, OffTheMatch}
 use Rattle.script.specs.declared.find.Finding.{Finding}
-use Rattle.script.proofs.Outcome.{reach-within, reach-range, outcome-stated, outcome-alone}
+use Rattle.script.proofs.Outcome.{reach-within, reach-range, read-outcome, outcome-admitted, outcome-refused}
 use Rattle.refinement.specs.declared.Side.{Side}
 use Rattle.refinement.specs.declared.Side.the-variants.{A, B}
 use Rattle.refinement.specs.Order.{_∈_}
 use Rattle.refinement.specs.Match.{Match, other, onSide, left, right, Spans, spanned, carryOver, carry}
 use Rattle.refinement.specs.Least.{spans?}
-use Rattle.refinement.proofs.Geometry.{spanned-iff}
+use Rattle.refinement.proofs.Geometry.{carry-spans, carry-back, spanned-iff}
 use Rattle.refinement.proofs.Tiling.{number-unique}
 use Rattle.refine.specs.Refining.{withNumber, numbered}
-use Rattle.refine.specs.Demands.{Answer, Admitted, reads}
+use Rattle.refine.specs.Demands.{Admitted, reads}
 use Rattle.refine.specs.Carrying.{carryingOver, carryingOf, carriedAnswer, CarryingOutcome, CarryingDemand}
 use Rattle.refine.specs.declared.answers.Carried.{Carried}
 use Rattle.refine.specs.declared.answers.Carried.the-variants.{To, Refused}
@@ -59,7 +61,7 @@ found n (m ∷ ms) number (suc (suc k)) e = found-later (found (suc n) ms number
 
 finding : {script : List ℕ} {ms : List Match} → Admitted script ms → (number : ℕ)
     → Found ms number number (findingOf (readScript script) number)
-finding (reads {ms = xs} o) number = rw (outcome-alone o) (found 0 xs number number (omega arith))
+finding (reads {ms = xs} o) number = rw (outcome-admitted o) (found 0 xs number number (omega arith))
 
 listed-number : {script : List ℕ} {ms : List Match} {m : Match} → Admitted script ms → m ∈ ms
     → (m .number ≡ 0) ⊎ (length ms < m .number) → ⊥
@@ -125,10 +127,10 @@ module _ (script : List ℕ) (number : ℕ) (side : Side) (position : ℕ) where
       go e (none h′) = carrying-refused e
 
   -- any outcome whose condition is met is what `carryingOf` replies
-  outcome-carrying : {answer : Answer} → CarryingOutcome script number side position answer
+  outcome-carrying : {answer : Answer ℕ} → CarryingOutcome script number side position answer
       → answer ≡ carriedAnswer (carryingOf script number side position)
   outcome-carrying (CarryingOutcome.script-refused o) =
-      rw (carrying-refused (ap (λ x. findingOf x number) (outcome-alone o)))
+      let f = outcome-refused o in rw (carrying-refused (ap (λ x. findingOf x number) (f .read))) (cc)
   outcome-carrying (CarryingOutcome.no-such-match a h) = rw (carrying-unlisted a h)
   outcome-carrying (CarryingOutcome.off-the-match {m = m} a i e n) =
       rw (carrying-listed a i e, over-off m side position n)
@@ -155,7 +157,7 @@ module _ (script : List ℕ) (number : ℕ) (side : Side) (position : ℕ) where
           → CarryingOutcome script number side position (carriedAnswer (carryingOf script number side position))
       by-reading (refused r) e =
           rw (carrying-refused (ap (λ x. findingOf x number) e))
-          (CarryingOutcome.script-refused (subst (Outcome script) e (outcome-stated script)))
+          (CarryingOutcome.script-refused (read-outcome e))
       by-reading (admitted p q ms) e = let a = admitted-of e in by-found a (finding a number)
 
   -- ---- the law
@@ -163,6 +165,29 @@ module _ (script : List ℕ) (number : ℕ) (side : Side) (position : ℕ) where
   pub carrying-demand : {reply : Carried} → reply ≡ carryingOf script number side position
       → CarryingDemand script number side position (carriedAnswer reply)
   carrying-demand e = rw e (record { stated = carrying-stated; alone = λ _ o. outcome-carrying o })
+
+-- "Carrying from B to A is the inverse": what is carried to the other side is carried back to where it was
+pub carrying-back :
+    (script : List ℕ) (number : ℕ) (side : Side) (position : ℕ) {x : ℕ}
+    → carryingOf script number side position ≡ To x → carryingOf script number (other side) x ≡ To position
+carrying-back script number side position {x} e = by-finding (findingOf (readScript script) number) refl
+  where
+    by-span : (m : Match) → Dec (Spans m side position) → carryingOver m side position ≡ To x
+        → carryingOver m (other side) x ≡ To position
+    by-span m (yes t) e′ =
+        let there : carry m side position ≡ x = cc (over-spanned m side position t) in
+        rw (← there, over-spanned m (other side) (carry m side position) (carry-spans m side position t))
+        (ap To (carry-back m side position t))
+    by-span m (no n) e′ = let z : _≡_ {A = ℕ} 0 1 = cc (over-off m side position n) in absurd (omega arith)
+
+    by-finding : (f : Finding) → findingOf (readScript script) number ≡ f
+        → carryingOf script number (other side) x ≡ To position
+    by-finding (Finding.Refused r) is =
+        let z : _≡_ {A = ℕ} 0 1 = cc (carrying-refused script number side position is) in absurd (omega arith)
+    by-finding (Finding.Found y) is =
+        let m = withNumber number y in
+        carrying-found script number (other side) x is
+        ∙ by-span m (spans? m side position) (sym (carrying-found script number side position is) ∙ e)
 
 -- ---- carrying over a match that is found never wraps
 
@@ -175,12 +200,14 @@ found-∈ (m ∷ ms) (suc (suc number)) e = there (found-∈ ms (suc number) e)
 pub found-fits :
     (script : List ℕ) (number : ℕ) {x : ScriptMatch} → findingOf (readScript script) number ≡ Finding.Found x
     → (side : Side) → right (withNumber number x) side < 2 ^ 32
-found-fits script number {x} e side = go (outcome-stated script) e side
+found-fits script number {x} e side = by-reading (readScript script) refl e
   where
-    go : {reading : Reading} → Outcome script reading → findingOf reading number ≡ Finding.Found x
-        → (side : Side) → right (withNumber number x) side < 2 ^ 32
-    go {reading = refused r} o e′ side = let z : _≡_ {A = ℕ} 0 1 = cc in absurd (omega arith)
-    go {reading = admitted p q ms} (Outcome.is-admitted r b l) e′ A =
-        omega (arith, reach-within r (found-∈ ms number e′), reach-range r .0 .few)
-    go {reading = admitted p q ms} (Outcome.is-admitted r b l) e′ B =
-        omega (arith, reach-within r (found-∈ ms number e′), reach-range r .1 .few)
+    by-outcome : {p q : ℕ} {ms : List ScriptMatch} → Outcome script (value (contents p q ms)) → x ∈ ms → (side : Side)
+        → right (withNumber number x) side < 2 ^ 32
+    by-outcome (Outcome.is-admitted r b l) i A = omega (arith, reach-within r i, reach-range r .0 .few)
+    by-outcome (Outcome.is-admitted r b l) i B = omega (arith, reach-within r i, reach-range r .1 .few)
+
+    by-reading : (reading : Reading) → readScript script ≡ reading → findingOf reading number ≡ Finding.Found x
+        → right (withNumber number x) side < 2 ^ 32
+    by-reading (refused r) is e′ = let z : _≡_ {A = ℕ} 0 1 = cc in absurd (omega arith)
+    by-reading (admitted p q ms) is e′ = by-outcome (read-outcome is) (found-∈ ms number e′) side

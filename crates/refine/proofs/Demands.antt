@@ -9,11 +9,9 @@ use mathlib.Core.List.{List, []}
 use native.Mathlib.Omega.{arith}
 use lib.ListN.{length, drop, length-replicate, length-append, length-drop}
 use lib.Seq.{take-at, drop-at}
-use Rattle.script.specs.Refusals.{numberOf}
-use Rattle.script.specs.Reading.{refused}
+use Rattle.script.specs.Answers.{Answer, value, refusal}
 use Rattle.script.specs.Outcomes.{Outcome}
-use Rattle.script.specs.declared.refusal.Refusal.{Refusal}
-use Rattle.script.proofs.Outcome.{outcome-alone}
+use Rattle.script.proofs.Outcome.{outcome-alone, outcome-refused}
 use Rattle.refinement.specs.Match.{Match}
 use Rattle.refinement.specs.Refinement.{ResolvedRefinement}
 use Rattle.refinement.specs.Least.{leastTable}
@@ -21,7 +19,7 @@ use Rattle.refinement.proofs.Theorem.{table-resolved, table-in-order, table-lea
 use Rattle.refinement.proofs.Paper.{paper-agrees}
 use Rattle.refine.specs.Rows.{numbersOf}
 use Rattle.refine.specs.Refining.{capacityOf, workNeeded, Refining, refiningOf}
-use Rattle.refine.specs.Demands.{Answer, value, refusal, answerOf, Admitted, reads, Fits, EveryExceeds}
+use Rattle.refine.specs.Demands.{answerOf, Admitted, reads, Fits, EveryExceeds}
 use Rattle.refine.specs.Demands.{RefiningOutcome, Stand, Demand1, Demand2, Demand3}
 use Rattle.refine.specs.declared.answers.Refined.{Refined}
 use Rattle.refine.proofs.Placing.{length-numbers}
@@ -33,7 +31,7 @@ use Rattle.refine.proofs.RefiningCases.{writing, case}
 -- ---- what tells the outcomes apart
 
 -- the numbers of the script's own refusals
-script-number : {script : List ℕ} {r : Refusal} → Outcome script (refused r) → numberOf r ≤ 10
+script-number : {script : List ℕ} {number place : ℕ} → Outcome script (refusal number place) → number ≤ 10
 script-number (Outcome.headless _) = omega arith
 script-number (Outcome.unknown-command _ _ _ _ _ _) = omega arith
 script-number (Outcome.cut-short _) = omega arith
@@ -45,18 +43,23 @@ script-number (Outcome.beyond-a _ _ _ _ _) = omega arith
 script-number (Outcome.beyond-b _ _ _ _ _ _) = omega arith
 script-number (Outcome.tail _ _ _) = omega arith
 
+script-twelve : {script : List ℕ} {number place : ℕ} → Outcome script (refusal number place) → number ≢ 12
+script-twelve o e = omega (arith, script-number o)
+
 refused-admitted :
-    {script : List ℕ} {r : Refusal} {ms : List Match} → Outcome script (refused r) → Admitted script ms → ⊥
+    {script : List ℕ} {number place : ℕ} {ms : List Match} → Outcome script (refusal number place)
+    → Admitted script ms → ⊥
 refused-admitted o (reads o′) = let z : _≡_ {A = ℕ} 0 1 = cc (outcome-alone o, outcome-alone o′) in omega arith
 
-refusal-value : {n number place : ℕ} → refusal number place ≡ value n → ⊥
+refusal-value : {n number place : ℕ} → _≡_ {A = Answer ℕ} (refusal number place) (value n) → ⊥
 refusal-value e = let z : _≡_ {A = ℕ} 0 1 = cc in omega arith
 
 module _ {script table work : List ℕ} where
   -- any outcome whose condition is met is what `refiningOf` replies
   outcome-refining :
-      {a : Answer} → RefiningOutcome script table work a → a ≡ answerOf (refiningOf script table work .reply)
-  outcome-refining (RefiningOutcome.script-refused o) = rw (refining-refused script table work (outcome-alone o))
+      {a : Answer ℕ} → RefiningOutcome script table work a → a ≡ answerOf (refiningOf script table work .reply)
+  outcome-refining (RefiningOutcome.script-refused o) =
+      let f = outcome-refused o in rw (refining-refused script table work (f .read)) (cc)
   outcome-refining (RefiningOutcome.work-too-short a h) = rw (refining-short script table work a h)
   outcome-refining (RefiningOutcome.too-many-pieces a enough exceeds) =
       rw (refining-crowded script table work a enough exceeds)
@@ -94,7 +97,7 @@ resolved-one ms a = (leastTable ms [], table-resolved ms [] (admitted-matches a)
 module _ {script table work : List ℕ} where
   -- a refusal that leaves all as it was
   kept : {number place : ℕ} → RefiningOutcome script table work (refusal number place)
-      → ((a : Answer) → RefiningOutcome script table work a → a ≡ refusal number place) → number ≢ 12
+      → ((a : Answer ℕ) → RefiningOutcome script table work a → a ≡ refusal number place) → number ≢ 12
       → Demand1 script table work (refusal number place) table work
   kept {number} stated alone other =
       record {
@@ -110,9 +113,9 @@ module _ {script table work : List ℕ} where
       }
 
   case-demand1 : {reply : Refined} {table′ work′ : List ℕ} → Case script table work reply table′ work′
-      → ((a : Answer) → RefiningOutcome script table work a → a ≡ answerOf reply)
+      → ((a : Answer ℕ) → RefiningOutcome script table work a → a ≡ answerOf reply)
       → Demand1 script table work (answerOf reply) table′ work′
-  case-demand1 (refusing o) alone = kept (case-stated (refusing o)) alone (λ e. omega (arith, script-number o))
+  case-demand1 (refusing o) alone = kept (RefiningOutcome.script-refused o) alone (script-twelve o)
   case-demand1 (short a h) alone = kept (case-stated (short a h)) alone (λ e. omega arith)
   case-demand1 (crowded a enough exceeds) alone =
       record {
@@ -185,16 +188,24 @@ module _ {script table work : List ℕ} where
 
   no-least : {number place : ℕ} {table′ : List ℕ}
       → ((ms : List Match) → Admitted script ms → workNeeded table ≤ length work
-      → (refusal number place ≡ refusal 12 0) ↔ EveryExceeds ms (capacityOf table))
+      → (_≡_ {A = Answer ℕ} (refusal number place) (refusal 12 0)) ↔ EveryExceeds ms (capacityOf table))
+      → ((ms : List Match) → Admitted script ms → workNeeded table ≤ length work
+      → _≢_ {A = Answer ℕ} (refusal number place) (refusal 12 0) → ⊥)
       → Demand3 script table work (refusal number place) table′
-  no-least refuses =
-      record { some = resolved-one; refuses = refuses; otherwise = λ _ e _ _. absurd (refusal-value e) }
+  no-least refuses twelve =
+      record {
+        some = resolved-one;
+        refuses = refuses;
+        or-value = λ ms a enough other. absurd (twelve ms a enough other);
+        otherwise = λ _ e _ _. absurd (refusal-value e);
+      }
 
   case-demand3 : {reply : Refined} {table′ work′ : List ℕ} → Case script table work reply table′ work′
       → Demand3 script table work (answerOf reply) table′
-  case-demand3 (refusing o) = no-least (λ _ a _. absurd (refused-admitted o a))
-  case-demand3 (short _ h) = no-least (λ _ _ enough. absurd (omega arith))
-  case-demand3 (crowded a _ exceeds) = no-least (λ _ a′ _. (λ _. rw (admitted-unique a′ a) exceeds, λ _. refl))
+  case-demand3 (refusing o) = no-least (λ _ a _. absurd (refused-admitted o a)) (λ _ a _ _. refused-admitted o a)
+  case-demand3 (short _ h) = no-least (λ _ _ enough. absurd (omega arith)) (λ _ _ enough _. omega arith)
+  case-demand3 (crowded a _ exceeds) =
+      no-least (λ _ a′ _. (λ _. rw (admitted-unique a′ a) exceeds, λ _. refl)) (λ _ _ _ other. other refl)
   case-demand3 (writing {ms} a _ room) =
       let M = admitted-matches a in
       let resolved = table-resolved ms [] M in
@@ -204,6 +215,7 @@ module _ {script table work : List ℕ} where
           λ e. absurd (refusal-value (sym e)),
           λ exceeds. absurd (omega (arith, exceeds (leastTable ms []) resolved)),
         );
+        or-value = λ _ _ _ _. (length (leastTable ms []), refl);
         otherwise = λ n e _ a′. rw (admitted-unique a′ a)
             (record {
               rows = leastTable ms [];

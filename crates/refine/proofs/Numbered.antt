@@ -19,7 +19,7 @@ use Rattle.script.specs.Reading.{admitted, readScript}
 use Rattle.script.specs.Outcomes.{InRange, Within, Outcome}
 use Rattle.script.specs.declared.command.Match.{Match as ScriptMatch}
 use Rattle.script.specs.declared.Script.{Script}
-use Rattle.script.proofs.Outcome.{reach-within, outcome-stated, outcome-alone}
+use Rattle.script.proofs.Outcome.{reach-within, read-outcome, outcome-admitted}
 use Rattle.script.proofs.Admitted.{Holds}
 use Rattle.refinement.specs.Order.{_∈_, Rising}
 use Rattle.refinement.specs.Match.{Match}
@@ -54,11 +54,11 @@ numbered-lettered n (x ∷ ms) h i =
 module _ {script : List ℕ} where
   pub admitted-of :
       {p q : ℕ} {ms : List ScriptMatch} → readScript script ≡ admitted p q ms → Admitted script (numbered 1 ms)
-  admitted-of e = reads (subst (Outcome script) e (outcome-stated script))
+  admitted-of e = reads (read-outcome e)
 
   pub admitted-unique : {ms ms′ : List Match} → Admitted script ms → Admitted script ms′ → ms ≡ ms′
   admitted-unique (reads {ms = xs} o) (reads {ms = ys} o′) =
-      let e : xs ≡ ys = cc (outcome-alone o, outcome-alone o′) in
+      let e : xs ≡ ys = cc (outcome-admitted o, outcome-admitted o′) in
       ap (numbered 1) e
 
   pub admitted-matches : {ms : List Match} → Admitted script ms → Matches ms

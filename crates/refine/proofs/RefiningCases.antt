@@ -6,7 +6,7 @@
 --     Case, CaseOf, case                      the four as a data type, for proofs that go through them
 -- Assumes nothing.
 use Prim.Native.Nat.{ℕ, _≤_, _<_}
-use mathlib.Core.Path.{_≡_, refl, ap, subst, _∙_}
+use mathlib.Core.Path.{_≡_, refl, ap, _∙_}
 use mathlib.Core.Logic.{_⊎_, inl, inr}
 use mathlib.Core.List.{List, [], _++_}
 use native.Mathlib.Omega.{arith}
@@ -15,11 +15,13 @@ use native.Mathlib.Decide.{decLt}
 use borrow.Author.Tests.{lt-ltb, le-ltb}
 use lib.ListN.{length, drop}
 use lib.Seq.{sets, sets-eq}
+use Rattle.script.specs.Refusals.{numberOf, placeOf}
 use Rattle.script.specs.Reading.{Reading, admitted, refused, readScript}
+use Rattle.script.specs.Answers.{refusal}
 use Rattle.script.specs.Outcomes.{Outcome}
 use Rattle.script.specs.declared.refusal.Refusal.{Refusal}
 use Rattle.script.specs.declared.refusal.Refusal.the-variants.{WorkTooShort, TooManyPieces}
-use Rattle.script.proofs.Outcome.{outcome-stated, outcome-alone}
+use Rattle.script.proofs.Outcome.{read-outcome, outcome-admitted}
 use Rattle.refinement.specs.Match.{Match}
 use Rattle.refinement.specs.Refinement.{Matches}
 use Rattle.refinement.specs.Least.{leastTable}
@@ -70,7 +72,7 @@ module _ (script table work : List ℕ) where
   refining-admitted :
       {ms : List Match} → Admitted script ms → refiningOf script table work ≡ refiningOfMatches ms table work
   unfolding refiningOf
-  refining-admitted (reads o) = rw (outcome-alone o)
+  refining-admitted (reads o) = rw (outcome-admitted o)
 
   pub refining-short : {ms : List Match} → Admitted script ms → length work < workNeeded table
       → refiningOf script table work ≡ record { reply = Refused WorkTooShort; table = table; work = work }
@@ -106,7 +108,8 @@ module _ (script table work : List ℕ) where
 
 -- the reply and the buffers after the call, with the case that they are of
 pub data Case (script table work : List ℕ) : Refined → List ℕ → List ℕ → Type 0 where
-  refusing : {r : Refusal} → Outcome script (refused r) → Case script table work (Refused r) table work
+  refusing :
+      {r : Refusal} → Outcome script (refusal (numberOf r) (placeOf r)) → Case script table work (Refused r) table work
   short :
       {ms : List Match} → Admitted script ms → length work < workNeeded table
       → Case script table work (Refused WorkTooShort) table work
@@ -141,5 +144,5 @@ case script table work = by-reading (readScript script) refl
 
     by-reading : (x : Reading) → readScript script ≡ x → CaseOf script table work (refiningOf script table work)
     by-reading (refused r) e =
-        rw (refining-refused script table work e) (refusing (subst (Outcome script) e (outcome-stated script)))
+        rw (refining-refused script table work e) (refusing (read-outcome e))
     by-reading (admitted p q ms) e = by-work (admitted-of e) (decLt (length work) (workNeeded table))

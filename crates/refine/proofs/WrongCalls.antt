@@ -21,6 +21,7 @@ use native.Mathlib.Decide.{decLe, decLt, ℕ-discrete}
 use lib.ListN.{length, getD}
 use lib.Seq.{getD-take}
 use Rattle.script.specs.Reading.{readFrom, readScript}
+use Rattle.script.specs.Answers.{Answer, value, refusal}
 use Rattle.refinement.specs.declared.Side.the-variants.{A}
 use Rattle.refinement.specs.Order.{_∈_, insertBy, sortBy}
 use Rattle.refinement.specs.Match.{Match, matchAB, left, right}
@@ -29,7 +30,7 @@ use Rattle.refinement.specs.Least
 use Rattle.refinement.proofs.Theorem.{table-resolved, table-least}
 use Rattle.refine.specs.Rows.{numbersOf}
 use Rattle.refine.specs.Refining.{capacityOf, workNeeded, zeroed}
-use Rattle.refine.specs.Demands.{value, refusal, Admitted, Fits, EveryExceeds, RefiningOutcome}
+use Rattle.refine.specs.Demands.{Admitted, Fits, EveryExceeds, RefiningOutcome}
 use Rattle.refine.specs.Demands.{Stand, Pieces, Demand1, Demand2, Demand3}
 use Rattle.refine.proofs.Numbered.{admitted-of, admitted-matches}
 use Rattle.refine.proofs.RefiningCases.{fits-exceeds}
@@ -150,10 +151,10 @@ fixed-table-refused {n = n} {n₂ = n₂} d d₂ =
 
 -- ---- wrong refusals, and what they leave
 
-refusal-value : {n number place : ℕ} → refusal number place ≡ value n → ⊥
+refusal-value : {n number place : ℕ} → _≡_ {A = Answer ℕ} (refusal number place) (value n) → ⊥
 refusal-value e = let z : _≡_ {A = ℕ} 0 1 = cc in omega arith
 
-eleven-twelve : {place place′ : ℕ} → refusal 11 place ≡ refusal 12 place′ → ⊥
+eleven-twelve : {place place′ : ℕ} → _≡_ {A = Answer ℕ} (refusal 11 place) (refusal 12 place′) → ⊥
 eleven-twelve e = let z : _≡_ {A = ℕ} 11 12 = cc in omega arith
 
 module _ {bytes table work table′ : List ℕ} {ms : List Match} (a : Admitted bytes ms)

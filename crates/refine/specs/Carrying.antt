@@ -12,17 +12,17 @@ use mathlib.Core.Bool.{cond}
 use mathlib.Core.List.{List}
 use lib.ListN.{length}
 use Rattle.script.specs.Refusals.{numberOf, placeOf}
-use Rattle.script.specs.Reading.{refused, readScript}
+use Rattle.script.specs.Reading.{readScript}
+use Rattle.script.specs.Answers.{Answer, value, refusal}
 use Rattle.script.specs.Outcomes.{Outcome}
 use Rattle.script.specs.Finding.{findingOf}
-use Rattle.script.specs.declared.refusal.Refusal.{Refusal}
 use Rattle.script.specs.declared.refusal.Refusal.the-variants.{OffTheMatch}
 use Rattle.script.specs.declared.find.Finding.{Finding}
 use Rattle.refinement.specs.declared.Side.{Side}
 use Rattle.refinement.specs.Order.{_∈_}
 use Rattle.refinement.specs.Match.{Match, left, Spans, spanned, carry}
 use Rattle.refine.specs.Refining.{withNumber}
-use Rattle.refine.specs.Demands.{Answer, value, refusal, Admitted}
+use Rattle.refine.specs.Demands.{Admitted}
 use Rattle.refine.specs.declared.answers.Carried.{Carried}
 use Rattle.refine.specs.declared.answers.Carried.the-variants.{To, Refused}
 
@@ -39,17 +39,16 @@ carryingOfFinding (Finding.Found m) number side position = carryingOver (withNum
 unfoldable pub carryingOf : List ℕ → ℕ → Side → ℕ → Carried
 carryingOf script number side position = carryingOfFinding (findingOf (readScript script) number) number side position
 
-abbrev pub carriedAnswer : Carried → Answer
+abbrev pub carriedAnswer : Carried → Answer ℕ
 carriedAnswer (Carried.To position) = value position
 carriedAnswer (Carried.Refused r) = refusal (numberOf r) (placeOf r)
 
 -- ---- what may come of a call
 
-pub data CarryingOutcome (script : List ℕ) (number : ℕ) (side : Side) (position : ℕ) : Answer → Type 0 where
+pub data CarryingOutcome (script : List ℕ) (number : ℕ) (side : Side) (position : ℕ) : Answer ℕ → Type 0 where
   -- 1 to 10: the script's own refusal
   script-refused :
-      {r : Refusal} → Outcome script (refused r)
-      → CarryingOutcome script number side position (refusal (numberOf r) (placeOf r))
+      {n place : ℕ} → Outcome script (refusal n place) → CarryingOutcome script number side position (refusal n place)
   -- 13: number 0 or above the count
   no-such-match :
       {ms : List Match} → Admitted script ms → (number ≡ 0) ⊎ (length ms < number)
@@ -63,8 +62,8 @@ pub data CarryingOutcome (script : List ℕ) (number : ℕ) (side : Side) (posit
       {ms : List Match} {m : Match} → Admitted script ms → m ∈ ms → m .number ≡ number → Spans m side position
       → CarryingOutcome script number side position (value (carry m side position))
 
-pub record CarryingDemand (script : List ℕ) (number : ℕ) (side : Side) (position : ℕ) (answer : Answer) : Type 0 where
+pub record CarryingDemand (script : List ℕ) (number : ℕ) (side : Side) (position : ℕ) (answer : Answer ℕ) : Type 0 where
   -- the answer is an outcome whose condition is met ..
   pub stated : CarryingOutcome script number side position answer
   -- .. and any outcome whose condition is met is the answer
-  pub alone : (a : Answer) → CarryingOutcome script number side position a → a ≡ answer
+  pub alone : (a : Answer ℕ) → CarryingOutcome script number side position a → a ≡ answer

@@ -1,6 +1,6 @@
 -- Demands 1, 2 and 3 on one refining call: on the bytes of the script, the lent table and work buffer before the call,
 -- its answer, and the table and work buffer after it (table′, work′). TO READ: contracts mean what stands here.
---     Answer, answerOf           the answer in 01's words: a value, or a refusal's number and place
+--     answerOf                   the answer in 01's words: a value, or a refusal's number and place
 --     Admitted script ms         the bytes are an admitted script, and ms are its matches, numbered from 1
 --     Fits ms capacity           some resolved refinement of ms has no more rows than the capacity
 --     EveryExceeds ms capacity   every one has more
@@ -16,9 +16,9 @@ use mathlib.Core.Logic.{_↔_, _≢_}
 use mathlib.Core.List.{List, []}
 use lib.ListN.{length, take, drop}
 use Rattle.script.specs.Refusals.{numberOf, placeOf}
-use Rattle.script.specs.Reading.{admitted, refused}
+pub use Rattle.script.specs.Answers.{Answer, value, refusal}
+use Rattle.script.specs.Answers.{contents}
 use Rattle.script.specs.Outcomes.{Outcome}
-use Rattle.script.specs.declared.refusal.Refusal.{Refusal}
 use Rattle.script.specs.declared.command.Match.{Match as ScriptMatch}
 use Rattle.refinement.specs.Order.{Rising}
 use Rattle.refinement.specs.Match.{Match}
@@ -29,18 +29,14 @@ use Rattle.refine.specs.Refining.{numbered, capacityOf, workNeeded, zero
 use Rattle.refine.specs.declared.answers.Refined.{Refined}
 
 -- "Success returns the count of rows"; "A refusal returns its number and a place."
-pub data Answer : Type 0 where
-  value : (n : ℕ) → Answer
-  refusal : (number place : ℕ) → Answer
-
-abbrev pub answerOf : Refined → Answer
+abbrev pub answerOf : Refined → Answer ℕ
 answerOf (Refined.Rows n) = value n
 answerOf (Refined.Refused r) = refusal (numberOf r) (placeOf r)
 
 -- "A script is admitted if its bytes meet no condition of refusals 1 to 10"; "Matches are numbered from 1 in script
 -- order."
 pub data Admitted (script : List ℕ) : List Match → Type 0 where
-  reads : {p q : ℕ} {ms : List ScriptMatch} → Outcome script (admitted p q ms) → Admitted script (numbered 1 ms)
+  reads : {p q : ℕ} {ms : List ScriptMatch} → Outcome script (value (contents p q ms)) → Admitted script (numbered 1 ms)
 
 -- "A lent table has room for as many pieces as its capacity."
 pub record Fits (ms : List Match) (capacity : ℕ) : Type 0 where
@@ -54,11 +50,11 @@ EveryExceeds ms capacity = (rs : List Match) → ResolvedRefinement ms [] rs →
 
 -- ---- what may come of a call: "Refining: the script, 11, 12."
 
-pub data RefiningOutcome (script table work : List ℕ) : Answer → Type 0 where
+pub data RefiningOutcome (script table work : List ℕ) : Answer ℕ → Type 0 where
   -- 1 to 10: the script's own refusal
   script-refused :
-      {r : Refusal} → Outcome script (refused r)
-      → RefiningOutcome script table work (refusal (numberOf r) (placeOf r))
+      {number place : ℕ} → Outcome script (refusal number place)
+      → RefiningOutcome script table work (refusal number place)
   -- 11: under four numbers per row of capacity
   work-too-short :
       {ms : List Match} → Admitted script ms → length work < workNeeded table
@@ -74,11 +70,11 @@ pub data RefiningOutcome (script table work : List ℕ) : Answer → Type 0 wher
 
 -- ---- demand 1: each refusal under its own condition alone, and what it leaves
 
-pub record Demand1 (script table work : List ℕ) (answer : Answer) (table′ work′ : List ℕ) : Type 0 where
+pub record Demand1 (script table work : List ℕ) (answer : Answer ℕ) (table′ work′ : List ℕ) : Type 0 where
   -- the answer is an outcome whose condition is met ..
   pub stated : RefiningOutcome script table work answer
   -- .. and any outcome whose condition is met is the answer
-  pub alone : (a : Answer) → RefiningOutcome script table work a → a ≡ answer
+  pub alone : (a : Answer ℕ) → RefiningOutcome script table work a → a ≡ answer
   -- "Apart from the work buffer under 12 .. a refused call leaves each lent number unaltered."
   pub refused-table : (number place : ℕ) → answer ≡ refusal number place → table′ ≡ table
   pub refused-work : (number place : ℕ) → answer ≡ refusal number place → number ≢ 12 → work′ ≡ work
@@ -109,7 +105,7 @@ pub record Pieces (ms : List Match) (n : ℕ) (table : List ℕ) : Type 0 where
   pub refines-paper : Definition1 ms rows
   pub resolved-paper : Definition2 rows
 
-pub record Demand2 (script table work : List ℕ) (answer : Answer) (table′ : List ℕ) : Type 0 where
+pub record Demand2 (script table work : List ℕ) (answer : Answer ℕ) (table′ : List ℕ) : Type 0 where
   -- an admitted script with enough work, of which some resolved refinement fits, gets a value
   pub gets :
       (ms : List Match) → Admitted script ms → workNeeded table ≤ length work → Fits ms (capacityOf table)
@@ -130,12 +126,16 @@ pub record LeastPieces (ms : List Match) (n : ℕ) (table : List ℕ) : Type 0 w
   pub resolved : ResolvedRefinement ms [] rows
   pub least : Least ms [] rows
 
-pub record Demand3 (script table work : List ℕ) (answer : Answer) (table′ : List ℕ) : Type 0 where
+pub record Demand3 (script table work : List ℕ) (answer : Answer ℕ) (table′ : List ℕ) : Type 0 where
   -- there is a resolved refinement of every admitted script
   pub some : (ms : List Match) → Admitted script ms → (rs : List Match) × ResolvedRefinement ms [] rs
   -- past the script and 11: the answer is 12 if and only if every resolved refinement has more rows than the capacity
   pub refuses :
       (ms : List Match) → Admitted script ms → workNeeded table ≤ length work
       → (answer ≡ refusal 12 0) ↔ EveryExceeds ms (capacityOf table)
-  -- otherwise the table holds the least one
+  -- if it is not 12, it is a value: of the two things one is done
+  pub or-value :
+      (ms : List Match) → Admitted script ms → workNeeded table ≤ length work → answer ≢ refusal 12 0
+      → (n : ℕ) × (answer ≡ value n)
+  -- and then the table holds the least one
   pub otherwise : (n : ℕ) → answer ≡ value n → (ms : List Match) → Admitted script ms → LeastPieces ms n table′

@@ -5,7 +5,7 @@
 --     classes-full       and each of them is in a class
 -- Assumes nothing.
 use Prim.Native.Nat.{ℕ, suc, _+_, _*_, _^_, _≤_}
-use mathlib.Core.Path.{_≡_, refl, sym, ap, subst, _∙_}
+use mathlib.Core.Path.{_≡_, refl, sym, ap, _∙_}
 use mathlib.Core.Logic.{⊎-elim}
 use mathlib.Core.Bool.{Bool, true}
 use mathlib.Core.List.{List, [], _∷_, map, List·Memᴰ·cases-cons, List·Memᴰ·not-nil, Memᴰ·of-map}
@@ -16,9 +16,10 @@ use borrow.Author.Tests.{lt-ltb, le-leb}
 use lib.ListN.{length, take, length-map}
 use Rattle.script.specs.Limits.{longest, mostMatches}
 use Rattle.script.specs.Reading.{admitted, readScript}
+use Rattle.script.specs.Answers.{value, contents}
 use Rattle.script.specs.Outcomes.{Outcome}
 use Rattle.script.specs.declared.command.Match.{Match as ScriptMatch}
-use Rattle.script.proofs.Outcome.{reach-place, reach-range, reach-within, outcome-stated}
+use Rattle.script.proofs.Outcome.{reach-place, reach-range, reach-within, read-outcome}
 use Rattle.refinement.specs.declared.Side.the-variants.{A}
 use Rattle.refinement.specs.Order.{_∈_}
 use Rattle.refinement.specs.Match.{Match}
@@ -64,9 +65,9 @@ record Granted (ms : List ScriptMatch) : Type 0 where
   short : (m : ScriptMatch) → m ∈ ms → m .length ≤ longest
 
 granted : (script : List ℕ) {p q : ℕ} {ms : List ScriptMatch} → readScript script ≡ admitted p q ms → Granted ms
-granted script {p} {q} {ms} e = go (subst (Outcome script) e (outcome-stated script))
+granted script {p} {q} {ms} e = go (read-outcome e)
   where
-    go : Outcome script (admitted p q ms) → Granted ms
+    go : Outcome script (value (contents p q ms)) → Granted ms
     go (Outcome.is-admitted r _ _) =
         record {
           few = reach-place r .1;

@@ -15,11 +15,12 @@ use native.Mathlib.Omega.{arith}
 use lib.ListN.{length, take}
 use Rattle.script.specs.Refusals.{numberOf, placeOf}
 use Rattle.script.specs.Reading.{Reading, admitted, refused, readScript}
+use Rattle.script.specs.Answers.{value, refusal, contents}
 use Rattle.script.specs.Outcomes.{Within, Short, Outcome}
 use Rattle.script.specs.declared.refusal.Refusal.{Refusal}
 use Rattle.script.specs.declared.refusal.Refusal.the-variants.{WorkTooShort, TooManyPieces}
 use Rattle.script.specs.declared.command.Match.{Match as ScriptMatch}
-use Rattle.script.proofs.Outcome.{reach-place, reach-range, reach-within, outcome-stated}
+use Rattle.script.proofs.Outcome.{reach-place, reach-range, reach-within, read-outcome}
 use Rattle.refinement.specs.declared.Side.the-variants.{A, B}
 use Rattle.refinement.specs.Order.{_∈_}
 use Rattle.refinement.specs.Match.{Match}
@@ -62,7 +63,8 @@ short-place (Short.lengths _ _) = omega arith
 short-place (Short.pairing r _ _ _) = omega (arith, reach-place r)
 short-place (Short.ran-out r _) = omega (arith, reach-place r)
 
-outcome-sayable : {s : List ℕ} {r : Refusal} → Outcome s (refused r) → Sayable (Said.refusal (numberOf r) (placeOf r))
+outcome-sayable : {s : List ℕ} {number place : ℕ} → Outcome s (refusal number place)
+    → Sayable (Said.refusal number place)
 outcome-sayable (Outcome.headless _) = omega arith
 outcome-sayable (Outcome.unknown-command r _ _ _ _ _) = omega (arith, reach-place r)
 outcome-sayable (Outcome.cut-short h) = omega (arith, short-place h)
@@ -117,9 +119,9 @@ table-sayable :
     (script table work : List ℕ) {p q n : ℕ} {ms : List ScriptMatch} → readScript script ≡ admitted p q ms
     → refiningOf script table work .reply ≡ Rows n
     → Sayable (Said.table p q (length ms) (rowsIn (refiningOf script table work) n))
-table-sayable script table work {p} {q} {n} {ms} read e = go (subst (Outcome script) read (outcome-stated script))
+table-sayable script table work {p} {q} {n} {ms} read e = go (read-outcome read)
   where
-    go : Outcome script (admitted p q ms)
+    go : Outcome script (value (contents p q ms))
         → Sayable (Said.table p q (length ms) (rowsIn (refiningOf script table work) n))
     go (Outcome.is-admitted r _ _) = (
       omega (arith, reach-range r .0 .few),

@@ -8,3 +8,4 @@ pub mod Prefix
 pub mod Admitted
 pub mod Found
 pub mod Demands
+pub mod Laws

@@ -35,7 +35,7 @@ pub data Line : Type 0 where
 -- of refining the answer, the distinct pieces of the rows it counts and both buffers after the call; or what is
 -- printed
 pub data Outcome : Type 0 where
-  refined : (answer : Answer) (distinct : ℕ) (table work : List ℕ) → Outcome
+  refined : (answer : Answer ℕ) (distinct : ℕ) (table work : List ℕ) → Outcome
   printed : (text : List ℕ) → Outcome
 
 abbrev pub distinctOf : Refined → List ℕ → ℕ

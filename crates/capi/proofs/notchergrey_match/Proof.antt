@@ -25,13 +25,13 @@ number-of-requires c κs = search needs
 returns : tie.Need-returns
 returns c =
     let found = c .before .before in
-    rw (sym (found .before .before .find-match .ensures) ∙ found .found .given .1, c .bit .ensures)
+    rw (sym (found .before .before .find-match .ensures .0) ∙ found .found .given .1, c .bit .ensures)
 
 returns-2 : tie.Need-returns-2
 returns-2 c =
     let told = c .before .before .before in
     rw (
-      sym (told .before .before .find-match .ensures) ∙ told .refusal .given .1,
+      sym (told .before .before .find-match .ensures .0) ∙ told .refusal .given .1,
       c .before .place-of .ensures,
       c .number-of .ensures,
     )

@@ -22,7 +22,7 @@ number-of-requires c κs = search needs
 returns : tie.Need-returns
 returns c =
     let bytes = c .before .before .before .before .before .args .script .now in
-    let held = holds-admitted bytes (c .before .before .before .read .ensures) (c .before .verdict .given .1) in
+    let held = holds-admitted bytes (c .before .before .before .read .ensures .0) (c .before .verdict .given .1) in
     rw (held .read, held .counted)
 
 returns-2 : tie.Need-returns-2
@@ -30,7 +30,7 @@ returns-2 c =
     let told = c .before .before .before in
     let bytes = told .before .before .before .before .args .script .now in
     rw (
-      reading-refused bytes (told .before .before .read .ensures) (told .verdict2 .given .1),
+      reading-refused bytes (told .before .before .read .ensures .0) (told .verdict2 .given .1),
       c .before .place-of .ensures,
       c .number-of .ensures,
     )

@@ -23,7 +23,7 @@ array-share-prefix-left-a : tie.Need-array-share-prefix-left-a
 array-share-prefix-left-a c =
     let told = c .before .before .before .before .before in
     let bytes = told .before .before .before .before .before .before .args .script .now in
-    let held = holds-admitted bytes (told .before .before .read .ensures) (told .verdict2 .given .1) in
+    let held = holds-admitted bytes (told .before .before .read .ensures .0) (told .verdict2 .given .1) in
     column-reaches (told .before .before .read .result .«left_a») (λ m. m .«left_a») (held .matches) _ (held .left-a)
     (held .counted) .0
 
@@ -31,7 +31,7 @@ slice-aggregate-refine-matches : tie.Need-slice-aggregate-refine-matches
 slice-aggregate-refine-matches c =
     let told = c .before .before .before .before .before .before in
     let bytes = told .before .before .before .before .before .before .args .script .now in
-    let held = holds-admitted bytes (told .before .before .read .ensures) (told .verdict2 .given .1) in
+    let held = holds-admitted bytes (told .before .before .read .ensures .0) (told .verdict2 .given .1) in
     column-reaches (told .before .before .read .result .«left_a») (λ m. m .«left_a») (held .matches) _ (held .left-a)
     (held .counted) .1
 
@@ -39,7 +39,7 @@ array-share-prefix-left-b : tie.Need-array-share-prefix-left-b
 array-share-prefix-left-b c =
     let told = c .before .before .before .before .before .before in
     let bytes = told .before .before .before .before .before .before .args .script .now in
-    let held = holds-admitted bytes (told .before .before .read .ensures) (told .verdict2 .given .1) in
+    let held = holds-admitted bytes (told .before .before .read .ensures .0) (told .verdict2 .given .1) in
     column-reaches (told .before .before .read .result .«left_b») (λ m. m .«left_b») (held .matches) _ (held .left-b)
     (held .counted) .0
 
@@ -47,7 +47,7 @@ slice-aggregate-refine-matches-2 : tie.Need-slice-aggregate-refine-matches-2
 slice-aggregate-refine-matches-2 c =
     let told = c .before .before .before .before .before .before .before in
     let bytes = told .before .before .before .before .before .before .args .script .now in
-    let held = holds-admitted bytes (told .before .before .read .ensures) (told .verdict2 .given .1) in
+    let held = holds-admitted bytes (told .before .before .read .ensures .0) (told .verdict2 .given .1) in
     column-reaches (told .before .before .read .result .«left_b») (λ m. m .«left_b») (held .matches) _ (held .left-b)
     (held .counted) .1
 
@@ -55,7 +55,7 @@ array-share-prefix-lengths : tie.Need-array-share-prefix-lengths
 array-share-prefix-lengths c =
     let told = c .before .before .before .before .before .before .before in
     let bytes = told .before .before .before .before .before .before .args .script .now in
-    let held = holds-admitted bytes (told .before .before .read .ensures) (told .verdict2 .given .1) in
+    let held = holds-admitted bytes (told .before .before .read .ensures .0) (told .verdict2 .given .1) in
     column-reaches (told .before .before .read .result .length) (λ m. m .length) (held .matches) _ (held .letters)
     (held .counted) .0
 
@@ -63,7 +63,7 @@ slice-aggregate-refine-matches-3 : tie.Need-slice-aggregate-refine-matches-3
 slice-aggregate-refine-matches-3 c =
     let told = c .before .before .before .before .before .before .before .before in
     let bytes = told .before .before .before .before .before .before .args .script .now in
-    let held = holds-admitted bytes (told .before .before .read .ensures) (told .verdict2 .given .1) in
+    let held = holds-admitted bytes (told .before .before .read .ensures .0) (told .verdict2 .given .1) in
     column-reaches (told .before .before .read .result .length) (λ m. m .length) (held .matches) _ (held .letters)
     (held .counted) .1
 
@@ -71,7 +71,7 @@ array-share-prefix-reversed : tie.Need-array-share-prefix-reversed
 array-share-prefix-reversed c =
     let told = c .before .before .before .before .before .before .before .before in
     let bytes = told .before .before .before .before .before .before .args .script .now in
-    let held = holds-admitted bytes (told .before .before .read .ensures) (told .verdict2 .given .1) in
+    let held = holds-admitted bytes (told .before .before .read .ensures .0) (told .verdict2 .given .1) in
     column-reaches (told .before .before .read .result .reversed) (λ m. m .reversed) (held .matches) _
     (held .reversed) (held .counted) .0
 
@@ -79,7 +79,7 @@ slice-aggregate-refine-matches-4 : tie.Need-slice-aggregate-refine-matches-4
 slice-aggregate-refine-matches-4 c =
     let told = c .before .before .before .before .before .before .before .before .before in
     let bytes = told .before .before .before .before .before .before .args .script .now in
-    let held = holds-admitted bytes (told .before .before .read .ensures) (told .verdict2 .given .1) in
+    let held = holds-admitted bytes (told .before .before .read .ensures .0) (told .verdict2 .given .1) in
     column-reaches (told .before .before .read .result .reversed) (λ m. m .reversed) (held .matches) _
     (held .reversed) (held .counted) .1
 
@@ -87,7 +87,7 @@ refine-matches-requires : tie.Need-refine-matches-requires
 refine-matches-requires c κs =
     let told = c .before .before .before .before .before .before .before .before .before .before .before in
     let bytes = told .before .before .before .before .before .before .args .script .now in
-    let held = holds-admitted bytes (told .before .before .read .ensures) (told .verdict2 .given .1) in (
+    let held = holds-admitted bytes (told .before .before .read .ensures .0) (told .verdict2 .given .1) in (
       held-fit held,
       column-few (told .before .before .read .result .length) (λ m. m .length) (held .matches) _
           (held .letters) (held .counted) (held .few),
@@ -97,7 +97,7 @@ returns : tie.Need-returns
 returns c =
     let start = c .before .before .before .before .before .before .before in
     let bytes = start .args .script .now in
-    let none = reading-refused bytes (c .before .before .before .read .ensures) (c .before .verdict .given .1) in
+    let none = reading-refused bytes (c .before .before .before .read .ensures .0) (c .before .verdict .given .1) in
     let table = start .args .table .now in
     let work = start .args .work .now in
     refining-contract bytes table work (refining-refused bytes table work none)
@@ -114,7 +114,7 @@ returns-2 c =
     let told = called .before .before .before .before .before .before .before .before .before .before .before .before in
     let start = told .before .before .before .before .before .before in
     let bytes = start .args .script .now in
-    let held = holds-admitted bytes (told .before .before .read .ensures) (told .verdict2 .given .1) in
+    let held = holds-admitted bytes (told .before .before .read .ensures .0) (told .verdict2 .given .1) in
     let done = called .refine-matches .ensures bytes (held-admitted held) in
     refining-contract bytes (start .args .table .now) (start .args .work .now) (sym done)
 

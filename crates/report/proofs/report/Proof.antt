@@ -28,7 +28,7 @@ returns c =
     let told = c .before .before .before .before .before in
     let start = told .before .before .before .before .before in
     reported
-    (report-refused (start .args .script .now) (start .args .text .now) (told .before .before .read .ensures)
+    (report-refused (start .args .script .now) (start .args .text .now) (told .before .before .read .ensures .0)
     (told .verdict .given .1) (c .before .before .print-refusal .ensures))
 
 same-length-2 : tie.Need-same-length-2

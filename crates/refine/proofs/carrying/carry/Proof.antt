@@ -39,7 +39,7 @@ carry-requires c κs =
     let side = start .args .side in
     let position = start .args .position in
     let x = told .found .given .0 .0 in
-    let found = sym (told .before .before .find-match .ensures) ∙ told .found .given .1 in
+    let found = sym (told .before .before .find-match .ensures .0) ∙ told .found .given .1 in
     let from-is = c .before .before .before .before .on-side .ensures in
     let to-is = c .before .before .on-side2 .ensures
     ∙ ap (λ (s : Side). onSide s (x .«left_a») (x .«left_b»)) (c .before .before .before .opposite .ensures) in
@@ -57,7 +57,7 @@ returns c =
     let side = start .args .side in
     let position = start .args .position in
     let x = told .found .given .0 .0 in
-    let found = sym (told .before .before .find-match .ensures) ∙ told .found .given .1 in
+    let found = sym (told .before .before .find-match .ensures .0) ∙ told .found .given .1 in
     let from-is = spanned .before .before .before .before .on-side .ensures in
     let to-is = spanned .before .before .on-side2 .ensures
     ∙ ap (λ (s : Side). onSide s (x .«left_a») (x .«left_b»))
@@ -74,7 +74,7 @@ returns-2 c =
     let number = start .args .number in
     let side = start .args .side in
     let position = start .args .position in
-    let none = sym (c .before .before .before .find-match .ensures) ∙ c .before .refusal .given .1 in
+    let none = sym (c .before .before .before .find-match .ensures .0) ∙ c .before .refusal .given .1 in
     let replied = sym (carrying-refused bytes number side position none) in
     (replied, carrying-demand bytes number side position replied)
 
@@ -87,7 +87,7 @@ returns-3 c =
     let side = start .args .side in
     let position = start .args .position in
     let x = told .found .given .0 .0 in
-    let found = sym (told .before .before .find-match .ensures) ∙ told .found .given .1 in
+    let found = sym (told .before .before .find-match .ensures .0) ∙ told .found .given .1 in
     let from-is = c .before .before .before .before .on-side .ensures in
     let to-is = c .before .before .on-side2 .ensures
     ∙ ap (λ (s : Side). onSide s (x .«left_a») (x .«left_b»)) (c .before .before .before .opposite .ensures) in
