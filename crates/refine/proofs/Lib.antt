@@ -20,3 +20,4 @@ pub mod WrongCalls
 pub mod Standing
 pub mod CarryingOutcome
 pub mod Calls
+pub mod Buffers

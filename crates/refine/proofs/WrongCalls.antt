@@ -6,6 +6,7 @@
 --     made-up-count-refused       a table of zeros left untouched, whatever the count (demand 2)
 --     fixed-table-refused         one table for two scripts, whatever the counts (demand 2)
 --     refusal-with-room-refused   any refusal where there is room, as of a program that refuses all (demands 1 and 2)
+--     other-refusal-refused       another refusal than 12 past the script and 11: neither of two things (demand 3)
 --     twelve-for-eleven-refused   12 with too little work: 12 tested before 11, or the two swapped (demand 1)
 --     eleven-for-twelve-refused   11 with enough work: the two swapped (demand 1)
 --     table-touched-refused       a table altered under 12 (demand 1)
@@ -178,6 +179,10 @@ module _ {bytes table work table′ : List ℕ} {ms : List Match} (a : Admitted 
       let room : length (Least.leastTable ms []) ≤ capacityOf table = omega (arith, fewest, fits .room) in
       let outcome = RefiningOutcome.least-rows a enough (table-resolved ms [] M) least room in
       (λ d. refusal-value (sym (d .alone _ outcome)), λ d. refusal-value (d .gets ms a enough fits .1))
+
+  other-refusal-refused : {number place : ℕ} → number ≢ 12 → ¬ Demand3 bytes table work (refusal number place) table′
+  other-refusal-refused {number} other d =
+      refusal-value (d .or-value ms a enough (λ e. let twelve : number ≡ 12 = cc in other twelve) .1)
 
   eleven-for-twelve-refused : {place : ℕ} {work′ : List ℕ} → EveryExceeds ms (capacityOf table)
       → ¬ Demand1 bytes table work (refusal 11 place) table′ work′
