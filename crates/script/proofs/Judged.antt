@@ -44,10 +44,8 @@ module _ (p q count at : ℕ) (m : Match) where
                     | no na ↦ rw (lt-ltb p (m .«left_a» + m .length) (lt-of-not-le na))
                         (beyond-a room some (lt-of-not-le na))
                     | yes a ↦ rw (le-ltb p (m .«left_a» + m .length) a) (elim (decLe (m .«left_b» + m .length) q) [
-                      | no nb ↦ rw (lt-ltb q (m .«left_b» + m .length) (lt-of-not-le nb))
-                          (beyond-b room some a (lt-of-not-le nb))
-                      | yes b ↦ rw (le-ltb q (m .«left_b» + m .length) b)
-                          (good room (record { some = some; in-a = a; in-b = b }))
+                      | no nb ↦ let b = lt-of-not-le nb in rw lt-ltb (beyond-b room some a b)
+                      | yes b ↦ rw le-ltb (good room (record { some = some; in-a = a; in-b = b }))
                     ])
                   ])
             ])
