@@ -136,6 +136,6 @@ pub record Demand3 (script table work : List ℕ) (answer : Answer ℕ) (table�
   -- if it is not 12, it is a value: of the two things one is done
   pub or-value :
       (ms : List Match) → Admitted script ms → workNeeded table ≤ length work → answer ≢ refusal 12 0
-      → (n : ℕ) × (answer ≡ value n)
+      → (count : ℕ) × (answer ≡ value count)
   -- and then the table holds the least one
   pub otherwise : (n : ℕ) → answer ≡ value n → (ms : List Match) → Admitted script ms → LeastPieces ms n table′
