@@ -1,84 +1,116 @@
 -- What each door returns and leaves behind its pointers. TO READ: contracts mean what stands here.
--- Assumes nothing.
+--     Reply X          the number returned, and what stands behind the pointers: the place, and what is handed out
+--     Said X           what a call of the library says, whatever its kind: something to hand out, or a refusal
+--     door             what a door makes of it
+--     readDoor, matchDoor, refineDoor, carryFromA, carryFromB     the doors on scripts
+--     rowsDoor, summaryDoor     the doors on tables, which refuse nothing
+--     reportDoor       the door for the text
+-- `place` and `was` stood behind the pointers before the call. Assumes nothing.
 use Prim.Native.Nat.{ℕ}
 use mathlib.Core.Bool.{Bool, true, false}
 use mathlib.Core.List.{List}
 use lib.ListN.{length}
 use Rattle.script.specs.Refusals.{numberOf, placeOf}
-use Rattle.script.specs.Reading.{Reading, admitted, refused}
+use Rattle.script.specs.Reading.{Reading, admitted, refused, readScript}
+use Rattle.script.specs.Finding.{findingOf}
+use Rattle.script.specs.declared.refusal.Refusal.{Refusal}
 use Rattle.script.specs.declared.find.Finding.{Finding}
+use Rattle.refinement.specs.declared.Side.{Side}
+use Rattle.refinement.specs.declared.Side.the-variants.{A, B}
+use Rattle.refine.specs.Refining.{refiningOf}
+use Rattle.refine.specs.Carrying.{carryingOf}
 use Rattle.refine.specs.declared.answers.Refined.{Refined}
 use Rattle.refine.specs.declared.answers.Carried.{Carried}
+use Rattle.report.specs.Reporting.{reportingOf}
 use Rattle.report.specs.declared.Reported.{Reported}
+use Rattle.table.specs.Finding.{spanOf}
+use Rattle.table.specs.Summing.{summaryOf}
 use Rattle.table.specs.declared.finding.Span.{Span}
 use Rattle.table.specs.declared.summing.Summary.{Summary}
 
--- the number returned, and what stands behind the pointers
-pub record ReadReply : Type 0 where
+-- ---- what the doors on scripts share
+
+pub record Reply (X : Type 0) : Type 0 where
   pub number : ℕ
   pub place : ℕ
+  pub given : X
+
+pub data Said (X : Type 0) : Type 0 where
+  gives : X → Said X
+  refuses : Refusal → Said X
+
+-- "A refusal returns its number and a place." 0 is no refusal's number. What is not given is as it was: "a refused call
+-- leaves each lent number unaltered", and "After success too, lent numbers .. that no rule .. names keep their values."
+abbrev pub door : {X : Type 0} → Said X → ℕ → X → Reply X
+door (gives x) place was = record { number = 0; place = place; given = x }
+door (refuses r) place was = record { number = numberOf r; place = placeOf r; given = was }
+
+-- ---- reading
+
+pub record Read : Type 0 where
   pub p : ℕ
   pub q : ℕ
   pub count : ℕ
 
--- an admitted script: 0, its lengths and its count; a refused one: the number and the place; the rest as it was
-abbrev pub readDoor : Reading → ReadReply → ReadReply
-readDoor (admitted p q ms) was = record { number = 0; place = was .place; p = p; q = q; count = length ms }
-readDoor (refused r) was = record { number = numberOf r; place = placeOf r; p = was .p; q = was .q; count = was .count }
+-- of an admitted script its lengths and its count of matches
+abbrev pub ofReading : Reading → Said Read
+ofReading (admitted p q ms) = gives (record { p = p; q = q; count = length ms })
+ofReading (refused r) = refuses r
+
+abbrev pub readDoor : List ℕ → ℕ → Read → Reply Read
+readDoor script place was = door (ofReading (readScript script)) place was
+
+-- ---- one match
 
 -- "direction (0 direct, 1 reversed)"
 abbrev pub bitOf : Bool → ℕ
 bitOf true = 1
 bitOf false = 0
 
-pub record MatchReply : Type 0 where
-  pub number : ℕ
-  pub place : ℕ
+pub record OneMatch : Type 0 where
   pub left-a : ℕ
   pub left-b : ℕ
   pub letters : ℕ
   pub reversed : ℕ
 
--- a match that is there: 0 and its numbers; else the refusal's number and place; the rest as it was
-abbrev pub matchDoor : Finding → MatchReply → MatchReply
-matchDoor (Finding.Found m) was =
-    record {
-      number = 0;
-      place = was .place;
-      left-a = m .«left_a»;
-      left-b = m .«left_b»;
-      letters = m .length;
-      reversed = bitOf (m .reversed);
-    }
-matchDoor (Finding.Refused r) was =
-    record {
-      number = numberOf r;
-      place = placeOf r;
-      left-a = was .left-a;
-      left-b = was .left-b;
-      letters = was .letters;
-      reversed = was .reversed;
-    }
+-- of a match that is there its numbers
+abbrev pub ofFinding : Finding → Said OneMatch
+ofFinding (Finding.Found m) =
+    gives
+    (record { left-a = m .«left_a»; left-b = m .«left_b»; letters = m .length; reversed = bitOf (m .reversed) })
+ofFinding (Finding.Refused r) = refuses r
 
-pub record RefineReply : Type 0 where
-  pub number : ℕ
-  pub place : ℕ
-  pub rows : ℕ
+abbrev pub matchDoor : List ℕ → ℕ → ℕ → OneMatch → Reply OneMatch
+matchDoor script number place was = door (ofFinding (findingOf (readScript script) number)) place was
 
--- a table: 0 and the count of its rows; else the refusal's number and place; the rest as it was
-abbrev pub refineDoor : Refined → RefineReply → RefineReply
-refineDoor (Refined.Rows n) was = record { number = 0; place = was .place; rows = n }
-refineDoor (Refined.Refused r) was = record { number = numberOf r; place = placeOf r; rows = was .rows }
+-- ---- refining
 
-pub record CarryReply : Type 0 where
-  pub number : ℕ
-  pub place : ℕ
-  pub carried : ℕ
+-- "Success returns the count of rows"
+abbrev pub ofRefined : Refined → Said ℕ
+ofRefined (Refined.Rows n) = gives n
+ofRefined (Refined.Refused r) = refuses r
 
--- a position that is carried: 0 and where to; else the refusal's number and place; the rest as it was
-abbrev pub carryDoor : Carried → CarryReply → CarryReply
-carryDoor (Carried.To x) was = record { number = 0; place = was .place; carried = x }
-carryDoor (Carried.Refused r) was = record { number = numberOf r; place = placeOf r; carried = was .carried }
+abbrev pub refineDoor : List ℕ → List ℕ → List ℕ → ℕ → ℕ → Reply ℕ
+refineDoor script table work place was = door (ofRefined (refiningOf script table work .reply)) place was
+
+-- ---- carrying
+
+-- where the position lies on the other side
+abbrev pub ofCarried : Carried → Said ℕ
+ofCarried (Carried.To x) = gives x
+ofCarried (Carried.Refused r) = refuses r
+
+abbrev pub carryDoor : Side → List ℕ → ℕ → ℕ → ℕ → ℕ → Reply ℕ
+carryDoor side script number position place was = door (ofCarried (carryingOf script number side position)) place was
+
+-- "Carrying from B to A is the inverse."
+abbrev pub carryFromA : List ℕ → ℕ → ℕ → ℕ → ℕ → Reply ℕ
+carryFromA script number position place was = carryDoor A script number position place was
+
+abbrev pub carryFromB : List ℕ → ℕ → ℕ → ℕ → ℕ → Reply ℕ
+carryFromB script number position place was = carryDoor B script number position place was
+
+-- ---- tables
 
 pub record RowsReply : Type 0 where
   pub number : ℕ
@@ -86,8 +118,11 @@ pub record RowsReply : Type 0 where
   pub end : ℕ
 
 -- always 0, and where the rows of a match stand
-abbrev pub rowsDoor : Span → RowsReply
-rowsDoor s = record { number = 0; start = s .start; end = s .end }
+abbrev pub ofSpan : Span → RowsReply
+ofSpan s = record { number = 0; start = s .start; end = s .end }
+
+abbrev pub rowsDoor : List ℕ → ℕ → RowsReply
+rowsDoor table number = ofSpan (spanOf number table)
 
 pub record SummaryReply : Type 0 where
   pub number : ℕ
@@ -97,15 +132,23 @@ pub record SummaryReply : Type 0 where
   pub classes : List ℕ
 
 -- always 0, and every number of the summary
-abbrev pub summaryDoor : Summary → SummaryReply
-summaryDoor s =
+abbrev pub ofSummary : Summary → SummaryReply
+ofSummary s =
     record { number = 0; pieces = s .pieces; distinct = s .distinct; letters = s .letters; classes = s .classes }
+
+abbrev pub summaryDoor : List ℕ → SummaryReply
+summaryDoor table = ofSummary (summaryOf table)
+
+-- ---- the text
 
 pub record ReportReply : Type 0 where
   pub number : ℕ
   pub length : ℕ
 
 -- a text that fits: 0 and its length; else 16 and the length that it needs
-abbrev pub reportDoor : Reported → ReportReply
-reportDoor (Reported.Printed n) = record { number = 0; length = n }
-reportDoor (Reported.TextTooShort n) = record { number = 16; length = n }
+abbrev pub ofReported : Reported → ReportReply
+ofReported (Reported.Printed n) = record { number = 0; length = n }
+ofReported (Reported.TextTooShort n) = record { number = 16; length = n }
+
+abbrev pub reportDoor : List ℕ → List ℕ → ReportReply
+reportDoor script text = ofReported (reportingOf script text .reply)

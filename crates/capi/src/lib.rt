@@ -14,16 +14,10 @@ use table::CLASSES;
 use table::span_of;
 use table::sum_up;
 ghost use mathlib.Core.Path.{_≡_};
-ghost use Rattle.script.specs.Reading.{readScript};
-ghost use Rattle.script.specs.Finding.{findingOf};
-ghost use Rattle.capi.specs.Doors.{bitOf, readDoor, matchDoor, refineDoor, carryDoor, rowsDoor, summaryDoor};
-ghost use Rattle.capi.specs.Doors.{reportDoor};
+ghost use Rattle.capi.specs.Doors.{bitOf, readDoor, matchDoor, refineDoor, carryDoor, carryFromA, carryFromB};
+ghost use Rattle.capi.specs.Doors.{rowsDoor, summaryDoor, reportDoor};
 ghost use Rattle.refine.specs.Refining.{refiningOf};
-ghost use Rattle.refine.specs.Carrying.{carryingOf};
-ghost use Rattle.refinement.specs.declared.Side.{Side};
 ghost use Rattle.report.specs.Reporting.{reportingOf};
-ghost use Rattle.table.specs.Finding.{spanOf};
-ghost use Rattle.table.specs.Summing.{summaryOf};
 
 // The number that a request after 01 gives a lent buffer that is too short; 01 itself has none for it.
 const TOO_SHORT: u32 = 16;
@@ -48,18 +42,10 @@ pub extern "C" fn notchergrey_read(
         record {
           number = r;
           place = now (place .exit);
-          p = now (p .exit);
-          q = now (q .exit);
-          count = now (count .exit);
+          given = record { p = now (p .exit); q = now (q .exit); count = now (count .exit) };
         }
-        ≡ readDoor (readScript (now (script .entry)))
-        (record {
-          number = 0;
-          place = now (place .entry);
-          p = now (p .entry);
-          q = now (q .entry);
-          count = now (count .entry);
-        }) ⌝ }
+        ≡ readDoor (now (script .entry)) (now (place .entry))
+        (record { p = now (p .entry); q = now (q .entry); count = now (count .entry) }) ⌝ }
 {
     let read = script::read(script);
     let verdict = read.verdict;
@@ -96,15 +82,16 @@ pub extern "C" fn notchergrey_match(
         record {
           number = r;
           place = now (place .exit);
-          left-a = now («left_a» .exit);
-          left-b = now («left_b» .exit);
-          letters = now (length .exit);
-          reversed = now (reversed .exit);
+          given =
+              record {
+                left-a = now («left_a» .exit);
+                left-b = now («left_b» .exit);
+                letters = now (length .exit);
+                reversed = now (reversed .exit);
+              };
         }
-        ≡ matchDoor (findingOf (readScript (now (script .entry))) number)
+        ≡ matchDoor (now (script .entry)) number (now (place .entry))
         (record {
-          number = 0;
-          place = now (place .entry);
           left-a = now («left_a» .entry);
           left-b = now («left_b» .entry);
           letters = now (length .entry);
@@ -136,9 +123,9 @@ pub extern "C" fn notchergrey_refine(
     rows: &mut usize,
 ) -> u32
     ensures { λ r. ⌜
-        record { number = r; place = now (place .exit); rows = now (rows .exit) }
-        ≡ refineDoor (refiningOf (now (script .entry)) (now (table .entry)) (now (work .entry)) .reply)
-        (record { number = 0; place = now (place .entry); rows = now (rows .entry) }) ⌝ }
+        record { number = r; place = now (place .exit); given = now (rows .exit) }
+        ≡ refineDoor (now (script .entry)) (now (table .entry)) (now (work .entry)) (now (place .entry))
+        (now (rows .entry)) ⌝ }
     ensures { λ _. ⌜
         now (table .exit) ≡ refiningOf (now (script .entry)) (now (table .entry)) (now (work .entry)) .table ⌝ }
     ensures { λ _. ⌜
@@ -166,9 +153,8 @@ fn carry_from(
     carried: &mut u32,
 ) -> u32
     ensures { λ r. ⌜
-        record { number = r; place = now (place .exit); carried = now (carried .exit) }
-        ≡ carryDoor (carryingOf (now (script .entry)) number side position)
-        (record { number = 0; place = now (place .entry); carried = now (carried .entry) }) ⌝ }
+        record { number = r; place = now (place .exit); given = now (carried .exit) }
+        ≡ carryDoor side (now (script .entry)) number position (now (place .entry)) (now (carried .entry)) ⌝ }
 {
     match refine::carrying::carry(script, number, side, position) {
         Carried::To(x) => {
@@ -192,9 +178,8 @@ pub extern "C" fn notchergrey_carry_from_a(
     carried: &mut u32,
 ) -> u32
     ensures { λ r. ⌜
-        record { number = r; place = now (place .exit); carried = now (carried .exit) }
-        ≡ carryDoor (carryingOf (now (script .entry)) number Side.A position)
-        (record { number = 0; place = now (place .entry); carried = now (carried .entry) }) ⌝ }
+        record { number = r; place = now (place .exit); given = now (carried .exit) }
+        ≡ carryFromA (now (script .entry)) number position (now (place .entry)) (now (carried .entry)) ⌝ }
 {
     carry_from(script, number, Side::A, position, place, carried)
 }
@@ -209,9 +194,8 @@ pub extern "C" fn notchergrey_carry_from_b(
     carried: &mut u32,
 ) -> u32
     ensures { λ r. ⌜
-        record { number = r; place = now (place .exit); carried = now (carried .exit) }
-        ≡ carryDoor (carryingOf (now (script .entry)) number Side.B position)
-        (record { number = 0; place = now (place .entry); carried = now (carried .entry) }) ⌝ }
+        record { number = r; place = now (place .exit); given = now (carried .exit) }
+        ≡ carryFromB (now (script .entry)) number position (now (place .entry)) (now (carried .entry)) ⌝ }
 {
     carry_from(script, number, Side::B, position, place, carried)
 }
@@ -226,7 +210,7 @@ pub extern "C" fn notchergrey_rows_of(
 ) -> u32
     ensures { λ r. ⌜
         record { number = r; start = now (start .exit); end = now (end .exit) }
-        ≡ rowsDoor (spanOf number (now (table .entry))) ⌝ }
+        ≡ rowsDoor (now (table .entry)) number ⌝ }
 {
     let span = span_of(table, number);
     *start = span.start;
@@ -251,7 +235,7 @@ pub extern "C" fn notchergrey_summary(
           letters = now (letters .exit);
           classes = now (classes .exit);
         }
-        ≡ summaryDoor (summaryOf (now (table .entry))) ⌝ }
+        ≡ summaryDoor (now (table .entry)) ⌝ }
 {
     let summary = sum_up(table);
     *pieces = summary.pieces;
@@ -268,7 +252,7 @@ pub extern "C" fn notchergrey_summary(
 pub extern "C" fn notchergrey_report(script: &[u8], text: &mut [u8], length: &mut usize) -> u32
     ensures { λ r. ⌜
         record { number = r; length = now (length .exit) }
-        ≡ reportDoor (reportingOf (now (script .entry)) (now (text .entry)) .reply) ⌝ }
+        ≡ reportDoor (now (script .entry)) (now (text .entry)) ⌝ }
     ensures { λ _. ⌜ now (text .exit) ≡ reportingOf (now (script .entry)) (now (text .entry)) .text ⌝ }
 {
     match report::report(script, text) {

@@ -1,7 +1,7 @@
 -- `notchergrey_summary` meets its contract: it hands out what `sum_up` counts. Assumes nothing.
 use mathlib.Core.Path.{ap}
 use borrow.Author.Needs.{needs}
-use Rattle.capi.specs.Doors.{summaryDoor}
+use Rattle.capi.specs.Doors.{ofSummary}
 use Rattle.capi.proofs.notchergrey_summary.Statement.{statement}
 use Rattle.capi.proofs.notchergrey_summary.Tie as tie
 
@@ -9,7 +9,7 @@ sum-up-requires : tie.Need-sum-up-requires
 sum-up-requires c κs = search needs
 
 returns : tie.Need-returns
-returns c = ap summaryDoor (c .before .sum-up .ensures)
+returns c = ap ofSummary (c .before .sum-up .ensures)
 
 pub notchergrey-summary-spec : {M : Type 1} → statement M
 notchergrey-summary-spec = tie.close (tie.spec sum-up-requires returns)
