@@ -10,17 +10,20 @@ use Rattle.refinement.specs.Least as Least
 use Rattle.table.specs.Rows.{firstRows, rowsOf}
 use Rattle.table.specs.Distinct.{occurs, firstsAfter}
 use Rattle.table.specs.Summing.{total, classesFrom}
+use Rattle.table.specs.Finding.{leading}
 use Rattle.refine.specs.Rows.{numbersOf}
 use Rattle.refine.specs.Refining.{refiningOfMatches, refiningOf}
+use Rattle.refine.specs.Carrying.{carryingOf}
 use Rattle.text.specs.Decimal.{placesWithin}
 use Rattle.report.specs.Lines.{rowLines, classLines}
 use Rattle.report.specs.Reporting.{reportOf}
-use Rattle.vectors.specs.Lines.{comes, leaves, lines}
+use Rattle.vectors.specs.Lines.{Line, lines}
 
-pub lines-hold : map comes lines ≡ map leaves lines
+pub lines-hold : map (λ (l : Line). l .comes) lines ≡ map (λ (l : Line). l .leaves) lines
 unfolding readFrom readScript insertBy sortBy flatMap Dec·and decLe decLt ℕ-discrete firstRows rowsOf occurs
     firstsAfter numbersOf refiningOfMatches refiningOf Least.spans? Least.spansPlace? Least.same? Least.in?
     Least.ends Least.spanning Least.images Least.spannedMarks Least.addNew Least.grow Least.spanCount
     Least.leastCuts Least.cutsWithin Least.pieceOf Least.piecesBetween Least.piecesOf Least.tableFrom
     Least.leastTable total classesFrom placesWithin rowLines classLines reportOf
+    carryingOf leading
 lines-hold = refl

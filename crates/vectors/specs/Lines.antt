@@ -1,12 +1,15 @@
--- 01's lines marked M, as one table: a script in bytes, and what must come of refining it with so many numbers lent,
--- or what the program must print for it. TO READ beside 01, "Small scripts at the edges" and "One run, complete". All
--- bytes are written out: the table says by itself in which order a number's bytes stand and how a number is printed.
---     Expected          a refusal's number and place; or the rows of the table, and how many pieces are distinct
---     Refining          a script, the numbers lent as table and as work buffer, and what must come of it
---     Line              what refining a script does, or what is printed for it
---     comes, leaves     what the definitions say of a line, and what the line says
+-- 01's lines marked M, as one table, and with them lines for what 01 says with a number of its own and marks not: each
+-- refusal's number and place, the order of a number's bytes, the limits, what a class needs to be printed. A line is a
+-- call with all its bytes or numbers, and what must come of it. TO READ beside 01, "Small scripts at the edges", "Refused
+-- scripts and calls" and "One run, complete". All bytes are written out: the table says by itself in which order a
+-- number's bytes stand and how a number is printed.
+--     Line              what the definitions say of a call, and what must come of it
+--     refines, reads, finds, carriesA, carriesB     calls on a script, through the doors
+--     marks, sums       calls on a table, through the doors
+--     prints, hands     what the program prints; and the same in a lent buffer, through the door
 --     lines             the table
--- Every lent number is 9 before the call, so that a number that is kept shows. Assumes nothing.
+-- Every lent number, and every number behind a pointer, is 99 before the call, so that a number that is kept shows.
+-- Assumes nothing.
 use Prim.Native.Nat.{ℕ, _*_, _-_}
 use mathlib.Core.Bool.{cond}
 use mathlib.Core.List.{List, [], _∷_, _++_}
@@ -14,39 +17,49 @@ use lib.ListN.{length, take, replicate}
 use lib.Dec.{eqb}
 use Rattle.table.specs.Summing.{summaryOf}
 use Rattle.refine.specs.Refining.{refiningOf}
-use Rattle.refine.specs.Demands.{Answer, value, refusal, answerOf}
 use Rattle.refine.specs.declared.answers.Refined.{Refined}
-use Rattle.report.specs.Reporting.{reportOf}
+use Rattle.report.specs.Reporting.{reportOf, reportingOf}
+use Rattle.capi.specs.Doors.{Reply, Read, OneMatch, RowsReply, SummaryReply, ReportReply, readDoor, matchDoor, refineDoor}
+use Rattle.capi.specs.Doors.{carryFromA, carryFromB, rowsDoor, summaryDoor, reportDoor}
 
+-- ---- what a line says
+
+-- the number returned and all that stands behind the pointers and in the lent buffers after the call; of refining also
+-- the distinct pieces of the rows it counts
+pub data Outcome : Type 0 where
+  refined : Reply ℕ → (distinct : ℕ) (table work : List ℕ) → Outcome
+  read : Reply Read → Outcome
+  found : Reply OneMatch → Outcome
+  carried : Reply ℕ → Outcome
+  marked : RowsReply → Outcome
+  summed : SummaryReply → Outcome
+  printed : (text : List ℕ) → Outcome
+  handed : ReportReply → (text : List ℕ) → Outcome
+
+pub record Line : Type 0 where
+  pub comes : Outcome
+  pub leaves : Outcome
+
+abbrev old : ℕ
+old = 99
+
+-- ---- refining
+
+-- a refusal's number and place; or the rows of the table, and how many pieces are distinct
 pub data Expected : Type 0 where
   refused : (number place : ℕ) → Expected
   pieces : List (List ℕ) → (distinct : ℕ) → Expected
 
+-- a script, the numbers lent as table and as work buffer, and what must come of it
 pub record Refining : Type 0 where
   pub script : List ℕ
   pub table : ℕ
   pub work : ℕ
   pub expected : Expected
 
-pub data Line : Type 0 where
-  refines : Refining → Line
-  prints : (script text : List ℕ) → Line
-
--- of refining the answer, the distinct pieces of the rows it counts and both buffers after the call; or what is
--- printed
-pub data Outcome : Type 0 where
-  refined : (answer : Answer ℕ) (distinct : ℕ) (table work : List ℕ) → Outcome
-  printed : (text : List ℕ) → Outcome
-
 abbrev pub distinctOf : Refined → List ℕ → ℕ
 distinctOf (Refined.Rows n) table = summaryOf (take (5 * n) table) .distinct
 distinctOf (Refined.Refused r) table = 0
-
-abbrev pub comes : Line → Outcome
-comes (refines l) =
-    let x = refiningOf (l .script) (replicate (l .table) 9) (replicate (l .work) 9) in
-    refined (answerOf (x .reply)) (distinctOf (x .reply) (x .table)) (x .table) (x .work)
-comes (prints script text) = printed (reportOf script)
 
 abbrev pub flat : List (List ℕ) → List ℕ
 flat [] = []
@@ -55,13 +68,105 @@ flat (r ∷ rs) = r ++ flat rs
 -- only success and 12 alter the work buffer, and only success the table
 abbrev pub leavesOf : Expected → ℕ → ℕ → Outcome
 leavesOf (refused number place) t w =
-    refined (refusal number place) 0 (replicate t 9) (replicate w (cond (eqb number 12) 0 9))
+    refined (record { number = number; place = place; given = old }) 0 (replicate t old)
+    (replicate w (cond (eqb number 12) 0 old))
 leavesOf (pieces rows distinct) t w =
-    refined (value (length rows)) distinct (flat rows ++ replicate (t - length (flat rows)) 9) (replicate w 0)
+    refined (record { number = 0; place = old; given = length rows }) distinct
+    (flat rows ++ replicate (t - length (flat rows)) old) (replicate w 0)
 
-abbrev pub leaves : Line → Outcome
-leaves (refines l) = leavesOf (l .expected) (l .table) (l .work)
-leaves (prints script text) = printed text
+abbrev pub refines : Refining → Line
+refines l =
+    let table = replicate (l .table) old in
+    let work = replicate (l .work) old in
+    let x = refiningOf (l .script) table work in
+    record {
+      comes =
+          refined (refineDoor (l .script) table work old old) (distinctOf (x .reply) (x .table)) (x .table) (x .work);
+      leaves = leavesOf (l .expected) (l .table) (l .work);
+    }
+
+-- ---- reading, finding, carrying
+
+abbrev readsTo : List ℕ → ℕ → ℕ → Read → Line
+readsTo script number place x =
+    record {
+      comes = read (readDoor script old (record { p = old; q = old; count = old }));
+      leaves = read (record { number = number; place = place; given = x });
+    }
+
+-- admitted: p, q and the count of matches
+abbrev pub reads : List ℕ → ℕ → ℕ → ℕ → Line
+reads script p q count = readsTo script 0 old (record { p = p; q = q; count = count })
+
+-- refused: the number and the place
+abbrev pub refuses : List ℕ → ℕ → ℕ → Line
+refuses script number place = readsTo script number place (record { p = old; q = old; count = old })
+
+abbrev findsTo : List ℕ → ℕ → ℕ → ℕ → OneMatch → Line
+findsTo script which number place x =
+    let was : OneMatch = record { left-a = old; left-b = old; letters = old; reversed = old } in
+    record {
+      comes = found (matchDoor script which old was);
+      leaves = found (record { number = number; place = place; given = x });
+    }
+
+-- the match of that number: its left-A, left-B, length and direction; or the refusal's number and place
+abbrev pub finds : List ℕ → ℕ → ℕ → ℕ → ℕ → ℕ → Line
+finds script which left-a left-b letters reversed =
+    findsTo script which 0 old (record { left-a = left-a; left-b = left-b; letters = letters; reversed = reversed })
+
+abbrev pub findsNone : List ℕ → ℕ → ℕ → ℕ → Line
+findsNone script which number place =
+    findsTo script which number place (record { left-a = old; left-b = old; letters = old; reversed = old })
+
+-- a position that is carried, and to where; or the refusal's number and place
+abbrev to : ℕ → Reply ℕ
+to x = record { number = 0; place = old; given = x }
+
+abbrev stays : ℕ → ℕ → Reply ℕ
+stays number place = record { number = number; place = place; given = old }
+
+-- from A, and from B, over the match of that number: the position and what must come of it
+abbrev pub carriesA : List ℕ → ℕ → ℕ → Reply ℕ → Line
+carriesA script which position x =
+    record { comes = carried (carryFromA script which position old old); leaves = carried x }
+
+abbrev pub carriesB : List ℕ → ℕ → ℕ → Reply ℕ → Line
+carriesB script which position x =
+    record { comes = carried (carryFromB script which position old old); leaves = carried x }
+
+-- ---- tables
+
+-- the rows of the match of that number: from where to where they stand
+abbrev pub marks : List ℕ → ℕ → ℕ → ℕ → Line
+marks table which start end =
+    record {
+      comes = marked (rowsDoor table which);
+      leaves = marked (record { number = 0; start = start; end = end });
+    }
+
+-- pieces, distinct pieces, letters, and the classes
+abbrev pub sums : List ℕ → ℕ → ℕ → ℕ → List ℕ → Line
+sums table all distinct letters classes =
+    record {
+      comes = summed (summaryDoor table);
+      leaves =
+          summed (record { number = 0; pieces = all; distinct = distinct; letters = letters; classes = classes });
+    }
+
+-- ---- the text
+
+abbrev pub prints : List ℕ → List ℕ → Line
+prints script text = record { comes = printed (reportOf script); leaves = printed text }
+
+-- in a buffer of so many bytes: the number, the length that is told, and the buffer after the call
+abbrev pub hands : List ℕ → ℕ → ℕ → ℕ → List ℕ → Line
+hands script lent number told text =
+    let buffer = replicate lent old in
+    record {
+      comes = handed (reportDoor script buffer) (reportingOf script buffer .text);
+      leaves = handed (record { number = number; length = told }) text;
+    }
 
 -- ---- scripts
 
@@ -83,6 +188,34 @@ backward a b d = 0x52 ∷ small a ++ small b ++ small d
 
 abbrev end : List ℕ
 end = 0x45 ∷ []
+
+-- lengths of all four bytes each
+abbrev lengthsIn : List ℕ → List ℕ → List ℕ
+lengthsIn p q = 0x4C ∷ p ++ q
+
+abbrev billion : List ℕ
+billion = 0x00 ∷ 0xCA ∷ 0x9A ∷ 0x3B ∷ []
+
+abbrev billionAndOne : List ℕ
+billionAndOne = 0x01 ∷ 0xCA ∷ 0x9A ∷ 0x3B ∷ []
+
+-- each number of four different bytes, least byte first: p is 975771399, and so on as in the table
+abbrev fourBytes : List ℕ
+fourBytes =
+    flat
+    (lengthsIn (0x07 ∷ 0x17 ∷ 0x29 ∷ 0x3A ∷ []) (0x08 ∷ 0x18 ∷ 0x2A ∷ 0x3B ∷ [])
+    ∷ (0x44 ∷ 0x0D ∷ 0x0C ∷ 0x0B ∷ 0x0A ∷ [])
+    ∷ (0x11 ∷ 0x10 ∷ 0x0F ∷ 0x0E ∷ [])
+    ∷ (0x15 ∷ 0x14 ∷ 0x13 ∷ 0x12 ∷ [])
+    ∷ (0x52 ∷ 0x01 ∷ 0x02 ∷ 0x03 ∷ 0x04 ∷ [])
+    ∷ (0x05 ∷ 0x06 ∷ 0x07 ∷ 0x08 ∷ [])
+    ∷ (0x09 ∷ 0x0A ∷ 0x0B ∷ 0x0C ∷ [])
+    ∷ end
+    ∷ [])
+
+-- two matches, each with another left-A than left-B
+abbrev pairs : List ℕ
+pairs = lengths 30 40 ++ direct 3 11 6 ++ backward 12 20 5 ++ end
 
 abbrev run : List ℕ
 run = lengths 10 10 ++ direct 0 0 6 ++ backward 2 3 5 ++ end
@@ -133,6 +266,51 @@ runText =
     ∷ (99 ∷ 108 ∷ 97 ∷ 115 ∷ 115 ∷ 32 ∷ 49 ∷ 32 ∷ 51 ∷ 10 ∷ [])
     ∷ [])
 
+-- matches apart from each other: one of class 0, none of class 1, two of class 2
+abbrev apart : List ℕ
+apart = lengths 20 30 ++ direct 0 0 1 ++ direct 2 3 4 ++ backward 7 9 5 ++ end
+
+abbrev apartText : List ℕ
+apartText =
+    flat
+    -- lengths 20 30
+    ((108 ∷ 101 ∷ 110 ∷ 103 ∷ 116 ∷ 104 ∷ 115 ∷ 32 ∷ 50 ∷ 48 ∷ 32 ∷ 51 ∷ 48 ∷ 10 ∷ [])
+    -- matches 3 pieces 3 distinct 3 letters 10
+    ∷ (109 ∷ 97 ∷ 116 ∷ 99 ∷ 104 ∷ 101 ∷ 115 ∷ 32 ∷ 51 ∷ 32 ∷ 112 ∷ 105 ∷ 101 ∷ 99 ∷ 101 ∷ 115 ∷ 32 ∷ 51 ∷ 32 ∷ 100 ∷ 105 ∷ 115 ∷ 116 ∷ 105 ∷ 110 ∷ 99 ∷ 116 ∷ 32 ∷ 51 ∷ 32 ∷ 108 ∷ 101 ∷ 116 ∷ 116 ∷ 101 ∷ 114 ∷ 115 ∷ 32 ∷ 49 ∷ 48 ∷ 10 ∷ [])
+    -- 1 0 0 1 +
+    ∷ (49 ∷ 32 ∷ 48 ∷ 32 ∷ 48 ∷ 32 ∷ 49 ∷ 32 ∷ 43 ∷ 10 ∷ [])
+    -- 2 2 3 4 +
+    ∷ (50 ∷ 32 ∷ 50 ∷ 32 ∷ 51 ∷ 32 ∷ 52 ∷ 32 ∷ 43 ∷ 10 ∷ [])
+    -- 3 7 9 5 -
+    ∷ (51 ∷ 32 ∷ 55 ∷ 32 ∷ 57 ∷ 32 ∷ 53 ∷ 32 ∷ 45 ∷ 10 ∷ [])
+    -- class 0 1
+    ∷ (99 ∷ 108 ∷ 97 ∷ 115 ∷ 115 ∷ 32 ∷ 48 ∷ 32 ∷ 49 ∷ 10 ∷ [])
+    -- class 2 2
+    ∷ (99 ∷ 108 ∷ 97 ∷ 115 ∷ 115 ∷ 32 ∷ 50 ∷ 32 ∷ 50 ∷ 10 ∷ [])
+    ∷ [])
+
+-- direct 1 0 10, and "as `refused 8 9`"
+abbrev beyond : List ℕ
+beyond = lengths 10 10 ++ direct 1 0 10 ++ end
+
+abbrev beyondText : List ℕ
+beyondText = 114 ∷ 101 ∷ 102 ∷ 117 ∷ 115 ∷ 101 ∷ 100 ∷ 32 ∷ 56 ∷ 32 ∷ 57 ∷ 10 ∷ []
+
+-- "arbitrary contents": the run of 2 broken off and resumed, lengths that fit no class, directions of 7, a piece twice,
+-- numbers at the end that form no row
+abbrev anything : List ℕ
+anything =
+    flat
+    ((4 ∷ 10 ∷ 20 ∷ 8 ∷ 7 ∷ [])
+    ∷ (2 ∷ 0 ∷ 0 ∷ 1 ∷ 0 ∷ [])
+    ∷ (2 ∷ 5 ∷ 6 ∷ 0 ∷ 7 ∷ [])
+    ∷ (9 ∷ 10 ∷ 20 ∷ 8 ∷ 1 ∷ [])
+    ∷ (2 ∷ 0 ∷ 0 ∷ 4294967295 ∷ 0 ∷ [])
+    ∷ (2 ∷ 0 ∷ 7 ∷ 1073741824 ∷ 0 ∷ [])
+    ∷ (0 ∷ 3 ∷ 7 ∷ 1073741823 ∷ 7 ∷ [])
+    ∷ (3 ∷ 1 ∷ 1 ∷ [])
+    ∷ [])
+
 -- ---- the table
 
 abbrev pub lines : List Line
@@ -151,7 +329,7 @@ lines =
       expected = pieces ((1 ∷ 0 ∷ 0 ∷ 10 ∷ 0 ∷ []) ∷ []) 1;
     })
     -- direct 1 0 10: 8 at 9
-    ∷ refines (record { script = lengths 10 10 ++ direct 1 0 10 ++ end; table = 5; work = 4; expected = refused 8 9 })
+    ∷ refines (record { script = beyond; table = 5; work = 4; expected = refused 8 9 })
     -- direct 1 0 4294967295: 8 at 9; the sum must not wrap
     ∷ refines (record {
       script = lengths 10 10 ++ (0x44 ∷ small 1 ++ small 0 ++ largest) ++ end;
@@ -221,6 +399,85 @@ lines =
     })
     -- the program on the run above, and on direct 1 0 10: "as `refused 8 9`"
     ∷ prints run runText
-    ∷ prints (lengths 10 10 ++ direct 1 0 10 ++ end)
-    (114 ∷ 101 ∷ 102 ∷ 117 ∷ 115 ∷ 101 ∷ 100 ∷ 32 ∷ 56 ∷ 32 ∷ 57 ∷ 10 ∷ [])
+    ∷ prints beyond beyondText
+    -- (from here on not M) a class of one piece is printed, an empty one between others is not; p before q
+    ∷ prints apart apartText
+    -- the same text in a lent buffer: with room the bytes behind it are kept, and one byte less gives 16 and alters none
+    ∷ hands beyond 14 0 12 (beyondText ++ (99 ∷ 99 ∷ []))
+    ∷ hands beyond 12 0 12 beyondText
+    ∷ hands beyond 11 16 12 (replicate 11 99)
+    -- 1 at 0: first byte isn't 4C
+    ∷ refuses (direct 0 0 1 ++ end) 1 0
+    -- 2 at its command byte, behind a match
+    ∷ refuses (lengths 10 10 ++ direct 0 0 6 ++ (0x46 ∷ [])) 2 22
+    -- 3: incomplete operands, at the command byte; of lengths ..
+    ∷ refuses (0x4C ∷ small 1 ++ (1 ∷ 0 ∷ 0 ∷ [])) 3 0
+    -- .. and of a match
+    ∷ refuses (lengths 10 10 ++ direct 0 0 6 ++ (0x52 ∷ small 2 ++ small 3 ++ (5 ∷ 0 ∷ 0 ∷ []))) 3 22
+    -- 3: bytes that ran out where a command was due, at the script's length
+    ∷ refuses (lengths 1 1) 3 9
+    ∷ refuses (lengths 10 10 ++ direct 0 0 6) 3 22
+    -- 4 at the second lengths, whether or not its operands are there
+    ∷ refuses (lengths 1 1 ++ lengths 1 1 ++ end) 4 9
+    ∷ refuses (lengths 10 10 ++ direct 0 0 6 ++ (0x4C ∷ [])) 4 22
+    -- 5 at 0: p or q is 0
+    ∷ refuses (lengths 0 1 ++ end) 5 0
+    ∷ refuses (lengths 1 0 ++ end) 5 0
+    -- 1000000000 passes as p and as q, and 1000000001 gives 5 at 0
+    ∷ reads (lengthsIn billion (small 1) ++ end) 1000000000 1 0
+    ∷ reads (lengthsIn (small 1) billion ++ end) 1 1000000000 0
+    ∷ refuses (lengthsIn billionAndOne (small 1) ++ end) 5 0
+    ∷ refuses (lengthsIn (small 1) billionAndOne ++ end) 5 0
+    -- 7 at its command byte, behind a match; before 8 and 9
+    ∷ refuses (lengths 10 10 ++ direct 0 0 6 ++ backward 0 0 0 ++ end) 7 22
+    ∷ refuses (lengths 10 10 ++ direct 11 11 0 ++ end) 7 9
+    -- 8 before 9: beyond both
+    ∷ refuses (lengths 10 10 ++ direct 0 0 6 ++ direct 5 5 6 ++ end) 8 22
+    -- 9 alone, by q and not by p
+    ∷ refuses (lengths 30 10 ++ direct 0 0 6 ++ backward 5 5 6 ++ end) 9 22
+    -- and 8 by p and not by q
+    ∷ refuses (lengths 10 30 ++ direct 0 0 6 ++ backward 5 5 6 ++ end) 8 22
+    -- the order of a number's bytes, in every operand
+    ∷ reads fourBytes 975771399 992614408 2
+    ∷ finds fourBytes 1 168496141 235868177 303240213 0
+    ∷ finds fourBytes 2 67305985 134678021 202050057 1
+    -- a match by its number; 13 for 0 and above the count; the script first
+    ∷ finds pairs 1 3 11 6 0
+    ∷ finds pairs 2 12 20 5 1
+    ∷ findsNone pairs 0 13 0
+    ∷ findsNone pairs 3 13 0
+    ∷ findsNone (lengths 10 10 ++ direct 0 0 6) 2 3 22
+    -- carrying over a direct match, from A and from B, and over a reversed one
+    ∷ carriesA pairs 1 5 (to 13)
+    ∷ carriesB pairs 1 13 (to 5)
+    ∷ carriesA pairs 2 13 (to 24)
+    ∷ carriesB pairs 2 24 (to 13)
+    -- a span's own ends are carried
+    ∷ carriesA pairs 1 3 (to 11)
+    ∷ carriesA pairs 2 17 (to 20)
+    ∷ carriesB pairs 1 17 (to 9)
+    ∷ carriesB pairs 2 20 (to 17)
+    -- 14: what lies on the other side's span alone, and next to the ends
+    ∷ carriesA pairs 1 13 (stays 14 0)
+    ∷ carriesB pairs 1 5 (stays 14 0)
+    ∷ carriesA pairs 2 11 (stays 14 0)
+    ∷ carriesA pairs 2 18 (stays 14 0)
+    ∷ carriesB pairs 2 19 (stays 14 0)
+    ∷ carriesB pairs 2 26 (stays 14 0)
+    -- 13 before 14, and the script before both
+    ∷ carriesA pairs 0 99 (stays 13 0)
+    ∷ carriesB pairs 3 99 (stays 13 0)
+    ∷ carriesA (lengths 10 10 ++ direct 0 0 6) 2 99 (stays 3 22)
+    ∷ carriesB [] 0 99 (stays 1 0)
+    -- the rows of a match: up to the first break; none; and none by the numbers that form no row
+    ∷ marks anything 2 5 15
+    ∷ marks anything 9 15 20
+    ∷ marks anything 0 30 35
+    ∷ marks anything 5 0 0
+    ∷ marks anything 3 0 0
+    -- the summary of the same: seven rows, two of them the same piece, three in no class
+    ∷ sums anything 7 6 6442450959
+    (1 ∷ 0 ∷ 0 ∷ 2 ∷ 0 ∷ 0 ∷ 0 ∷ 0 ∷ 0 ∷ 0 ∷ 0 ∷ 0 ∷ 0 ∷ 0 ∷ 0 ∷ 0 ∷ 0 ∷ 0 ∷ 0 ∷ 0 ∷ 0 ∷ 0 ∷ 0 ∷ 0 ∷ 0 ∷ 0 ∷ 0 ∷ 0 ∷ 0 ∷ 1 ∷ [])
+    -- of no row at all
+    ∷ sums (1 ∷ 0 ∷ 0 ∷ 2 ∷ []) 0 0 0 (replicate 30 0)
     ∷ []
