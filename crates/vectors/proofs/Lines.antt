@@ -1,4 +1,4 @@
--- The definitions yield 01's lines marked M, by one computation over the whole table.
+-- The definitions yield 01's lines marked M and those beside them, by one computation over the whole table.
 -- Assumes nothing.
 use mathlib.Core.Path.{_≡_, refl}
 use mathlib.Core.Logic.{Dec·and}
@@ -17,7 +17,8 @@ use Rattle.refine.specs.Carrying.{carryingOf}
 use Rattle.text.specs.Decimal.{placesWithin}
 use Rattle.report.specs.Lines.{rowLines, classLines}
 use Rattle.report.specs.Reporting.{reportOf}
-use Rattle.vectors.specs.Lines.{Line, lines}
+use Rattle.vectors.specs.Kinds.{Line}
+use Rattle.vectors.specs.Lines.{lines}
 
 pub lines-hold : map (λ (l : Line). l .comes) lines ≡ map (λ (l : Line). l .leaves) lines
 unfolding readFrom readScript insertBy sortBy flatMap Dec·and decLe decLt ℕ-discrete firstRows rowsOf occurs

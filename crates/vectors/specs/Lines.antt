@@ -1,172 +1,14 @@
--- 01's lines marked M, as one table, and with them lines for what 01 says with a number of its own and marks not: each
--- refusal's number and place, the order of a number's bytes, the limits, what a class needs to be printed. A line is a
--- call with all its bytes or numbers, and what must come of it. TO READ beside 01, "Small scripts at the edges", "Refused
--- scripts and calls" and "One run, complete". All bytes are written out: the table says by itself in which order a
--- number's bytes stand and how a number is printed.
---     Line              what the definitions say of a call, and what must come of it
---     refines, reads, finds, carriesA, carriesB     calls on a script, through the doors
---     marks, sums       calls on a table, through the doors
---     prints, hands     what the program prints; and the same in a lent buffer, through the door
---     lines             the table
--- Every lent number, and every number behind a pointer, is 99 before the call, so that a number that is kept shows.
+-- 01's lines marked M as one table, and with them lines for what 01 says with numbers but does not mark: each refusal's
+-- number and place, the order of a number's bytes, the limits, which classes are printed, where a position is carried.
+-- TO READ beside 01, "Small scripts at the edges", "Refused scripts and calls" and "One run, complete". All bytes are
+-- written out: the table says by itself in which order a number's bytes stand and how a number is printed.
+--     lines     the table; `specs/Kinds` has the kinds of lines
 -- Assumes nothing.
-use Prim.Native.Nat.{ℕ, _*_, _-_}
-use mathlib.Core.Bool.{cond}
+use Prim.Native.Nat.{ℕ}
 use mathlib.Core.List.{List, [], _∷_, _++_}
-use lib.ListN.{length, take, replicate}
-use lib.Dec.{eqb}
-use Rattle.table.specs.Summing.{summaryOf}
-use Rattle.refine.specs.Refining.{refiningOf}
-use Rattle.refine.specs.declared.answers.Refined.{Refined}
-use Rattle.report.specs.Reporting.{reportOf, reportingOf}
-use Rattle.capi.specs.Doors.{Reply, Read, OneMatch, RowsReply, SummaryReply, ReportReply, readDoor, matchDoor, refineDoor}
-use Rattle.capi.specs.Doors.{carryFromA, carryFromB, rowsDoor, summaryDoor, reportDoor}
-
--- ---- what a line says
-
--- the number returned and all that stands behind the pointers and in the lent buffers after the call; of refining also
--- the distinct pieces of the rows it counts
-pub data Outcome : Type 0 where
-  refined : Reply ℕ → (distinct : ℕ) (table work : List ℕ) → Outcome
-  read : Reply Read → Outcome
-  found : Reply OneMatch → Outcome
-  carried : Reply ℕ → Outcome
-  marked : RowsReply → Outcome
-  summed : SummaryReply → Outcome
-  printed : (text : List ℕ) → Outcome
-  handed : ReportReply → (text : List ℕ) → Outcome
-
-pub record Line : Type 0 where
-  pub comes : Outcome
-  pub leaves : Outcome
-
-abbrev old : ℕ
-old = 99
-
--- ---- refining
-
--- a refusal's number and place; or the rows of the table, and how many pieces are distinct
-pub data Expected : Type 0 where
-  refused : (number place : ℕ) → Expected
-  pieces : List (List ℕ) → (distinct : ℕ) → Expected
-
--- a script, the numbers lent as table and as work buffer, and what must come of it
-pub record Refining : Type 0 where
-  pub script : List ℕ
-  pub table : ℕ
-  pub work : ℕ
-  pub expected : Expected
-
-abbrev pub distinctOf : Refined → List ℕ → ℕ
-distinctOf (Refined.Rows n) table = summaryOf (take (5 * n) table) .distinct
-distinctOf (Refined.Refused r) table = 0
-
-abbrev pub flat : List (List ℕ) → List ℕ
-flat [] = []
-flat (r ∷ rs) = r ++ flat rs
-
--- only success and 12 alter the work buffer, and only success the table
-abbrev pub leavesOf : Expected → ℕ → ℕ → Outcome
-leavesOf (refused number place) t w =
-    refined (record { number = number; place = place; given = old }) 0 (replicate t old)
-    (replicate w (cond (eqb number 12) 0 old))
-leavesOf (pieces rows distinct) t w =
-    refined (record { number = 0; place = old; given = length rows }) distinct
-    (flat rows ++ replicate (t - length (flat rows)) old) (replicate w 0)
-
-abbrev pub refines : Refining → Line
-refines l =
-    let table = replicate (l .table) old in
-    let work = replicate (l .work) old in
-    let x = refiningOf (l .script) table work in
-    record {
-      comes =
-          refined (refineDoor (l .script) table work old old) (distinctOf (x .reply) (x .table)) (x .table) (x .work);
-      leaves = leavesOf (l .expected) (l .table) (l .work);
-    }
-
--- ---- reading, finding, carrying
-
-abbrev readsTo : List ℕ → ℕ → ℕ → Read → Line
-readsTo script number place x =
-    record {
-      comes = read (readDoor script old (record { p = old; q = old; count = old }));
-      leaves = read (record { number = number; place = place; given = x });
-    }
-
--- admitted: p, q and the count of matches
-abbrev pub reads : List ℕ → ℕ → ℕ → ℕ → Line
-reads script p q count = readsTo script 0 old (record { p = p; q = q; count = count })
-
--- refused: the number and the place
-abbrev pub refuses : List ℕ → ℕ → ℕ → Line
-refuses script number place = readsTo script number place (record { p = old; q = old; count = old })
-
-abbrev findsTo : List ℕ → ℕ → ℕ → ℕ → OneMatch → Line
-findsTo script which number place x =
-    let was : OneMatch = record { left-a = old; left-b = old; letters = old; reversed = old } in
-    record {
-      comes = found (matchDoor script which old was);
-      leaves = found (record { number = number; place = place; given = x });
-    }
-
--- the match of that number: its left-A, left-B, length and direction; or the refusal's number and place
-abbrev pub finds : List ℕ → ℕ → ℕ → ℕ → ℕ → ℕ → Line
-finds script which left-a left-b letters reversed =
-    findsTo script which 0 old (record { left-a = left-a; left-b = left-b; letters = letters; reversed = reversed })
-
-abbrev pub findsNone : List ℕ → ℕ → ℕ → ℕ → Line
-findsNone script which number place =
-    findsTo script which number place (record { left-a = old; left-b = old; letters = old; reversed = old })
-
--- a position that is carried, and to where; or the refusal's number and place
-abbrev to : ℕ → Reply ℕ
-to x = record { number = 0; place = old; given = x }
-
-abbrev stays : ℕ → ℕ → Reply ℕ
-stays number place = record { number = number; place = place; given = old }
-
--- from A, and from B, over the match of that number: the position and what must come of it
-abbrev pub carriesA : List ℕ → ℕ → ℕ → Reply ℕ → Line
-carriesA script which position x =
-    record { comes = carried (carryFromA script which position old old); leaves = carried x }
-
-abbrev pub carriesB : List ℕ → ℕ → ℕ → Reply ℕ → Line
-carriesB script which position x =
-    record { comes = carried (carryFromB script which position old old); leaves = carried x }
-
--- ---- tables
-
--- the rows of the match of that number: from where to where they stand
-abbrev pub marks : List ℕ → ℕ → ℕ → ℕ → Line
-marks table which start end =
-    record {
-      comes = marked (rowsDoor table which);
-      leaves = marked (record { number = 0; start = start; end = end });
-    }
-
--- pieces, distinct pieces, letters, and the classes
-abbrev pub sums : List ℕ → ℕ → ℕ → ℕ → List ℕ → Line
-sums table all distinct letters classes =
-    record {
-      comes = summed (summaryDoor table);
-      leaves =
-          summed (record { number = 0; pieces = all; distinct = distinct; letters = letters; classes = classes });
-    }
-
--- ---- the text
-
-abbrev pub prints : List ℕ → List ℕ → Line
-prints script text = record { comes = printed (reportOf script); leaves = printed text }
-
--- in a buffer of so many bytes: the number, the length that is told, and the buffer after the call
-abbrev pub hands : List ℕ → ℕ → ℕ → ℕ → List ℕ → Line
-hands script lent number told text =
-    let buffer = replicate lent old in
-    record {
-      comes = handed (reportDoor script buffer) (reportingOf script buffer .text);
-      leaves = handed (record { number = number; length = told }) text;
-    }
+use lib.ListN.{replicate}
+use Rattle.vectors.specs.Kinds.{Line, Expected, refused, pieces, flat, refines, reads, refuses, finds, findsNone}
+use Rattle.vectors.specs.Kinds.{to, stays, carriesA, carriesB, marks, sums, prints, hands}
 
 -- ---- scripts
 
@@ -276,7 +118,9 @@ apartText =
     -- lengths 20 30
     ((108 ∷ 101 ∷ 110 ∷ 103 ∷ 116 ∷ 104 ∷ 115 ∷ 32 ∷ 50 ∷ 48 ∷ 32 ∷ 51 ∷ 48 ∷ 10 ∷ [])
     -- matches 3 pieces 3 distinct 3 letters 10
-    ∷ (109 ∷ 97 ∷ 116 ∷ 99 ∷ 104 ∷ 101 ∷ 115 ∷ 32 ∷ 51 ∷ 32 ∷ 112 ∷ 105 ∷ 101 ∷ 99 ∷ 101 ∷ 115 ∷ 32 ∷ 51 ∷ 32 ∷ 100 ∷ 105 ∷ 115 ∷ 116 ∷ 105 ∷ 110 ∷ 99 ∷ 116 ∷ 32 ∷ 51 ∷ 32 ∷ 108 ∷ 101 ∷ 116 ∷ 116 ∷ 101 ∷ 114 ∷ 115 ∷ 32 ∷ 49 ∷ 48 ∷ 10 ∷ [])
+    ∷ (109 ∷ 97 ∷ 116 ∷ 99 ∷ 104 ∷ 101 ∷ 115 ∷ 32 ∷ 51 ∷ 32 ∷ 112 ∷ 105 ∷ 101 ∷ 99 ∷ 101 ∷ 115 ∷ 32 ∷ 51 ∷ 32
+    ∷ 100 ∷ 105 ∷ 115 ∷ 116 ∷ 105 ∷ 110 ∷ 99 ∷ 116 ∷ 32 ∷ 51 ∷ 32 ∷ 108 ∷ 101 ∷ 116 ∷ 116 ∷ 101 ∷ 114 ∷ 115
+    ∷ 32 ∷ 49 ∷ 48 ∷ 10 ∷ [])
     -- 1 0 0 1 +
     ∷ (49 ∷ 32 ∷ 48 ∷ 32 ∷ 48 ∷ 32 ∷ 49 ∷ 32 ∷ 43 ∷ 10 ∷ [])
     -- 2 2 3 4 +
@@ -402,7 +246,7 @@ lines =
     ∷ prints beyond beyondText
     -- (from here on not M) a class of one piece is printed, an empty one between others is not; p before q
     ∷ prints apart apartText
-    -- the same text in a lent buffer: with room the bytes behind it are kept, and one byte less gives 16 and alters none
+    -- the same text in a lent buffer: the bytes behind it are kept; one byte too few gives 16 and alters none
     ∷ hands beyond 14 0 12 (beyondText ++ (99 ∷ 99 ∷ []))
     ∷ hands beyond 12 0 12 beyondText
     ∷ hands beyond 11 16 12 (replicate 11 99)
@@ -441,7 +285,7 @@ lines =
     ∷ reads fourBytes 975771399 992614408 2
     ∷ finds fourBytes 1 168496141 235868177 303240213 0
     ∷ finds fourBytes 2 67305985 134678021 202050057 1
-    -- a match by its number; 13 for 0 and above the count; the script first
+    -- a match by its number; 13 for 0 and above the count; the script's own refusal before
     ∷ finds pairs 1 3 11 6 0
     ∷ finds pairs 2 12 20 5 1
     ∷ findsNone pairs 0 13 0
@@ -475,9 +319,9 @@ lines =
     ∷ marks anything 0 30 35
     ∷ marks anything 5 0 0
     ∷ marks anything 3 0 0
-    -- the summary of the same: seven rows, two of them the same piece, three in no class
+    -- the summary of the same: seven rows, two of them the same piece, three in no class; classes 0, 3 and 29
     ∷ sums anything 7 6 6442450959
-    (1 ∷ 0 ∷ 0 ∷ 2 ∷ 0 ∷ 0 ∷ 0 ∷ 0 ∷ 0 ∷ 0 ∷ 0 ∷ 0 ∷ 0 ∷ 0 ∷ 0 ∷ 0 ∷ 0 ∷ 0 ∷ 0 ∷ 0 ∷ 0 ∷ 0 ∷ 0 ∷ 0 ∷ 0 ∷ 0 ∷ 0 ∷ 0 ∷ 0 ∷ 1 ∷ [])
+    (flat ((1 ∷ 0 ∷ 0 ∷ 2 ∷ []) ∷ replicate 25 0 ∷ (1 ∷ []) ∷ []))
     -- of no row at all
     ∷ sums (1 ∷ 0 ∷ 0 ∷ 2 ∷ []) 0 0 0 (replicate 30 0)
     ∷ []
