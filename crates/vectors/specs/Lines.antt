@@ -2,9 +2,10 @@
 -- number and place, the order of a number's bytes, the limits, which classes are printed, where a position is carried.
 -- TO READ beside 01, "Small scripts at the edges", "Refused scripts and calls" and "One run, complete". All bytes are
 -- written out: the table says by itself in which order a number's bytes stand and how a number is printed.
---     lines     the table; `specs/Kinds` has the kinds of lines
+--     lines               the table; `specs/Kinds` has the kinds of lines
+--     mostPass, oneMore   two more lines, which are too long to be computed
 -- Assumes nothing.
-use Prim.Native.Nat.{ℕ}
+use Prim.Native.Nat.{ℕ, zero, suc}
 use mathlib.Core.List.{List, [], _∷_, _++_}
 use lib.ListN.{replicate}
 use Rattle.vectors.specs.Kinds.{Line, Expected, refused, pieces, flat, refines, reads, refuses, finds, findsNone}
@@ -19,16 +20,16 @@ small n = n ∷ 0 ∷ 0 ∷ 0 ∷ []
 abbrev largest : List ℕ
 largest = 255 ∷ 255 ∷ 255 ∷ 255 ∷ []
 
-abbrev lengths : ℕ → ℕ → List ℕ
+abbrev pub lengths : ℕ → ℕ → List ℕ
 lengths p q = 0x4C ∷ small p ++ small q
 
-abbrev direct : ℕ → ℕ → ℕ → List ℕ
+abbrev pub direct : ℕ → ℕ → ℕ → List ℕ
 direct a b d = 0x44 ∷ small a ++ small b ++ small d
 
 abbrev backward : ℕ → ℕ → ℕ → List ℕ
 backward a b d = 0x52 ∷ small a ++ small b ++ small d
 
-abbrev end : List ℕ
+abbrev pub end : List ℕ
 end = 0x45 ∷ []
 
 -- lengths of all four bytes each
@@ -325,3 +326,18 @@ lines =
     -- of no row at all
     ∷ sums (1 ∷ 0 ∷ 0 ∷ 2 ∷ []) 0 0 0 (replicate 30 0)
     ∷ []
+
+-- ---- the limit of matches: 26,634 bytes are too many to compute with, so `proofs/Most` goes match by match
+
+-- direct 0 0 1 so many times
+unfoldable pub many : ℕ → List ℕ
+many zero = []
+many (suc n) = direct 0 0 1 ++ many n
+
+-- "2,048 matches pass the reader;
+abbrev pub mostPass : Line
+mostPass = reads (lengths 1 1 ++ (many 2048 ++ end)) 1 1 2048
+
+-- one more gives 6 at 26633."
+abbrev pub oneMore : Line
+oneMore = refuses (lengths 1 1 ++ (many 2048 ++ (direct 0 0 1 ++ end))) 6 26633
