@@ -189,6 +189,9 @@ lines =
     ∷ refines (record { script = run; table = 39; work = 28; expected = refused 12 0 })
     -- (not M) with 40 numbers of table, 32 of work pass and 31 give 11
     ∷ refines (record { script = run; table = 40; work = 31; expected = refused 11 0 })
+    -- (not M) 11 before 12, and the script's own refusal before both
+    ∷ refines (record { script = run; table = 39; work = 27; expected = refused 11 0 })
+    ∷ refines (record { script = lengths 1 1; table = 5; work = 3; expected = refused 3 9 })
     -- lengths 4 4, direct 0 0 4 twice: 2 pieces, 1 distinct
     ∷ refines (record {
       script = lengths 4 4 ++ direct 0 0 4 ++ direct 0 0 4 ++ end;
@@ -255,8 +258,8 @@ lines =
     ∷ refuses (direct 0 0 1 ++ end) 1 0
     -- 2 at its command byte, behind a match
     ∷ refuses (lengths 10 10 ++ direct 0 0 6 ++ (0x46 ∷ [])) 2 22
-    -- 3: incomplete operands, at the command byte; of lengths ..
-    ∷ refuses (0x4C ∷ small 1 ++ (1 ∷ 0 ∷ 0 ∷ [])) 3 0
+    -- 3: incomplete operands, at the command byte; of lengths, before 5 ..
+    ∷ refuses (0x4C ∷ small 0 ++ (1 ∷ 0 ∷ 0 ∷ [])) 3 0
     -- .. and of a match
     ∷ refuses (lengths 10 10 ++ direct 0 0 6 ++ (0x52 ∷ small 2 ++ small 3 ++ (5 ∷ 0 ∷ 0 ∷ []))) 3 22
     -- 3: bytes that ran out where a command was due, at the script's length
