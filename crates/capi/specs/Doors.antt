@@ -30,11 +30,13 @@ use Rattle.table.specs.declared.summing.Summary.{Summary}
 
 -- ---- what the doors on scripts share
 
+-- what is returned, the place, and what stands behind the other pointers
 pub record Reply (X : Type 0) : Type 0 where
   pub number : ℕ
   pub place : ℕ
   pub given : X
 
+-- what is to be handed out, or why nothing is
 pub data Said (X : Type 0) : Type 0 where
   gives : X → Said X
   refuses : Refusal → Said X
@@ -47,6 +49,7 @@ door (refuses r) place was = record { number = numberOf r; place = placeOf r; gi
 
 -- ---- reading
 
+-- behind p, q and count
 pub record Read : Type 0 where
   pub p : ℕ
   pub q : ℕ
@@ -57,6 +60,7 @@ abbrev pub ofReading : Reading → Said Read
 ofReading (admitted p q ms) = gives (record { p = p; q = q; count = length ms })
 ofReading (refused r) = refuses r
 
+-- notchergrey_read
 abbrev pub readDoor : List ℕ → ℕ → Read → Reply Read
 readDoor script place was = door (ofReading (readScript script)) place was
 
@@ -67,6 +71,7 @@ abbrev pub bitOf : Bool → ℕ
 bitOf true = 1
 bitOf false = 0
 
+-- behind left_a, left_b, length and reversed
 pub record OneMatch : Type 0 where
   pub left-a : ℕ
   pub left-b : ℕ
@@ -80,6 +85,7 @@ ofFinding (Finding.Found m) =
     (record { left-a = m .«left_a»; left-b = m .«left_b»; letters = m .length; reversed = bitOf (m .reversed) })
 ofFinding (Finding.Refused r) = refuses r
 
+-- notchergrey_match, by "Matches are numbered from 1"
 abbrev pub matchDoor : List ℕ → ℕ → ℕ → OneMatch → Reply OneMatch
 matchDoor script number place was = door (ofFinding (findingOf (readScript script) number)) place was
 
@@ -90,6 +96,7 @@ abbrev pub ofRefined : Refined → Said ℕ
 ofRefined (Refined.Rows n) = gives n
 ofRefined (Refined.Refused r) = refuses r
 
+-- notchergrey_refine; what the lent table and work buffer hold after it is the library's `refiningOf`
 abbrev pub refineDoor : List ℕ → List ℕ → List ℕ → ℕ → ℕ → Reply ℕ
 refineDoor script table work place was = door (ofRefined (refiningOf script table work .reply)) place was
 
@@ -100,18 +107,21 @@ abbrev pub ofCarried : Carried → Said ℕ
 ofCarried (Carried.To x) = gives x
 ofCarried (Carried.Refused r) = refuses r
 
+-- from the side named
 abbrev pub carryDoor : Side → List ℕ → ℕ → ℕ → ℕ → ℕ → Reply ℕ
 carryDoor side script number position place was = door (ofCarried (carryingOf script number side position)) place was
 
--- "Carrying from B to A is the inverse."
+-- notchergrey_carry_from_a
 abbrev pub carryFromA : List ℕ → ℕ → ℕ → ℕ → ℕ → Reply ℕ
 carryFromA script number position place was = carryDoor A script number position place was
 
+-- notchergrey_carry_from_b: "Carrying from B to A is the inverse." (laws a-then-b, b-then-a)
 abbrev pub carryFromB : List ℕ → ℕ → ℕ → ℕ → ℕ → Reply ℕ
 carryFromB script number position place was = carryDoor B script number position place was
 
 -- ---- tables
 
+-- what is returned, and what stands behind start and end
 pub record RowsReply : Type 0 where
   pub number : ℕ
   pub start : ℕ
@@ -121,9 +131,11 @@ pub record RowsReply : Type 0 where
 abbrev pub ofSpan : Span → RowsReply
 ofSpan s = record { number = 0; start = s .start; end = s .end }
 
+-- notchergrey_rows_of
 abbrev pub rowsDoor : List ℕ → ℕ → RowsReply
 rowsDoor table number = ofSpan (spanOf number table)
 
+-- what is returned, and what stands behind the pointers
 pub record SummaryReply : Type 0 where
   pub number : ℕ
   pub pieces : ℕ
@@ -136,11 +148,13 @@ abbrev pub ofSummary : Summary → SummaryReply
 ofSummary s =
     record { number = 0; pieces = s .pieces; distinct = s .distinct; letters = s .letters; classes = s .classes }
 
+-- notchergrey_summary
 abbrev pub summaryDoor : List ℕ → SummaryReply
 summaryDoor table = ofSummary (summaryOf table)
 
 -- ---- the text
 
+-- what is returned, and what stands behind length
 pub record ReportReply : Type 0 where
   pub number : ℕ
   pub length : ℕ
@@ -150,5 +164,6 @@ abbrev pub ofReported : Reported → ReportReply
 ofReported (Reported.Printed n) = record { number = 0; length = n }
 ofReported (Reported.TextTooShort n) = record { number = 16; length = n }
 
+-- notchergrey_report; what the lent text holds after it is the library's `reportingOf`
 abbrev pub reportDoor : List ℕ → List ℕ → ReportReply
 reportDoor script text = ofReported (reportingOf script text .reply)
