@@ -1,8 +1,23 @@
--- How much was read. Assumes nothing.
---     countOf i     the bytes read; none of an input that cannot be read
-use Prim.Native.Nat.{ℕ}
-use Rattle.notchergrey.specs.declared.Input.{Input}
+-- What the program reads and writes. TO READ: contracts mean what stands here.
+--     inputRoom      so many bytes are read at most
+--     countOf m      the bytes that a read or a write moved; none if it failed
+--     Went n o       what went out of a text of n bytes
+-- 01, "One run, complete". Assumes nothing.
+use Prim.Native.Nat.{ℕ, suc, _<_}
+use mathlib.Core.Path.{_≡_}
+use Rattle.script.specs.Limits.{longestScript}
+use Rattle.notchergrey.specs.declared.Moved.{Moved}
+use Rattle.notchergrey.specs.declared.Output.{Output}
 
-abbrev pub countOf : Input → ℕ
-countOf (Input.Bytes n) = n
-countOf Input.Unreadable = 0
+-- "The program reads standard input up to 26,635 bytes": one more than the longest admitted script has
+abbrev pub inputRoom : ℕ
+inputRoom = suc longestScript
+
+abbrev pub countOf : Moved → ℕ
+countOf (Moved.Bytes n) = n
+countOf Moved.Failed = 0
+
+-- all of it; or, where a write failed, less
+abbrev pub Went : ℕ → Output → Type 0
+Went n (Output.Whole k) = k ≡ n
+Went n (Output.Broken k) = k < n

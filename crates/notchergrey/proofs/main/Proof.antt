@@ -1,9 +1,22 @@
--- `main` meets its contract: what was read is a part of the buffer. Assumes nothing.
+-- `main` meets its contract: what was read is a part of the buffer, which has the room that `read_input` asks for.
+-- Assumes nothing.
 use mathlib.Core.Path.{sym}
 use lib.Seq.{length-take-le}
 use borrow.Author.Needs.{needs}
 use Rattle.notchergrey.proofs.main.Statement.{statement}
 use Rattle.notchergrey.proofs.main.Tie as tie
+
+arg-count-requires : tie.Need-arg-count-requires
+arg-count-requires c κs = search needs
+
+slice-aggregate-write-all : tie.Need-slice-aggregate-write-all
+slice-aggregate-write-all c = search needs
+
+write-all-requires : tie.Need-write-all-requires
+write-all-requires c κs = search needs
+
+returns : tie.Need-returns
+returns c = search needs
 
 slice-aggregate-read-input : tie.Need-slice-aggregate-read-input
 slice-aggregate-read-input c = search needs
@@ -30,22 +43,41 @@ print-report-requires c κs = search needs
 enum-told : tie.Need-enum-told
 enum-told c = search needs
 
+enum-told-2 : tie.Need-enum-told-2
+enum-told-2 c = search needs
+
 slice-aggregate-fail : tie.Need-slice-aggregate-fail
 slice-aggregate-fail c = search needs
 
 fail-requires : tie.Need-fail-requires
 fail-requires c κs = search needs
 
-returns : tie.Need-returns
-returns c = search needs
+enum-told-3 : tie.Need-enum-told-3
+enum-told-3 c = search needs
+
+slice-aggregate-fail-2 : tie.Need-slice-aggregate-fail-2
+slice-aggregate-fail-2 c = search needs
+
+fail-requires-2 : tie.Need-fail-requires-2
+fail-requires-2 c κs = search needs
 
 returns-2 : tie.Need-returns-2
 returns-2 c = search needs
+
+returns-3 : tie.Need-returns-3
+returns-3 c = search needs
+
+returns-4 : tie.Need-returns-4
+returns-4 c = search needs
 
 pub main-spec : {M : Type 1} → statement M
 main-spec =
     tie.close
     (tie.spec
+    arg-count-requires
+    slice-aggregate-write-all
+    write-all-requires
+    returns
     slice-aggregate-read-input
     read-input-requires
     enum-known-count
@@ -53,7 +85,12 @@ main-spec =
     slice-aggregate-print-report
     print-report-requires
     enum-told
+    enum-told-2
     slice-aggregate-fail
     fail-requires
-    returns
-    returns-2)
+    enum-told-3
+    slice-aggregate-fail-2
+    fail-requires-2
+    returns-2
+    returns-3
+    returns-4)
