@@ -1,147 +1,103 @@
 // Runs the lines of 01, "Small scripts at the edges", that carry no M, and prints what the library answers to each.
 // The slow program prints the same lines, and the two are compared: a line that a failed write loses shows there.
-mod draft;
+mod answers;
 
-use draft::DIRECT;
-use draft::END;
-use draft::REVERSED;
-use draft::put_byte;
-use draft::put_lengths;
-use draft::put_match;
-use draft::put_matches;
+use answers::put_carried;
+use answers::put_read;
+use answers::put_refined;
 use libc::STDOUT_FILENO;
-use refine::answers::Carried;
-use refine::answers::Refined;
 use refinement::Side;
-use script::Refusal;
-use script::Verdict;
-use script::refusal::number_of;
-use script::refusal::place_of;
+use text::put_byte;
+use text::put_bytes;
 ghost use mathlib.Core.Path.{_≡_};
-ghost use Prim.Native.Nat.{_+_, _*_};
+ghost use Prim.Native.Nat.{_+_, _*_, _≤_};
 ghost use lib.ListN.{length};
-
-fn print(word: &[u8], number: u64) {
-    io::write_all(STDOUT_FILENO, word);
-    io::print_decimal(STDOUT_FILENO, number);
-}
-
-// The last word and number of a line.
-fn print_last(word: &[u8], number: u64) {
-    print(word, number);
-    io::write_all(STDOUT_FILENO, b"\n");
-}
-
-fn print_refusal(refusal: Refusal) {
-    print(b" refused ", number_of(refusal) as u64);
-    print_last(b" ", place_of(refusal) as u64);
-}
-
-fn print_reading(script: &[u8]) {
-    let read = script::read(script);
-    let verdict = read.verdict;
-    match verdict {
-        Verdict::Admitted {
-            p: _,
-            q: _,
-            count: _,
-        } => {
-            io::write_all(STDOUT_FILENO, b" admitted\n");
-        }
-        Verdict::Refused(refusal) => print_refusal(refusal),
-    }
-}
-
-// Every table here has 40 numbers.
-fn print_refining(script: &[u8], work: &mut [u32]) {
-    let mut table = [0; 40];
-    match refine::refine(script, &mut table, work) {
-        Refined::Rows(count) => print_last(b" rows ", count as u64),
-        Refined::Refused(refusal) => print_refusal(refusal),
-    }
-}
-
-fn print_carrying(script: &[u8], number: u32, side: Side, position: u32) {
-    match refine::carrying::carry(script, number, side, position) {
-        Carried::To(position) => print_last(b" to ", position as u64),
-        Carried::Refused(refusal) => print_refusal(refusal),
-    }
-}
+ghost use Rattle.text.specs.Putting.{Put};
+ghost use Rattle.edge_lines.specs.Scripts.{many};
+ghost use Rattle.edge_lines.specs.Lines.{workLines, touchingLines, longLines, manyLines, edgeLines};
 
 // "With 40 numbers of table, 32 of work pass and 31 give 11."
-fn work_lines() {
-    let mut script = [0; 36];
-    let at = put_lengths(&mut script, 10, 10);
-    let at = put_match(&mut script, at, DIRECT, 0, 0, 6);
-    let at = put_match(&mut script, at, REVERSED, 2, 3, 5);
-    put_byte(&mut script, at, END);
+fn put_work_lines(text: &mut [u8], at: usize) -> usize
+    requires { ⌜ at ≤ 200 ⌝ }
+    ensures { λ r. ⌜ Put workLines (now (text .entry)) at (now (text .exit)) r ⌝ }
+    ensures { λ r. ⌜ r ≤ at + 142 ⌝ }
+{
+    let run = b"L\x0A\0\0\0\x0A\0\0\0D\0\0\0\0\0\0\0\0\x06\0\0\0R\x02\0\0\0\x03\0\0\0\x05\0\0\0E";
     let mut enough = [0; 32];
     let mut short = [0; 31];
-    work_line(&script, &mut enough);
-    work_line(&script, &mut short);
-}
-
-fn work_line(script: &[u8], work: &mut [u32]) {
-    print(b"work ", work.len() as u64);
-    print_refining(script, work);
+    let next = put_refined(text, at, b"work 32", run, &mut enough);
+    put_refined(text, next, b"work 31", run, &mut short)
 }
 
 // "Lengths 8 8, direct 0 0 4, direct 4 4 4: 2 pieces; position 4 belongs to both."
-fn touching_lines() {
-    let mut script = [0; 36];
-    let at = put_lengths(&mut script, 8, 8);
-    let at = put_match(&mut script, at, DIRECT, 0, 0, 4);
-    let at = put_match(&mut script, at, DIRECT, 4, 4, 4);
-    put_byte(&mut script, at, END);
+fn put_touching_lines(text: &mut [u8], at: usize) -> usize
+    requires { ⌜ at ≤ 200 ⌝ }
+    ensures { λ r. ⌜ Put touchingLines (now (text .entry)) at (now (text .exit)) r ⌝ }
+    ensures { λ r. ⌜ r ≤ at + 355 ⌝ }
+{
+    let touching =
+        b"L\x08\0\0\0\x08\0\0\0D\0\0\0\0\0\0\0\0\x04\0\0\0D\x04\0\0\0\x04\0\0\0\x04\0\0\0E";
     let mut work = [0; 32];
-    io::write_all(STDOUT_FILENO, b"touching");
-    print_refining(&script, &mut work);
-    touching_line(&script, 1, Side::A);
-    touching_line(&script, 2, Side::A);
-    touching_line(&script, 1, Side::B);
-    touching_line(&script, 2, Side::B);
-}
-
-fn touching_line(script: &[u8], number: u32, side: Side) {
-    print(b"touching ", number as u64);
-    match side {
-        Side::A => print(b" A ", 4),
-        Side::B => print(b" B ", 4),
-    }
-    print_carrying(script, number, side, 4);
+    let next = put_refined(text, at, b"touching", touching, &mut work);
+    let next = put_carried(text, next, b"touching 1 A 4", touching, 1, Side::A, 4);
+    let next = put_carried(text, next, b"touching 2 A 4", touching, 2, Side::A, 4);
+    let next = put_carried(text, next, b"touching 1 B 4", touching, 1, Side::B, 4);
+    put_carried(text, next, b"touching 2 B 4", touching, 2, Side::B, 4)
 }
 
 // "Lengths 1000000000 1, end: passes. Lengths 1000000001 1: 5 at 0."
-fn lengths_line(p: u32, q: u32) {
-    let mut script = [0; 10];
-    let at = put_lengths(&mut script, p, q);
-    put_byte(&mut script, at, END);
-    print(b"lengths ", p as u64);
-    print(b" ", q as u64);
-    print_reading(&script);
+fn put_long_lines(text: &mut [u8], at: usize) -> usize
+    requires { ⌜ at ≤ 600 ⌝ }
+    ensures { λ r. ⌜ Put longLines (now (text .entry)) at (now (text .exit)) r ⌝ }
+    ensures { λ r. ⌜ r ≤ at + 142 ⌝ }
+{
+    let longest = b"L\x00\xCA\x9A\x3B\x01\0\0\0E";
+    let longer = b"L\x01\xCA\x9A\x3B\x01\0\0\0E";
+    let next = put_read(text, at, b"lengths 1000000000 1", longest);
+    put_read(text, next, b"lengths 1000000001 1", longer)
+}
+
+// A script of so many matches of one letter each, which fills the buffer.
+fn put_many(script: &mut [u8], count: usize)
+    requires { ⌜ 10 + 13 * count ≡ length (now script) ⌝ }
+    requires { ⌜ count ≤ 4096 ⌝ }
+    ensures { λ _. ⌜ now (script .exit) ≡ many count ⌝ }
+{
+    let mut at = put_bytes(script, 0, b"L\x01\0\0\0\x01\0\0\0");
+    let mut k: usize = 0;
+    while k < count {
+        at = put_bytes(script, at, b"D\0\0\0\0\0\0\0\0\x01\0\0\0");
+        k += 1;
+    }
+    put_byte(script, at, b'E');
 }
 
 // "2,048 matches pass the reader; one more gives 6 at 26633."
-fn matches_lines() {
+fn put_many_lines(text: &mut [u8], at: usize) -> usize
+    requires { ⌜ at ≤ 800 ⌝ }
+    ensures { λ r. ⌜ Put manyLines (now (text .entry)) at (now (text .exit)) r ⌝ }
+    ensures { λ r. ⌜ r ≤ at + 142 ⌝ }
+{
     let mut most = [0; 26_634];
     let mut more = [0; 26_647];
-    matches_line(&mut most, 2_048);
-    matches_line(&mut more, 2_049);
+    put_many(&mut most, 2_048);
+    put_many(&mut more, 2_049);
+    let next = put_read(text, at, b"matches 2048", &most);
+    put_read(text, next, b"matches 2049", &more)
 }
 
-// The script fills the buffer.
-fn matches_line(script: &mut [u8], count: usize)
-    requires { ⌜ 10 + 13 * count ≡ length (now script) ⌝ }
+fn put_lines(text: &mut [u8]) -> usize
+    ensures { λ r. ⌜ Put edgeLines (now (text .entry)) 0 (now (text .exit)) r ⌝ }
+    ensures { λ r. ⌜ r ≤ 1024 ⌝ }
 {
-    put_matches(script, count);
-    print(b"matches ", count as u64);
-    print_reading(script);
+    let work = put_work_lines(text, 0);
+    let touching = put_touching_lines(text, work);
+    let long = put_long_lines(text, touching);
+    put_many_lines(text, long)
 }
 
 fn main() {
-    work_lines();
-    touching_lines();
-    lengths_line(1_000_000_000, 1);
-    lengths_line(1_000_000_001, 1);
-    matches_lines();
+    let mut text = [0; 1024];
+    let length = put_lines(&mut text);
+    io::write_all(STDOUT_FILENO, &text[..length]);
 }

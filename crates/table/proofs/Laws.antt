@@ -5,24 +5,27 @@
 --     classes-inside         and so to no more than the pieces
 --     firsts-order           what the first rows of all pieces add up to is the same in every order of the rows
 --     summary-order          and so is the summary
+--     letters-exact          of under 2^32 rows of 32-bit numbers, letters is the sum of the lengths itself
 -- Assumes nothing.
 use Prim.Native.Nat.{ℕ, zero, suc, _+_, _*_, _/_, _^_, _≤_, _<_}
 use mathlib.Core.Bool.{Bool, true, false, cond, _&&_, _||_}
 use mathlib.Core.Path.{_≡_, refl, sym, ap, _∙_}
-use mathlib.Core.List.{List, [], _∷_, _++_, List·Permᴰ}
+use mathlib.Core.List.{List, [], _∷_, _++_, map, List·Permᴰ}
 use native.Mathlib.Omega.{arith}
 use native.Mathlib.Decide.{decLt}
-use native.Mathlib.Nat.{add-zero}
+use native.Mathlib.Nat.{add-zero, mod-eq-of-lt}
 use native.Mathlib.Numerals.{add-one}
 use borrow.Author.Tests.{lt-ltb, le-ltb, le-leb, lt-leb}
-use lib.ListN.{length}
+use lib.ListN.{length, getD, drop}
 use lib.Dec.{leb, ltb}
 use lib.Pow.{pow-mono}
+use lib.Seq.{getD-drop}
 use Rattle.table.specs.Rows.{rowWidth, firstRows, rowsOf, numbersOf}
 use Rattle.table.specs.Distinct.{same, occurs, firstsAfter, firstOfEach}
-use Rattle.table.specs.Summing.{total, count, classCount, inClass, classesFrom, summaryOf, summaryOfRows}
+use Rattle.table.specs.Summing.{total, count, lettersOf, classCount, inClass, classesFrom, summaryOf, summaryOfRows}
 use Rattle.table.specs.declared.rows.Row.{Row}
 use Rattle.table.proofs.Counting.{count-inside, count-agrees, count-every, count-no-one, count-joined}
+use Rattle.table.proofs.TableRows.{rows-length}
 use Rattle.table.proofs.Pieces.{bool-same, same-sym, occurs-same, firsts-inside}
 
 -- ---- rows and their numbers
@@ -187,3 +190,23 @@ rows-order {rs} {ss} p =
 
 pub summary-order : (t t′ : List ℕ) → List·Permᴰ (rowsOf t) (rowsOf t′) → summaryOf t ≡ summaryOf t′
 summary-order t t′ p = rows-order p
+
+-- ---- letters
+
+letters-sum : (rs : List Row) → lettersOf rs ≡ sumOf (map (λ r. r .length) rs)
+unfolding total sumOf
+letters-sum [] = refl
+letters-sum (r ∷ rs) = ap (λ (k : ℕ). r .length + k) (letters-sum rs)
+
+letters-few : (n : ℕ) (t : List ℕ) → ((k : ℕ) → getD t k 0 < 2 ^ 32) → lettersOf (firstRows n t) ≤ n * 4294967295
+unfolding total firstRows
+letters-few zero t fits = omega arith
+letters-few (suc n) t fits =
+    let later = letters-few n (drop rowWidth t) (λ k. rw getD-drop (fits (rowWidth + k))) in
+    omega (arith, fits 3)
+
+pub letters-exact : (t : List ℕ) → ((k : ℕ) → getD t k 0 < 2 ^ 32) → length (rowsOf t) < 2 ^ 32
+    → summaryOf t .letters ≡ sumOf (map (λ r. r .length) (rowsOf t))
+unfolding rowsOf
+letters-exact t fits rows =
+    mod-eq-of-lt (omega (arith, letters-few (length t / rowWidth) t fits, rows-length t)) ∙ letters-sum (rowsOf t)
