@@ -1,4 +1,5 @@
--- What the lent table and work buffer held before changes nothing that is printed.
+-- How much the program lends, and that what it held before changes nothing that is printed.
+--     lent-rows       "a table of 3,000 rows": 15,000 numbers, and 12,000 of work
 --     report-lent     tables of as many rows and work buffers of enough numbers give one report ..
 --     report-of-lent  .. so that the program may lend any of 3,000 rows
 -- Assumes nothing.
@@ -16,6 +17,9 @@ use Rattle.table.specs.Rows.{rowWidth}
 use Rattle.refine.specs.Refining.{capacityOf, workNeeded, numbered, refiningOfMatches, refiningOf}
 use Rattle.report.specs.Reporting.{lentRows, lentTable, lentWork, reportOfRefining, reportOf}
 use Rattle.report.proofs.LeastRows.{report-crowded, report-rows}
+
+pub lent-rows : (length lentTable ≡ 15000) × (length lentWork ≡ 12000)
+lent-rows = (length-replicate {A = ℕ} (rowWidth * lentRows) 0, length-replicate {A = ℕ} (4 * lentRows) 0)
 
 pub report-lent : (p q count : ℕ) (ms : List Match) (table table′ work work′ : List ℕ)
     → capacityOf table ≡ capacityOf table′ → workNeeded table ≤ length work → workNeeded table′ ≤ length work′
@@ -36,8 +40,6 @@ pub report-of-lent : (s table work : List ℕ) {p q : ℕ} {ms : List ScriptMatc
     → reportOfRefining p q (length ms) (refiningOf s table work) ≡ reportOf s
 unfolding reportOf refiningOf
 report-of-lent s table work {p} {q} {ms} read rows numbers =
-    let lent-rows = length-replicate {A = ℕ} (rowWidth * lentRows) 0 in
-    let lent-numbers = length-replicate {A = ℕ} (4 * lentRows) 0 in
     rw read
-    (report-lent p q (length ms) (numbered 1 ms) table lentTable work lentWork (omega arith) (omega arith)
-    (omega arith))
+    (report-lent p q (length ms) (numbered 1 ms) table lentTable work lentWork (omega (arith, lent-rows .0))
+    (omega arith) (omega (arith, lent-rows)))

@@ -6,6 +6,7 @@ pub mod Lent
 pub mod Prefix
 pub mod ReadBack
 pub mod SameReports
+pub mod Shown
 pub mod Putting
 pub mod Printing
 pub mod Answers

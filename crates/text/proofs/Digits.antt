@@ -1,6 +1,7 @@
 -- A number has one fewest count of decimal digits, and `places` computes it.
 --     places-fewest     the fewest digits that hold a number of 64 bits are `places`
 --     places-few        and are at most 20
+--     digits-length     so many digits are so long
 --     decimal-short     so a number in decimal has at most 20
 -- Assumes nothing.
 use Prim.Native.Nat.{ℕ, zero, suc, _-_, _*_, _/_, _^_, _≤_, _<_}
@@ -66,7 +67,7 @@ places-few (suc most) n = go (ltb n 10) (places-few most (n / 10))
     go true h = omega arith
     go false h = omega arith
 
-digits-length : (b k n : ℕ) → length (digits b k n) ≡ k
+pub digits-length : (b k n : ℕ) → length (digits b k n) ≡ k
 digits-length b zero n = refl
 digits-length b (suc k) n = simp length-append (omega (arith, digits-length b k (n / b)))
 

@@ -4,19 +4,22 @@
 --     decimal-start     such a text starts with a byte of at most `9`
 --     decimal-one       a number below ten has one digit
 --     decimal-leads     no other starts with a zero
+--     shown             the numbers that stand in a text, from left to right
+--     shown-decimal     a number that is printed is shown
 -- Assumes nothing.
 use Prim.Native.Nat.{ℕ, zero, suc, _+_, _-_, _*_, _/_, _%_, _^_, _≤_, _<_}
 use mathlib.Core.Path.{_≡_, refl, sym, ap, ap₂, _∙_}
-use mathlib.Core.Bool.{cond}
+use mathlib.Core.Bool.{Bool, true, false, cond, _&&_}
 use mathlib.Core.List.{List, [], _∷_, _++_}
 use native.Mathlib.Omega.{arith}
 use native.Mathlib.Decide.{decLt}
 use native.Mathlib.Nat.{pow-suc}
-use borrow.Author.Tests.{lt-ltb, le-ltb}
-use lib.Dec.{ltb}
-use lib.ListN.{getD}
+use borrow.Author.Tests.{lt-ltb, le-ltb, le-leb, lt-leb}
+use lib.Dec.{leb, ltb}
+use lib.ListN.{length, getD}
 use Rattle.io.specs.Digits.{glyph, digits}
 use Rattle.text.specs.Decimal.{placesWithin, places, decimal}
+use Rattle.text.proofs.Digits.{digits-length}
 
 -- ---- reading
 
@@ -129,3 +132,43 @@ digits-lead (suc most) n some h =
 
 pub decimal-leads : (n : ℕ) → 1 ≤ n → n < 2 ^ 64 → 49 ≤ getD (decimal n) 0 0
 decimal-leads n some h = digits-lead 19 n some (omega arith)
+
+-- ---- the numbers of a text
+
+-- the numbers that bs shows; `inside` says that bs starts behind digits, which say n
+abbrev shownOn : Bool → ℕ → List ℕ → List ℕ
+shownOn inside n [] = cond inside (n ∷ []) []
+shownOn inside n (b ∷ bs) =
+    cond (leb 48 b && leb b 57) (shownOn true (10 * n + (b - 48)) bs)
+    (cond inside (n ∷ shownOn false 0 bs) (shownOn false 0 bs))
+
+-- every run of digits is a number; all other bytes stand between
+abbrev pub shown : List ℕ → List ℕ
+shown text = shownOn false 0 text
+
+digits-shown : (n : ℕ) (ds : List ℕ) (u : List ℕ) (c : ℕ) → AllDigits ds → c < 48
+    → shownOn true n (ds ++ c ∷ u) ≡ readOn n ds ∷ shown u
+digits-shown n [] u c all below = rw (lt-leb 48 c below)
+digits-shown n (d ∷ ds) u c all below =
+    rw (le-leb 48 d (all .0), le-leb d 57 (all .1)) (digits-shown (10 * n + (d - 48)) ds u c (all .2) below)
+
+number-shown : (ds : List ℕ) (u : List ℕ) (c : ℕ) → AllDigits ds → 1 ≤ length ds → c < 48
+    → shown (ds ++ c ∷ u) ≡ readOn 0 ds ∷ shown u
+number-shown [] u c all some below = absurd (omega arith)
+number-shown (d ∷ ds) u c all some below =
+    rw (le-leb 48 d (all .0), le-leb d 57 (all .1)) (digits-shown (10 * 0 + (d - 48)) ds u c (all .2) below)
+
+places-some : (most n : ℕ) → 1 ≤ placesWithin most n
+unfolding placesWithin
+places-some zero n = omega arith
+places-some (suc most) n = go (ltb n 10)
+  where
+    go : (b : Bool) → 1 ≤ cond b 1 (suc (placesWithin most (n / 10)))
+    go true = omega arith
+    go false = omega arith
+
+pub shown-decimal : (n : ℕ) (u : List ℕ) (c : ℕ) → n < 2 ^ 64 → c < 48 → shown (decimal n ++ c ∷ u) ≡ n ∷ shown u
+shown-decimal n u c h below =
+    number-shown (decimal n) u c (all-digits (places n) n)
+    (omega (arith, digits-length 10 (places n) n, places-some 19 n)) below
+    ∙ ap (λ (k : ℕ). k ∷ shown u) (decimal-read n (omega arith))
