@@ -15,10 +15,10 @@ use Rattle.script.specs.Reading.{Reading, admitted, refused, scriptOf}
 use Rattle.script.specs.declared.refusal.Refusal.{Refusal}
 use Rattle.script.specs.declared.Verdict.{Verdict}
 use Rattle.script.specs.declared.find.Finding.{Finding}
-use Rattle.refine.specs.Demands.{value, refusal, answerOf}
-use Rattle.refine.specs.Carrying.{carriedAnswer}
-use Rattle.refine.specs.declared.answers.Refined.{Refined}
-use Rattle.refine.specs.declared.answers.Carried.{Carried}
+use Rattle.refining.specs.Demands.{value, refusal, answerOf}
+use Rattle.refining.specs.Carrying.{carriedAnswer}
+use Rattle.refining.specs.declared.answers.Refined.{Refined}
+use Rattle.refining.specs.declared.answers.Carried.{Carried}
 use Rattle.report.specs.declared.Reported.{Reported}
 use Rattle.table.specs.Finding.{sizeOf, spanOf, partOf}
 use Rattle.table.specs.declared.summing.Summary.{Summary}

@@ -7,8 +7,8 @@ use lib.ListN.{length}
 use Rattle.script.specs.Refusals.{numberOf, placeOf}
 use Rattle.script.specs.Reading.{Reading, admitted, refused}
 use Rattle.script.specs.declared.find.Finding.{Finding}
-use Rattle.refine.specs.declared.answers.Refined.{Refined}
-use Rattle.refine.specs.declared.answers.Carried.{Carried}
+use Rattle.refining.specs.declared.answers.Refined.{Refined}
+use Rattle.refining.specs.declared.answers.Carried.{Carried}
 use Rattle.report.specs.declared.Reported.{Reported}
 use Rattle.table.specs.declared.finding.Span.{Span}
 use Rattle.table.specs.declared.summing.Summary.{Summary}

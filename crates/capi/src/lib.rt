@@ -1,9 +1,9 @@
 // Doors for C and Rust: plain functions over the library, prefix notchergrey_. Each returns 0 or the refusal's number
 // and hands the rest out through pointers. Like a call of the library, a refused one alters no lent number but `place`.
 // The doors on tables refuse nothing.
-use refine::answers::Carried;
-use refine::answers::Refined;
 use refinement::Side;
+use refining::answers::Carried;
+use refining::answers::Refined;
 use report::Reported;
 use script::Verdict;
 use script::find::Finding;
@@ -18,8 +18,8 @@ ghost use Rattle.script.specs.Reading.{readScript};
 ghost use Rattle.script.specs.Finding.{findingOf};
 ghost use Rattle.capi.specs.Doors.{bitOf, readDoor, matchDoor, refineDoor, carryDoor, rowsDoor, summaryDoor};
 ghost use Rattle.capi.specs.Doors.{reportDoor};
-ghost use Rattle.refine.specs.Refining.{refiningOf};
-ghost use Rattle.refine.specs.Carrying.{carryingOf};
+ghost use Rattle.refining.specs.Refining.{refiningOf};
+ghost use Rattle.refining.specs.Carrying.{carryingOf};
 ghost use Rattle.refinement.specs.declared.Side.{Side};
 ghost use Rattle.report.specs.Reporting.{reportingOf};
 ghost use Rattle.table.specs.Finding.{spanOf};

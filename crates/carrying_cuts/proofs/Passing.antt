@@ -26,10 +26,10 @@ use Rattle.cut_set.specs.declared.CutSet.{CutSet}
 use Rattle.cut_set.proofs.Moving.{lt-or-le}
 use Rattle.cut_set.proofs.Membership.{in-same}
 use Rattle.cut_set.proofs.Laws.{stored-none, stored-same, stored-then}
-use Rattle.refine.specs.Worker.{Images, ImageBy, hitsOn, hitsOver, reaching, Passable, TooMuch, Ready}
-use Rattle.refine.proofs.RunLists.{slice-same, hits-none}
-use Rattle.refine.proofs.Storing.{base-done, done-used}
-use Rattle.refine.proofs.Storing.{too-much-more, too-much-then, same-apart, ready-then}
+use Rattle.carrying_cuts.specs.Worker.{Images, ImageBy, hitsOn, hitsOver, reaching, Passable, TooMuch, Ready}
+use Rattle.carrying_cuts.proofs.RunLists.{slice-same, hits-none}
+use Rattle.carrying_cuts.proofs.Storing.{base-done, done-used}
+use Rattle.carrying_cuts.proofs.Storing.{too-much-more, too-much-then, same-apart, ready-then}
 
 pub record Passed (f t d : List ℕ) (v : List Bool) (xs : List ℕ) (from to : CutSet) (hits most : ℕ) (ys : List ℕ)
     (set : CutSet) (count k : ℕ) : Type 0 where

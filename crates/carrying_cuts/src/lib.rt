@@ -7,8 +7,8 @@ ghost use Prim.Native.Nat.{_+_, _^_, _≤_, _<_};
 ghost use lib.ListN.{length};
 ghost use lib.Seq.{slice};
 ghost use Rattle.cut_set.specs.Store.{Found, FoundRun};
-ghost use Rattle.refine.specs.Columns.{Fit, Ends};
-ghost use Rattle.refine.specs.Worker.{Ready, ImageBy, hitsOn, reaching, Passable, Carrying, Working, Turning};
+ghost use Rattle.refining.specs.Columns.{Fit, Ends};
+ghost use Rattle.carrying_cuts.specs.Worker.{Ready, ImageBy, hitsOn, reaching, Passable, Carrying, Working, Turning};
 
 // The hits so far and the set that images went to, or that there are too many for any table lent. The hits stand first:
 // right behind the answer's tag a set would be copied from odd places, which is slow.

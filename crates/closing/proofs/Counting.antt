@@ -24,11 +24,11 @@ use Rattle.refinement.proofs.Geometry.{spanned-iff}
 use Rattle.refinement.proofs.Resolved.{has-cut}
 use Rattle.refinement.proofs.Count.{total, two-per-row, hits-bound, hits-all}
 use Rattle.refinement.proofs.Theorem.{table-resolved, table-cuts}
-use Rattle.refine.specs.Columns.{Fit, upFrom, matchAt, matchesOf}
-use Rattle.refine.specs.Worker.{hitsOn, hitsOver, Overflow}
-use Rattle.refine.specs.Engine.{at, leftsOn}
-use Rattle.refine.specs.Demands.{EveryExceeds}
-use Rattle.refine.proofs.Indexed.{matches-length, matches-good, placed, alone}
+use Rattle.refining.specs.Columns.{Fit, upFrom, matchAt, matchesOf}
+use Rattle.carrying_cuts.specs.Worker.{hitsOn, hitsOver, Overflow}
+use Rattle.closing.specs.Engine.{at, leftsOn}
+use Rattle.refining.specs.Demands.{EveryExceeds}
+use Rattle.closing.proofs.Indexed.{matches-length, matches-good, placed, alone}
 
 pub hits-none : (f d : List ℕ) (n : ℕ) → hitsOver f d n [] ≡ 0
 hits-none f d zero = refl

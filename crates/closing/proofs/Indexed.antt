@@ -24,8 +24,8 @@ use Rattle.refinement.specs.Match.{Match, other, track, place, Spans, spanned, 
 use Rattle.refinement.specs.Refinement.{Matches}
 use Rattle.refinement.proofs.Geometry.{spanned-iff}
 use Rattle.refinement.proofs.Lists.{rising-map}
-use Rattle.refine.specs.Columns.{Fit, upFrom, matchAt, matchesOf}
-use Rattle.refine.specs.Engine.{at, leftsOn}
+use Rattle.refining.specs.Columns.{Fit, upFrom, matchAt, matchesOf}
+use Rattle.closing.specs.Engine.{at, leftsOn}
 
 pub upFrom-∈ : (n count : ℕ) {k : ℕ} → k ∈ upFrom n count → (n ≤ k) × (k < n + count)
 unfolding upFrom

@@ -13,7 +13,7 @@ use native.Mathlib.Omega.{arith}
 use Rattle.cut_set.specs.Store.{Good, Member, Finished, Found}
 use Rattle.cut_set.specs.declared.CutSet.{CutSet}
 use Rattle.cut_set.proofs.Membership.{in-wide, in-parts}
-use Rattle.refine.specs.Worker.{Overflow}
+use Rattle.carrying_cuts.specs.Worker.{Overflow}
 
 module _ {xs : List ℕ} {s : CutSet} (g : Good xs s) where
   pub finished-member : {y : ℕ} → Finished xs s y → Member xs s y

@@ -23,15 +23,15 @@ use Rattle.cut_set.specs.Store.{Good, Member, Stored, Crowded, Emptied, AddedTo
 use Rattle.cut_set.specs.declared.CutSet.{CutSet}
 use Rattle.cut_set.specs.declared.Added.{Added}
 use Rattle.cut_set.proofs.Laws.{stored-none, stored-same, stored-then}
-use Rattle.refine.specs.Columns.{Fit, matchesOf}
-use Rattle.refine.specs.Worker.{Overflow}
-use Rattle.refine.specs.Engine.{at, setOn, leftsOn, hitsAt, Counted, Open, EndAt, EndOf, Seeding}
-use Rattle.refine.specs.Demands.{EveryExceeds}
-use Rattle.refine.specs.declared.steps.Cuts.{Cuts}
-use Rattle.refine.proofs.Indexed.{∈-matches, matches-∈}
-use Rattle.refine.proofs.Counting.{hits-none, overflow-exceeds}
-use Rattle.refine.proofs.Members.{members-come, overflow-from}
-use Rattle.refine.proofs.Storing.{crowded-overflow}
+use Rattle.refining.specs.Columns.{Fit, matchesOf}
+use Rattle.carrying_cuts.specs.Worker.{Overflow}
+use Rattle.closing.specs.Engine.{at, setOn, leftsOn, hitsAt, Counted, Open, EndAt, EndOf, Seeding}
+use Rattle.refining.specs.Demands.{EveryExceeds}
+use Rattle.closing.specs.declared.steps.Cuts.{Cuts}
+use Rattle.closing.proofs.Indexed.{∈-matches, matches-∈}
+use Rattle.closing.proofs.Counting.{hits-none, overflow-exceeds}
+use Rattle.closing.proofs.Members.{members-come, overflow-from}
+use Rattle.carrying_cuts.proofs.Storing.{crowded-overflow}
 
 pub two-added :
     (xs : List ℕ) (s : CutSet) {ys : List ℕ} {t : CutSet} (zs : List ℕ) (x n : ℕ) → Good xs s → AddedTo xs s x ys t

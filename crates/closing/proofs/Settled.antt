@@ -15,12 +15,12 @@ use Rattle.refinement.specs.Cut.{left-end, right-end, Cut, end, mark, carried}
 use Rattle.refinement.proofs.Geometry.{end-spanned, carry-meets, carry-spans, carry-back, meets-end}
 use Rattle.cut_set.specs.Runs.{In}
 use Rattle.cut_set.specs.Store.{Member, Finished}
-use Rattle.refine.specs.Columns.{Fit, matchesOf}
-use Rattle.refine.specs.Engine.{at, setOn, Open, AllCuts}
-use Rattle.refine.specs.declared.steps.Cuts.{Cuts}
-use Rattle.refine.proofs.Indexed.{placed}
-use Rattle.refine.proofs.Counting.{hits-whole}
-use Rattle.refine.proofs.Members.{finished-member}
+use Rattle.refining.specs.Columns.{Fit, matchesOf}
+use Rattle.closing.specs.Engine.{at, setOn, Open, AllCuts}
+use Rattle.closing.specs.declared.steps.Cuts.{Cuts}
+use Rattle.closing.proofs.Indexed.{placed}
+use Rattle.closing.proofs.Counting.{hits-whole}
+use Rattle.closing.proofs.Members.{finished-member}
 
 -- a place is of one side and one position only
 same-place : (P : Side → ℕ → Type 0) (u v : Side) (x y : ℕ) → at u x ≡ at v y → P u x → P v y

@@ -24,16 +24,16 @@ use Rattle.cut_set.specs.Runs.{In}
 use Rattle.cut_set.specs.Store.{Good, Member, Finished, Found}
 use Rattle.cut_set.specs.declared.CutSet.{CutSet}
 use Rattle.cut_set.proofs.Membership.{in-parts}
-use Rattle.refine.specs.Columns.{Fit, matchAt, matchesOf}
-use Rattle.refine.specs.Worker.{Images, hitsOver, Listed, before, behind, Ready}
-use Rattle.refine.specs.Worker.{TooMuch, crowded, excess, Turned, TurnedTooMany}
-use Rattle.refine.specs.Engine.{at, setOn, hitsAt, leftsOn, Counted, Open, unused, Stepped}
-use Rattle.refine.specs.Demands.{EveryExceeds}
-use Rattle.refine.specs.declared.steps.Cuts.{Cuts}
-use Rattle.refine.specs.declared.steps.Closing.{Closing}
-use Rattle.refine.proofs.Indexed.{∈-matches, matches-∈, placed, index-spans, index-carry}
-use Rattle.refine.proofs.Counting.{hits-append, hits-exceed, overflow-exceeds}
-use Rattle.refine.proofs.Members.{finished-member, found-member, apart-parts, members-stay, members-come}
+use Rattle.refining.specs.Columns.{Fit, matchAt, matchesOf}
+use Rattle.carrying_cuts.specs.Worker.{Images, hitsOver, Listed, before, behind, Ready}
+use Rattle.carrying_cuts.specs.Worker.{TooMuch, crowded, excess, Turned, TurnedTooMany}
+use Rattle.closing.specs.Engine.{at, setOn, hitsAt, leftsOn, Counted, Open, unused, Stepped}
+use Rattle.refining.specs.Demands.{EveryExceeds}
+use Rattle.closing.specs.declared.steps.Cuts.{Cuts}
+use Rattle.closing.specs.declared.steps.Closing.{Closing}
+use Rattle.closing.proofs.Indexed.{∈-matches, matches-∈, placed, index-spans, index-carry}
+use Rattle.closing.proofs.Counting.{hits-append, hits-exceed, overflow-exceeds}
+use Rattle.closing.proofs.Members.{finished-member, found-member, apart-parts, members-stay, members-come}
 
 -- what holds of a side and of the other holds of both
 both : (P : Side → Type 0) (s : Side) → P s → P (other s) → (u : Side) → P u

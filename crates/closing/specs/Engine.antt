@@ -21,12 +21,12 @@ use Rattle.refinement.specs.Least.{leastTable}
 use Rattle.cut_set.specs.Store.{Good, Member, Finished, Stored}
 use Rattle.cut_set.specs.declared.CutSet.{CutSet}
 use Rattle.cut_set.specs.declared.Added.{Added}
-use Rattle.refine.specs.Columns.{matchesOf}
-use Rattle.refine.specs.Demands.{EveryExceeds}
-use Rattle.refine.specs.Worker.{hitsOver, Overflow}
-use Rattle.refine.specs.declared.steps.Cuts.{Cuts}
-use Rattle.refine.specs.declared.steps.Closing.{Closing}
-use Rattle.refine.specs.declared.closure.Closed.{Closed}
+use Rattle.refining.specs.Columns.{matchesOf}
+use Rattle.refining.specs.Demands.{EveryExceeds}
+use Rattle.carrying_cuts.specs.Worker.{hitsOver, Overflow}
+use Rattle.closing.specs.declared.steps.Cuts.{Cuts}
+use Rattle.closing.specs.declared.steps.Closing.{Closing}
+use Rattle.closing.specs.declared.Closed.{Closed}
 
 abbrev pub at : Side → ℕ → Place
 at A h = record { track = 0; position = h }

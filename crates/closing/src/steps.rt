@@ -1,10 +1,10 @@
 // The A step and the B step, which call each other on the newly found cuts.
-use crate::worker::Turn;
-use crate::worker::take_turn;
+use carrying_cuts::Turn;
+use carrying_cuts::take_turn;
 use cut_set::CutSet;
 ghost use Rattle.refinement.specs.declared.Side.{Side};
-ghost use Rattle.refine.specs.Columns.{Fit};
-ghost use Rattle.refine.specs.Engine.{Open, Stepped};
+ghost use Rattle.refining.specs.Columns.{Fit};
+ghost use Rattle.closing.specs.Engine.{Open, Stepped};
 
 // The cuts of both sides, and the pairs of a carried cut and a match that spans it.
 pub struct Cuts {

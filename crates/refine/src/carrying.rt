@@ -1,10 +1,10 @@
 // Carrying one position over one match of a script.
-use crate::answers::Carried;
 use refinement::Side;
+use refining::answers::Carried;
 use script::Refusal;
 use script::find::Finding;
 ghost use mathlib.Core.Path.{_≡_};
-ghost use Rattle.refine.specs.Carrying.{carryingOf, carriedAnswer, CarryingDemand};
+ghost use Rattle.refining.specs.Carrying.{carryingOf, carriedAnswer, CarryingDemand};
 
 // Where the match of this number carries the position to, from the side named.
 pub fn carry(script: &[u8], number: u32, side: Side, position: u32) -> Carried

@@ -27,12 +27,12 @@ use Rattle.refinement.specs.Match.{Match, other, onSide, left, right, Spans, sp
 use Rattle.refinement.specs.Least.{spans?}
 use Rattle.refinement.proofs.Geometry.{spanned-iff}
 use Rattle.refinement.proofs.Tiling.{number-unique}
-use Rattle.refine.specs.Refining.{withNumber, numbered}
-use Rattle.refine.specs.Demands.{Answer, Admitted, reads}
-use Rattle.refine.specs.Carrying.{carryingOver, carryingOf, carriedAnswer, CarryingOutcome, CarryingDemand}
-use Rattle.refine.specs.declared.answers.Carried.{Carried}
-use Rattle.refine.specs.declared.answers.Carried.the-variants.{To, Refused}
-use Rattle.refine.proofs.Numbered.{admitted-of, admitted-matches, numbered-range}
+use Rattle.refining.specs.Refining.{withNumber, numbered}
+use Rattle.refining.specs.Demands.{Answer, Admitted, reads}
+use Rattle.refining.specs.Carrying.{carryingOver, carryingOf, carriedAnswer, CarryingOutcome, CarryingDemand}
+use Rattle.refining.specs.declared.answers.Carried.{Carried}
+use Rattle.refining.specs.declared.answers.Carried.the-variants.{To, Refused}
+use Rattle.refining.proofs.Numbered.{admitted-of, admitted-matches, numbered-range}
 
 -- ---- the match of a number
 

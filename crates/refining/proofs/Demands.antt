@@ -19,16 +19,16 @@ use Rattle.refinement.specs.Refinement.{ResolvedRefinement}
 use Rattle.refinement.specs.Least.{leastTable}
 use Rattle.refinement.proofs.Theorem.{table-resolved, table-in-order, table-least}
 use Rattle.refinement.proofs.Paper.{paper-agrees}
-use Rattle.refine.specs.Rows.{numbersOf}
-use Rattle.refine.specs.Refining.{capacityOf, workNeeded, Refining, refiningOf}
-use Rattle.refine.specs.Demands.{Answer, value, refusal, answerOf, Admitted, reads, Fits, EveryExceeds}
-use Rattle.refine.specs.Demands.{RefiningOutcome, Stand, Demand1, Demand2, Demand3}
-use Rattle.refine.specs.declared.answers.Refined.{Refined}
-use Rattle.refine.proofs.Placing.{length-numbers}
-use Rattle.refine.proofs.Numbered.{admitted-unique, admitted-matches}
-use Rattle.refine.proofs.RefiningCases.{written, fits-exceeds, refining-refused, refining-short}
-use Rattle.refine.proofs.RefiningCases.{refining-crowded, refining-written, Case, refusing, short, crowded}
-use Rattle.refine.proofs.RefiningCases.{writing, case}
+use Rattle.refining.specs.Rows.{numbersOf}
+use Rattle.refining.specs.Refining.{capacityOf, workNeeded, Refining, refiningOf}
+use Rattle.refining.specs.Demands.{Answer, value, refusal, answerOf, Admitted, reads, Fits, EveryExceeds}
+use Rattle.refining.specs.Demands.{RefiningOutcome, Stand, Demand1, Demand2, Demand3}
+use Rattle.refining.specs.declared.answers.Refined.{Refined}
+use Rattle.refining.proofs.Standing.{length-numbers}
+use Rattle.refining.proofs.Numbered.{admitted-unique, admitted-matches}
+use Rattle.refining.proofs.RefiningCases.{written, fits-exceeds, refining-refused, refining-short}
+use Rattle.refining.proofs.RefiningCases.{refining-crowded, refining-written, Case, refusing, short, crowded}
+use Rattle.refining.proofs.RefiningCases.{writing, case}
 
 -- ---- what tells the outcomes apart
 

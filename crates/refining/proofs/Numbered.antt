@@ -24,9 +24,9 @@ use Rattle.script.proofs.Admitted.{Holds}
 use Rattle.refinement.specs.Order.{_∈_, Rising}
 use Rattle.refinement.specs.Match.{Match}
 use Rattle.refinement.specs.Refinement.{Matches}
-use Rattle.refine.specs.Columns.{Fit, upFrom, matchAt, matchesOf}
-use Rattle.refine.specs.Refining.{withNumber, numbered}
-use Rattle.refine.specs.Demands.{Admitted, reads}
+use Rattle.refining.specs.Columns.{Fit, upFrom, matchAt, matchesOf}
+use Rattle.refining.specs.Refining.{withNumber, numbered}
+use Rattle.refining.specs.Demands.{Admitted, reads}
 
 -- ---- the theory's list
 

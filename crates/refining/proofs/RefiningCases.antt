@@ -24,13 +24,13 @@ use Rattle.refinement.specs.Match.{Match}
 use Rattle.refinement.specs.Refinement.{Matches}
 use Rattle.refinement.specs.Least.{leastTable}
 use Rattle.refinement.proofs.Theorem.{table-resolved, table-least}
-use Rattle.refine.specs.Rows.{numbersOf}
-use Rattle.refine.specs.Refining.{capacityOf, workNeeded, zeroed, Refining, refiningOfMatches, refiningOf}
-use Rattle.refine.specs.Demands.{Admitted, reads, Fits, EveryExceeds}
-use Rattle.refine.specs.declared.answers.Refined.{Refined}
-use Rattle.refine.specs.declared.answers.Refined.the-variants.{Rows, Refused}
-use Rattle.refine.proofs.Placing.{length-numbers}
-use Rattle.refine.proofs.Numbered.{admitted-of, admitted-matches}
+use Rattle.refining.specs.Rows.{numbersOf}
+use Rattle.refining.specs.Refining.{capacityOf, workNeeded, zeroed, Refining, refiningOfMatches, refiningOf}
+use Rattle.refining.specs.Demands.{Admitted, reads, Fits, EveryExceeds}
+use Rattle.refining.specs.declared.answers.Refined.{Refined}
+use Rattle.refining.specs.declared.answers.Refined.the-variants.{Rows, Refused}
+use Rattle.refining.proofs.Standing.{length-numbers}
+use Rattle.refining.proofs.Numbered.{admitted-of, admitted-matches}
 
 -- ---- room for some resolved refinement, or for none
 

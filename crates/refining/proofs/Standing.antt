@@ -1,22 +1,29 @@
 -- The numbers of a table name its rows: no two refinements of a script stand in the same numbers, so that the rows of
 -- demand 2 and those of demand 3 are the same.
+--     length-numbers   rows are five numbers each
 --     stand-unique     the refinement that stands at the start of a table
 -- Assumes nothing.
-use Prim.Native.Nat.{ℕ, suc}
+use Prim.Native.Nat.{ℕ, suc, _*_}
 use mathlib.Core.Path.{_≡_, refl, sym, ap, ap₂, _∙_}
 use mathlib.Core.Bool.{Bool, true, false}
 use mathlib.Core.Logic.{⊎-elim}
 use mathlib.Core.List.{List, [], _∷_, List·Memᴰ·cases-cons, List·Memᴰ·not-nil}
 use mathlib.Core.List.{List·Memᴰ·head as here, List·Memᴰ·tail as there}
 use native.Mathlib.Omega.{arith}
+use lib.ListN.{length}
 use Rattle.script.specs.declared.command.Match.{Match as ScriptMatch}
 use Rattle.refinement.specs.declared.Side.the-variants.{A, B}
 use Rattle.refinement.specs.Order.{_∈_}
 use Rattle.refinement.specs.Match.{Match}
 use Rattle.refinement.specs.Refinement.{Refines}
-use Rattle.refine.specs.Rows.{direction, numbersOf}
-use Rattle.refine.specs.Refining.{numbered}
-use Rattle.refine.specs.Demands.{Admitted, reads, Stand}
+use Rattle.refining.specs.Rows.{direction, numbersOf}
+use Rattle.refining.specs.Refining.{numbered}
+use Rattle.refining.specs.Demands.{Admitted, reads, Stand}
+
+pub length-numbers : (rs : List Match) → length (numbersOf rs) ≡ 5 * length rs
+unfolding numbersOf
+length-numbers [] = refl
+length-numbers (r ∷ rs) = omega (arith, length-numbers rs)
 
 -- a match, or a piece of one, between A and B
 record BetweenAB (m : Match) : Type 0 where

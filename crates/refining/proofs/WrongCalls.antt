@@ -27,12 +27,12 @@ use Rattle.refinement.specs.Match.{Match, matchAB, left, right}
 use Rattle.refinement.specs.Refinement.{Matches, Piece, Refines, rowsOver}
 use Rattle.refinement.specs.Least
 use Rattle.refinement.proofs.Theorem.{table-resolved, table-least}
-use Rattle.refine.specs.Rows.{numbersOf}
-use Rattle.refine.specs.Refining.{capacityOf, workNeeded, zeroed}
-use Rattle.refine.specs.Demands.{value, refusal, Admitted, Fits, EveryExceeds, RefiningOutcome}
-use Rattle.refine.specs.Demands.{Stand, Pieces, Demand1, Demand2, Demand3}
-use Rattle.refine.proofs.Numbered.{admitted-of, admitted-matches}
-use Rattle.refine.proofs.RefiningCases.{fits-exceeds}
+use Rattle.refining.specs.Rows.{numbersOf}
+use Rattle.refining.specs.Refining.{capacityOf, workNeeded, zeroed}
+use Rattle.refining.specs.Demands.{value, refusal, Admitted, Fits, EveryExceeds, RefiningOutcome}
+use Rattle.refining.specs.Demands.{Stand, Pieces, Demand1, Demand2, Demand3}
+use Rattle.refining.proofs.Numbered.{admitted-of, admitted-matches}
+use Rattle.refining.proofs.RefiningCases.{fits-exceeds}
 
 -- ---- the examples
 

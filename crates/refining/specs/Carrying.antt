@@ -21,10 +21,10 @@ use Rattle.script.specs.declared.find.Finding.{Finding}
 use Rattle.refinement.specs.declared.Side.{Side}
 use Rattle.refinement.specs.Order.{_∈_}
 use Rattle.refinement.specs.Match.{Match, left, Spans, spanned, carry}
-use Rattle.refine.specs.Refining.{withNumber}
-use Rattle.refine.specs.Demands.{Answer, value, refusal, Admitted}
-use Rattle.refine.specs.declared.answers.Carried.{Carried}
-use Rattle.refine.specs.declared.answers.Carried.the-variants.{To, Refused}
+use Rattle.refining.specs.Refining.{withNumber}
+use Rattle.refining.specs.Demands.{Answer, value, refusal, Admitted}
+use Rattle.refining.specs.declared.answers.Carried.{Carried}
+use Rattle.refining.specs.declared.answers.Carried.the-variants.{To, Refused}
 
 -- over one match: carried if the match spans the position on the side named, "both ends included", and else 14
 abbrev pub carryingOver : Match → Side → ℕ → Carried

@@ -24,9 +24,9 @@ use Rattle.refinement.specs.Order.{Rising}
 use Rattle.refinement.specs.Match.{Match}
 use Rattle.refinement.specs.Refinement.{ResolvedRefinement, Before, Least}
 use Rattle.refinement.specs.Paper.{Definition1, Definition2}
-use Rattle.refine.specs.Rows.{numbersOf}
-use Rattle.refine.specs.Refining.{numbered, capacityOf, workNeeded, zeroed}
-use Rattle.refine.specs.declared.answers.Refined.{Refined}
+use Rattle.refining.specs.Rows.{numbersOf}
+use Rattle.refining.specs.Refining.{numbered, capacityOf, workNeeded, zeroed}
+use Rattle.refining.specs.declared.answers.Refined.{Refined}
 
 -- "Success returns the count of rows"; "A refusal returns its number and a place."
 pub data Answer : Type 0 where

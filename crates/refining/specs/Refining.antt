@@ -17,9 +17,9 @@ use Rattle.script.specs.declared.command.Match.{Match as ScriptMatch}
 use Rattle.script.specs.declared.refusal.Refusal.the-variants.{WorkTooShort, TooManyPieces}
 use Rattle.refinement.specs.Match.{Match, matchAB}
 use Rattle.refinement.specs.Least.{leastTable}
-use Rattle.refine.specs.Rows.{numbersOf}
-use Rattle.refine.specs.declared.answers.Refined.{Refined}
-use Rattle.refine.specs.declared.answers.Refined.the-variants.{Rows, Refused}
+use Rattle.refining.specs.Rows.{numbersOf}
+use Rattle.refining.specs.declared.answers.Refined.{Refined}
+use Rattle.refining.specs.declared.answers.Refined.the-variants.{Rows, Refused}
 
 abbrev pub withNumber : ℕ → ScriptMatch → Match
 withNumber n m = matchAB n (m .«left_a») (m .«left_b») (m .length) (m .reversed)

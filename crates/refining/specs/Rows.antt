@@ -9,7 +9,7 @@ use mathlib.Core.List.{List, [], _∷_, _++_}
 use lib.ListN.{getD}
 use Rattle.refinement.specs.Match.{Match, spanned}
 use Rattle.refinement.specs.Least.{piecesBetween}
-use Rattle.refine.specs.Columns.{matchAt}
+use Rattle.refining.specs.Columns.{matchAt}
 
 abbrev pub within : ℕ → ℕ → List ℕ → List ℕ
 within i d [] = []

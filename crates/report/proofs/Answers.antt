@@ -16,9 +16,9 @@ use Rattle.script.specs.declared.Script.{Script}
 use Rattle.script.specs.declared.Verdict.{Verdict}
 use Rattle.script.proofs.Admitted.{holds-admitted, reading-refused}
 use Rattle.table.specs.Rows.{rowWidth}
-use Rattle.refine.specs.Refining.{refiningOf, capacityOf}
-use Rattle.refine.specs.Demands.{value, answerOf, RefiningOutcome}
-use Rattle.refine.specs.declared.answers.Refined.{Refined}
+use Rattle.refining.specs.Refining.{refiningOf, capacityOf}
+use Rattle.refining.specs.Demands.{value, answerOf, RefiningOutcome}
+use Rattle.refining.specs.declared.answers.Refined.{Refined}
 use Rattle.report.specs.Lines.{refusalText}
 use Rattle.report.specs.Reporting.{lentRows, lentTable, lentWork, reportOf, reportOfReply, reportOfRefining}
 use Rattle.report.specs.Reporting.{Reporting, reportingOfText, reportingOf}

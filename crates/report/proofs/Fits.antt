@@ -15,7 +15,7 @@ use Rattle.script.specs.declared.refusal.Refusal.the-variants.{TooManyPieces}
 use Rattle.refinement.specs.Match.{Match}
 use Rattle.refinement.specs.Least.{leastTable}
 use Rattle.table.specs.Rows.{rowWidth}
-use Rattle.refine.specs.Refining.{capacityOf, numbered, refiningOfMatches}
+use Rattle.refining.specs.Refining.{capacityOf, numbered, refiningOfMatches}
 use Rattle.report.specs.Reporting.{lentRows, lentTable, lentWork, reportOfRefining, reportOfReading, reportOf}
 use Rattle.report.specs.Reporting.{reportingOf, longestText}
 use Rattle.report.specs.declared.Reported.{Reported}

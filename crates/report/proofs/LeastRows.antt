@@ -18,14 +18,14 @@ use Rattle.refinement.specs.Least.{leastTable}
 use Rattle.table.specs.Rows.{rowWidth, rowsOf, numbersOf as rowsNumbers}
 use Rattle.table.specs.declared.rows.Row.{Row}
 use Rattle.table.proofs.Laws.{rows-back}
-use Rattle.refine.specs.Rows.{direction, numbersOf}
-use Rattle.refine.specs.Refining.{capacityOf, workNeeded, refiningOfMatches, refiningOf}
-use Rattle.refine.specs.Demands.{Admitted}
-use Rattle.refine.specs.declared.answers.Refined.{Refined}
-use Rattle.refine.specs.declared.answers.Refined.the-variants.{Rows, Refused}
-use Rattle.refine.proofs.Placing.{length-numbers}
-use Rattle.refine.proofs.Numbered.{admitted-unique}
-use Rattle.refine.proofs.RefiningCases.{written, Case, refusing, short, crowded, writing, case}
+use Rattle.refining.specs.Rows.{direction, numbersOf}
+use Rattle.refining.specs.Refining.{capacityOf, workNeeded, refiningOfMatches, refiningOf}
+use Rattle.refining.specs.Demands.{Admitted}
+use Rattle.refining.specs.declared.answers.Refined.{Refined}
+use Rattle.refining.specs.declared.answers.Refined.the-variants.{Rows, Refused}
+use Rattle.refining.proofs.Standing.{length-numbers}
+use Rattle.refining.proofs.Numbered.{admitted-unique}
+use Rattle.refining.proofs.RefiningCases.{written, Case, refusing, short, crowded, writing, case}
 use Rattle.report.specs.Lines.{refusalText, tableText}
 use Rattle.report.specs.Reporting.{reportOfRefining}
 

@@ -29,9 +29,9 @@ use Rattle.table.specs.Rows.{rowWidth}
 use Rattle.table.specs.Summing.{total, count, lettersOf, classCount, summaryOf}
 use Rattle.table.specs.declared.rows.Row.{Row}
 use Rattle.table.proofs.Laws.{sumOf, between, classes-sum}
-use Rattle.refine.specs.Refining.{numbered, refiningOf}
-use Rattle.refine.specs.declared.answers.Refined.the-variants.{Rows}
-use Rattle.refine.proofs.Numbered.{admitted-of, admitted-matches}
+use Rattle.refining.specs.Refining.{numbered, refiningOf}
+use Rattle.refining.specs.declared.answers.Refined.the-variants.{Rows}
+use Rattle.refining.proofs.Numbered.{admitted-of, admitted-matches}
 use Rattle.report.proofs.LeastRows.{rowOfPiece, LeastRows, least-rows}
 
 -- ---- the matches

@@ -28,12 +28,12 @@ use Rattle.refinement.specs.Least.{leastTable}
 use Rattle.refinement.proofs.Theorem.{table-resolved}
 use Rattle.table.specs.Rows.{rowWidth, rowsOf}
 use Rattle.table.specs.declared.rows.Row.{Row}
-use Rattle.refine.specs.Rows.{direction}
-use Rattle.refine.specs.Refining.{numbered, Refining, refiningOfMatches, refiningOfReading, refiningOf}
-use Rattle.refine.specs.declared.answers.Refined.{Refined}
-use Rattle.refine.specs.declared.answers.Refined.the-variants.{Rows, Refused}
-use Rattle.refine.proofs.Numbered.{admitted-of, admitted-matches}
-use Rattle.refine.proofs.RefiningCases.{refining-refused, Case, refusing, short, crowded, writing, case}
+use Rattle.refining.specs.Rows.{direction}
+use Rattle.refining.specs.Refining.{numbered, Refining, refiningOfMatches, refiningOfReading, refiningOf}
+use Rattle.refining.specs.declared.answers.Refined.{Refined}
+use Rattle.refining.specs.declared.answers.Refined.the-variants.{Rows, Refused}
+use Rattle.refining.proofs.Numbered.{admitted-of, admitted-matches}
+use Rattle.refining.proofs.RefiningCases.{refining-refused, Case, refusing, short, crowded, writing, case}
 use Rattle.report.specs.Lines.{refusalText}
 use Rattle.report.specs.Reporting.{lentTable, lentWork, reportOfReply, reportOfReading, reportOf}
 use Rattle.report.proofs.LeastRows.{rowOfPiece, least-rows}

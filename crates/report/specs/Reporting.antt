@@ -12,8 +12,8 @@ use lib.ListN.{length, take, drop, replicate}
 use lib.Dec.{ltb}
 use Rattle.script.specs.Reading.{Reading, admitted, refused, readScript}
 use Rattle.table.specs.Rows.{rowWidth, rowsOf}
-use Rattle.refine.specs.Refining.{Refining, numbered, refiningOfMatches}
-use Rattle.refine.specs.declared.answers.Refined.{Refined}
+use Rattle.refining.specs.Refining.{Refining, numbered, refiningOfMatches}
+use Rattle.refining.specs.declared.answers.Refined.{Refined}
 use Rattle.report.specs.Lines.{refusalText, tableText}
 use Rattle.report.specs.declared.Reported.{Reported}
 

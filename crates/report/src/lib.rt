@@ -3,8 +3,8 @@ mod lines;
 
 use lines::put_refusal;
 use lines::put_table;
-use refine::answers::Refined;
 use refine::refine;
+use refining::answers::Refined;
 use script::Refusal;
 use script::Verdict;
 use table::rows::ROW_WIDTH;
@@ -12,7 +12,7 @@ use table::sum_up;
 ghost use mathlib.Core.Path.{_≡_};
 ghost use Prim.Native.Nat.{_≤_};
 ghost use lib.ListN.{length};
-ghost use Rattle.refine.specs.Refining.{refiningOf};
+ghost use Rattle.refining.specs.Refining.{refiningOf};
 ghost use Rattle.table.specs.Rows.{rowsOf};
 ghost use Rattle.report.specs.Lines.{refusalText, tableText};
 ghost use Rattle.report.specs.Reporting.{lentRows, lentTable, lentWork, reportOf, reportOfRefining};

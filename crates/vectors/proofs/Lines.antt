@@ -10,8 +10,8 @@ use Rattle.refinement.specs.Least as Least
 use Rattle.table.specs.Rows.{firstRows, rowsOf}
 use Rattle.table.specs.Distinct.{occurs, firstsAfter}
 use Rattle.table.specs.Summing.{total, classesFrom}
-use Rattle.refine.specs.Rows.{numbersOf}
-use Rattle.refine.specs.Refining.{refiningOfMatches, refiningOf}
+use Rattle.refining.specs.Rows.{numbersOf}
+use Rattle.refining.specs.Refining.{refiningOfMatches, refiningOf}
 use Rattle.text.specs.Decimal.{placesWithin}
 use Rattle.report.specs.Lines.{rowLines, classLines}
 use Rattle.report.specs.Reporting.{reportOf}

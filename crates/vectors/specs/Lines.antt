@@ -13,9 +13,9 @@ use mathlib.Core.List.{List, [], _∷_, _++_}
 use lib.ListN.{length, take, replicate}
 use lib.Dec.{eqb}
 use Rattle.table.specs.Summing.{summaryOf}
-use Rattle.refine.specs.Refining.{refiningOf}
-use Rattle.refine.specs.Demands.{Answer, value, refusal, answerOf}
-use Rattle.refine.specs.declared.answers.Refined.{Refined}
+use Rattle.refining.specs.Refining.{refiningOf}
+use Rattle.refining.specs.Demands.{Answer, value, refusal, answerOf}
+use Rattle.refining.specs.declared.answers.Refined.{Refined}
 use Rattle.report.specs.Reporting.{reportOf}
 
 pub data Expected : Type 0 where

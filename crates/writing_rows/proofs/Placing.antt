@@ -1,5 +1,4 @@
 -- Rows in the table: five numbers each, written one after the other.
---     length-numbers      the rows are five numbers each
 --     spans-low           the match spans the end of a piece that is carried to its left end on B
 --     five-stores         the five stores of a piece write its row
 --     Remaining, remaining-..   the loop over the cuts of one match: what remains to be written; a turn keeps it
@@ -17,10 +16,11 @@ use Rattle.refinement.specs.Match.{Match, matchAB, spanned, carryOver}
 use Rattle.refinement.specs.Least.{pieceOf, piecesBetween}
 use Rattle.refinement.proofs.Geometry.{spanned-from}
 use Rattle.cut_set.specs.Runs.{Bound}
-use Rattle.refine.specs.Columns.{Fit, matchAt}
-use Rattle.refine.specs.Rows.{within, rowsOver, direction, rowNumbers, numbersOf}
-use Rattle.refine.specs.Writing.{Stretch, Cutting, Placed, Writable, Written}
-use Rattle.refine.proofs.Within.{cutting, within-bounds, stretch}
+use Rattle.refining.specs.Columns.{Fit, matchAt}
+use Rattle.refining.specs.Rows.{within, rowsOver, direction, rowNumbers, numbersOf}
+use Rattle.refining.proofs.Standing.{length-numbers}
+use Rattle.writing_rows.specs.Writing.{Stretch, Cutting, Placed, Writable, Written}
+use Rattle.writing_rows.proofs.Within.{cutting, within-bounds, stretch}
 
 -- Rows as numbers.
 sets-append : (vs ws xs : List ℕ) (at : ℕ) → sets xs at (vs ++ ws) ≡ sets (sets xs at vs) (at + length vs) ws
@@ -33,11 +33,6 @@ numbers-append : (rs qs : List Match) → numbersOf (rs ++ qs) ≡ numbersOf rs 
 unfolding numbersOf
 numbers-append [] qs = refl
 numbers-append (r ∷ rs) qs = ap (λ ns. rowNumbers r ++ ns) (numbers-append rs qs)
-
-pub length-numbers : (rs : List Match) → length (numbersOf rs) ≡ 5 * length rs
-unfolding numbersOf
-length-numbers [] = refl
-length-numbers (r ∷ rs) = omega (arith, length-numbers rs)
 
 sets-rows :
     (rs qs : List Match) (xs : List ℕ)

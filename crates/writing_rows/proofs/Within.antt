@@ -15,8 +15,8 @@ use lib.Seq.{slice, slice-cons}
 use borrow.Author.Tests.{le-leb, lt-leb}
 use Rattle.refinement.proofs.Geometry.{spanned-below, spanned-from}
 use Rattle.cut_set.specs.Runs.{In, Run, Bound}
-use Rattle.refine.specs.Rows.{within}
-use Rattle.refine.specs.Writing.{Stretch, Cutting}
+use Rattle.refining.specs.Rows.{within}
+use Rattle.writing_rows.specs.Writing.{Stretch, Cutting}
 
 module _ (i d : ℕ) {x : ℕ} (xs : List ℕ) where
   within-on : i ≤ x → x ≤ i + d → within i d (x ∷ xs) ≡ x ∷ within i d xs

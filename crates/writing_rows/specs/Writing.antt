@@ -6,19 +6,12 @@
 use Prim.Native.Nat.{ℕ, suc, _+_, _*_, _^_, _≤_, _<_}
 use mathlib.Core.Path.{_≡_}
 use mathlib.Core.Bool.{Bool}
-use mathlib.Core.List.{List, []}
+use mathlib.Core.List.{List}
 use lib.ListN.{length, getD}
 use lib.Seq.{slice, sets}
-use Rattle.refinement.specs.Match.{Match}
 use Rattle.cut_set.specs.Runs.{In, Run}
-use Rattle.script.specs.declared.refusal.Refusal.the-variants.{TooManyPieces}
 use Rattle.refinement.specs.Match.{Match}
-use Rattle.refinement.specs.Least.{leastTable}
-use Rattle.refine.specs.Demands.{EveryExceeds}
-use Rattle.refine.specs.Refining.{capacityOf, refiningOf}
-use Rattle.refine.specs.Demands.{Admitted}
-use Rattle.refine.specs.declared.answers.Refined.{Refined}
-use Rattle.refine.specs.Rows.{rowsOver, numbersOf}
+use Rattle.refining.specs.Rows.{rowsOver, numbersOf}
 
 -- x to y is some stretch on A of a match with left ends i and k and length d, which ends within 32 bits on B
 pub record Stretch (i k d x y : ℕ) : Type 0 where
@@ -50,18 +43,3 @@ pub record Writable (a b d : List ℕ) (r : List Bool) (work : List ℕ) (lo hi 
 pub record Written (a b d : List ℕ) (r : List Bool) (run before after : List ℕ) (n : ℕ) : Type 0 where
   pub count : n ≡ length (rowsOver a b d r run (length d))
   pub table : after ≡ sets before 0 (numbersOf (rowsOver a b d r run (length d)))
-
--- the cuts found and the rows written: the least table over the table's start, or no room for any resolved refinement
-abbrev pub Tabled : List Match → List ℕ → List ℕ → Refined → Type 0
-Tabled ms before after (Refined.Rows n) =
-    (n ≡ length (leastTable ms []))
-    × (length (leastTable ms []) ≤ capacityOf before)
-    × (after ≡ sets before 0 (numbersOf (leastTable ms [])))
-Tabled ms before after (Refined.Refused r) =
-    (r ≡ TooManyPieces) × EveryExceeds ms (capacityOf before) × (after ≡ before)
-
--- the whole call, of whatever script has these matches
-abbrev pub Refines : List Match → List ℕ → List ℕ → Refined → List ℕ → List ℕ → Type 0
-Refines ms table work reply table′ work′ =
-    (script : List ℕ) → Admitted script ms
-    → record { reply = reply; table = table′; work = work′ } ≡ refiningOf script table work

@@ -7,9 +7,9 @@ ghost use lib.ListN.{length};
 ghost use lib.Seq.{slice, sets};
 ghost use Rattle.refinement.specs.Match.{matchAB};
 ghost use Rattle.refinement.specs.Least.{pieceOf, piecesBetween};
-ghost use Rattle.refine.specs.Columns.{Fit};
-ghost use Rattle.refine.specs.Rows.{rowNumbers};
-ghost use Rattle.refine.specs.Writing.{Stretch, Cutting, Placed, Writable, Written};
+ghost use Rattle.refining.specs.Columns.{Fit};
+ghost use Rattle.refining.specs.Rows.{rowNumbers};
+ghost use Rattle.writing_rows.specs.Writing.{Stretch, Cutting, Placed, Writable, Written};
 
 // Of two numbers the one for a reversed match, or the one for a direct match.
 fn by_direction(reversed: bool, if_reversed: u32, if_direct: u32) -> u32

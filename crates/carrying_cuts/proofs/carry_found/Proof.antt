@@ -2,12 +2,12 @@
 use Prim.Native.Nat.{_-_}
 use native.Mathlib.Omega.{arith}
 use lib.ListN as List
-use Rattle.refine.proofs.Storing.{done-used}
-use Rattle.refine.proofs.Passing.{Passed, pass-start, pass-step, pass-too-much, pass-end, pass-ready, pass-run}
-use Rattle.refine.proofs.Passing.{pass-over, pass-none}
+use Rattle.carrying_cuts.proofs.Storing.{done-used}
+use Rattle.carrying_cuts.proofs.Passing.{Passed, pass-start, pass-step, pass-too-much, pass-end, pass-ready, pass-run}
+use Rattle.carrying_cuts.proofs.Passing.{pass-over, pass-none}
 use borrow.Author.Needs.{needs}
-use Rattle.refine.proofs.worker.carry_found.Statement.{statement}
-use Rattle.refine.proofs.worker.carry_found.Tie as tie
+use Rattle.carrying_cuts.proofs.carry_found.Statement.{statement}
+use Rattle.carrying_cuts.proofs.carry_found.Tie as tie
 
 abbrev Inv-loop : tie.InvT-loop
 Inv-loop lefts others lengths reversed work₀ from hits most first end lowest highest set₀ count₀ k₀ work set count k =

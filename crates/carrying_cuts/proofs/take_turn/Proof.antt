@@ -1,10 +1,10 @@
 -- `take_turn` meets its contract: gathering and finishing keep the members of `from`, and `to` stands elsewhere.
 -- Assumes nothing.
-use Rattle.refine.proofs.Storing.{ready-then}
-use Rattle.refine.proofs.WholeTurn.{turn-ready, turned, turned-too-many}
+use Rattle.carrying_cuts.proofs.Storing.{ready-then}
+use Rattle.carrying_cuts.proofs.WholeTurn.{turn-ready, turned, turned-too-many}
 use borrow.Author.Needs.{needs}
-use Rattle.refine.proofs.worker.take_turn.Statement.{statement}
-use Rattle.refine.proofs.worker.take_turn.Tie as tie
+use Rattle.carrying_cuts.proofs.take_turn.Statement.{statement}
+use Rattle.carrying_cuts.proofs.take_turn.Tie as tie
 
 gather-requires : tie.Need-gather-requires
 gather-requires c κs = search needs

@@ -1,8 +1,8 @@
 -- `close` meets its contract: the ends are seeded, and `drive` does the rest. Assumes nothing.
 use borrow.Author.Needs.{needs}
-use Rattle.refine.proofs.Seeds.{seeded-open, seeded-exceeds}
-use Rattle.refine.proofs.closure.close.Statement.{statement}
-use Rattle.refine.proofs.closure.close.Tie as tie
+use Rattle.closing.proofs.Seeds.{seeded-open, seeded-exceeds}
+use Rattle.closing.proofs.close.Statement.{statement}
+use Rattle.closing.proofs.close.Tie as tie
 
 mul-empty : tie.Need-mul-empty
 mul-empty c = search needs

@@ -3,10 +3,10 @@
 use mathlib.Core.Path.{_≡_, refl}
 use lib.ListN as List
 use borrow.Author.Needs.{needs}
-use Rattle.refine.proofs.Settled.{all-cuts}
-use Rattle.refine.proofs.Drives.{Driving, pending, stepped-driving, stepped-less}
-use Rattle.refine.proofs.closure.drive.Statement.{statement}
-use Rattle.refine.proofs.closure.drive.Tie as tie
+use Rattle.closing.proofs.Settled.{all-cuts}
+use Rattle.closing.proofs.Drives.{Driving, pending, stepped-driving, stepped-less}
+use Rattle.closing.proofs.drive.Statement.{statement}
+use Rattle.closing.proofs.drive.Tie as tie
 
 abbrev Inv-loop : tie.InvT-loop
 Inv-loop left-a left-b lengths reversed work₀ capacity closing₀ work closing =

@@ -4,9 +4,9 @@ use mathlib.Core.Path.{_∙_}
 use native.Mathlib.Omega.{arith}
 use lib.ListN as List
 use borrow.Author.Needs.{needs}
-use Rattle.refine.proofs.Seeds.{Sown, sown-start, sown-step, sown-full, sown-end}
-use Rattle.refine.proofs.closure.seed.Statement.{statement}
-use Rattle.refine.proofs.closure.seed.Tie as tie
+use Rattle.closing.proofs.Seeds.{Sown, sown-start, sown-step, sown-full, sown-end}
+use Rattle.closing.proofs.seed.Statement.{statement}
+use Rattle.closing.proofs.seed.Tie as tie
 
 abbrev Inv-loop : tie.InvT-loop
 Inv-loop left-a lengths work₀ a₀ k₀ work a k = Sown left-a lengths work₀ a₀ k work a

@@ -1,8 +1,8 @@
 -- `seed_match` meets its contract: the two ends are added, or the set and one end more overflow it. Assumes nothing.
 use borrow.Author.Needs.{needs}
-use Rattle.refine.proofs.Seeds.{two-added, one-full}
-use Rattle.refine.proofs.closure.seed_match.Statement.{statement}
-use Rattle.refine.proofs.closure.seed_match.Tie as tie
+use Rattle.closing.proofs.Seeds.{two-added, one-full}
+use Rattle.closing.proofs.seed_match.Statement.{statement}
+use Rattle.closing.proofs.seed_match.Tie as tie
 
 add-requires : tie.Need-add-requires
 add-requires c κs = search needs

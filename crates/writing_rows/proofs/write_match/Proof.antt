@@ -4,10 +4,10 @@ use Prim.Native.Nat.{_-_}
 use native.Mathlib.Omega.{arith}
 use borrow.Author.Needs.{needs}
 use Rattle.refinement.specs.Match.{matchAB}
-use Rattle.refine.proofs.Placing.{Remaining, remaining-start, remaining-stretch, remaining-room, remaining-step}
-use Rattle.refine.proofs.Placing.{remaining-end}
-use Rattle.refine.proofs.rows.write_match.Statement.{statement}
-use Rattle.refine.proofs.rows.write_match.Tie as tie
+use Rattle.writing_rows.proofs.Placing.{Remaining, remaining-start, remaining-stretch, remaining-room, remaining-step}
+use Rattle.writing_rows.proofs.Placing.{remaining-end}
+use Rattle.writing_rows.proofs.write_match.Statement.{statement}
+use Rattle.writing_rows.proofs.write_match.Tie as tie
 
 abbrev Inv-loop : tie.InvT-loop
 Inv-loop work first last number left-a left-b letters reversed table₀ row at₀ next₀ table at next =

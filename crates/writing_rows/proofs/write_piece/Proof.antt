@@ -1,10 +1,10 @@
 -- The five stores of a piece write its row. The end that is carried lies on the match. Assumes nothing.
 use native.Mathlib.Omega.{arith}
 use lib.ListN.{length-set}
-use Rattle.refine.proofs.Placing.{spans-low, five-stores}
+use Rattle.writing_rows.proofs.Placing.{spans-low, five-stores}
 use borrow.Author.Needs.{needs}
-use Rattle.refine.proofs.rows.write_piece.Statement.{statement}
-use Rattle.refine.proofs.rows.write_piece.Tie as tie
+use Rattle.writing_rows.proofs.write_piece.Statement.{statement}
+use Rattle.writing_rows.proofs.write_piece.Tie as tie
 
 by-direction-requires : tie.Need-by-direction-requires
 by-direction-requires c κs = search needs

@@ -4,9 +4,9 @@ use Prim.Native.Nat.{_-_}
 use native.Mathlib.Omega.{arith}
 use borrow.Author.Needs.{needs}
 use lib.ListN.{length}
-use Rattle.refine.proofs.Placing.{Done, done-start, done-long, done-cuts, done-room, done-step, done-end}
-use Rattle.refine.proofs.rows.write_rows.Statement.{statement}
-use Rattle.refine.proofs.rows.write_rows.Tie as tie
+use Rattle.writing_rows.proofs.Placing.{Done, done-start, done-long, done-cuts, done-room, done-step, done-end}
+use Rattle.writing_rows.proofs.write_rows.Statement.{statement}
+use Rattle.writing_rows.proofs.write_rows.Tie as tie
 
 abbrev Inv-loop : tie.InvT-loop
 Inv-loop left-a left-b lengths reversed work lo hi table₀ row₀ k₀ table row k =

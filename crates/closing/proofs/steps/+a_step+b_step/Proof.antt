@@ -7,18 +7,18 @@ use borrow.Author.Needs.{needs}
 use borrow.Fn.Kinds.{In}
 use borrow.Fn.PlainCycle.{Measures, is, falls, and}
 use Rattle.refinement.specs.declared.Side.the-variants.{A, B}
-use Rattle.refine.specs.Engine.{unused}
-use Rattle.refine.proofs.Indexed.{fit-other}
-use Rattle.refine.proofs.Stepping.{after, too-many, turn-ready, turned-open, turned-less, finished, stepped-on}
-use Rattle.refine.proofs.steps.a_step.Reads as a-step
-use Rattle.refine.proofs.steps.a_step.Kinds as a-step-kinds
-use Rattle.refine.proofs.steps.+a_step+b_step.Lts-a_step as a-step-lts
-use Rattle.refine.proofs.steps.b_step.Reads as b-step
-use Rattle.refine.proofs.steps.b_step.Kinds as b-step-kinds
-use Rattle.refine.proofs.steps.+a_step+b_step.Lts-b_step as b-step-lts
-use Rattle.refine.proofs.worker.take_turn.Reads as take-turn-reads
-use Rattle.refine.proofs.steps.+a_step+b_step.{statement}
-use Rattle.refine.proofs.steps.+a_step+b_step.Tie.{close}
+use Rattle.closing.specs.Engine.{unused}
+use Rattle.closing.proofs.Indexed.{fit-other}
+use Rattle.closing.proofs.Stepping.{after, too-many, turn-ready, turned-open, turned-less, finished, stepped-on}
+use Rattle.closing.proofs.steps.a_step.Reads as a-step
+use Rattle.closing.proofs.steps.a_step.Kinds as a-step-kinds
+use Rattle.closing.proofs.steps.+a_step+b_step.Lts-a_step as a-step-lts
+use Rattle.closing.proofs.steps.b_step.Reads as b-step
+use Rattle.closing.proofs.steps.b_step.Kinds as b-step-kinds
+use Rattle.closing.proofs.steps.+a_step+b_step.Lts-b_step as b-step-lts
+use Rattle.carrying_cuts.proofs.take_turn.Reads as take-turn-reads
+use Rattle.closing.proofs.steps.+a_step+b_step.{statement}
+use Rattle.closing.proofs.steps.+a_step+b_step.Tie.{close}
 
 abbrev μ-a-step : Measures 5 a-step-kinds.ps ℕ
 μ-a-step κs a = unused (a .1 .1 .1 .1 .1 .0)

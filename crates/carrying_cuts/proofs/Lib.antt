@@ -1,0 +1,5 @@
+pub mod RunLists
+pub mod Storing
+pub mod Walking
+pub mod Passing
+pub mod WholeTurn
