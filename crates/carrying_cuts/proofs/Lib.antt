@@ -1,5 +1,2 @@
-pub mod RunLists
-pub mod Storing
-pub mod Walking
 pub mod Passing
 pub mod WholeTurn

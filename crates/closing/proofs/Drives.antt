@@ -10,10 +10,10 @@ use mathlib.Core.List.{List}
 use native.Mathlib.Omega.{arith}
 use Rattle.refinement.specs.declared.Side.the-variants.{A, B}
 use Rattle.refining.specs.Columns.{matchesOf}
-use Rattle.closing.specs.Engine.{Open, unused, Stepped}
+use Rattle.stepping.specs.Engine.{Open, unused, Stepped}
 use Rattle.refining.specs.Demands.{EveryExceeds}
-use Rattle.closing.specs.declared.steps.Cuts.{Cuts}
-use Rattle.closing.specs.declared.steps.Closing.{Closing}
+use Rattle.stepping.specs.declared.Cuts.{Cuts}
+use Rattle.stepping.specs.declared.Closing.{Closing}
 
 abbrev pub Driving : List ℕ → List ℕ → List ℕ → List Bool → ℕ → List ℕ → Closing → Type 0
 Driving a b d r cap ys (Closing.Done c) = Open a b d r cap ys c A × (c .a .done ≡ c .a .used)

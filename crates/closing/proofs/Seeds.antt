@@ -24,14 +24,15 @@ use Rattle.cut_set.specs.declared.CutSet.{CutSet}
 use Rattle.cut_set.specs.declared.Added.{Added}
 use Rattle.cut_set.proofs.Laws.{stored-none, stored-same, stored-then}
 use Rattle.refining.specs.Columns.{Fit, matchesOf}
-use Rattle.carrying_cuts.specs.Worker.{Overflow}
-use Rattle.closing.specs.Engine.{at, setOn, leftsOn, hitsAt, Counted, Open, EndAt, EndOf, Seeding}
+use Rattle.carrying_match.specs.OneMatch.{Overflow}
+use Rattle.stepping.specs.Engine.{at, setOn, leftsOn, hitsAt, Counted, Open}
+use Rattle.closing.specs.AllCuts.{EndAt, EndOf, Seeding}
 use Rattle.refining.specs.Demands.{EveryExceeds}
-use Rattle.closing.specs.declared.steps.Cuts.{Cuts}
-use Rattle.closing.proofs.Indexed.{∈-matches, matches-∈}
-use Rattle.closing.proofs.Counting.{hits-none, overflow-exceeds}
-use Rattle.closing.proofs.Members.{members-come, overflow-from}
-use Rattle.carrying_cuts.proofs.Storing.{crowded-overflow}
+use Rattle.stepping.specs.declared.Cuts.{Cuts}
+use Rattle.stepping.proofs.Indexed.{∈-matches, matches-∈}
+use Rattle.stepping.proofs.Counting.{hits-none, overflow-exceeds}
+use Rattle.stepping.proofs.Members.{members-come, overflow-from}
+use Rattle.carrying_match.proofs.Storing.{crowded-overflow}
 
 pub two-added :
     (xs : List ℕ) (s : CutSet) {ys : List ℕ} {t : CutSet} (zs : List ℕ) (x n : ℕ) → Good xs s → AddedTo xs s x ys t

@@ -16,11 +16,12 @@ use Rattle.refinement.proofs.Geometry.{end-spanned, carry-meets, carry-spans, c
 use Rattle.cut_set.specs.Runs.{In}
 use Rattle.cut_set.specs.Store.{Member, Finished}
 use Rattle.refining.specs.Columns.{Fit, matchesOf}
-use Rattle.closing.specs.Engine.{at, setOn, Open, AllCuts}
-use Rattle.closing.specs.declared.steps.Cuts.{Cuts}
-use Rattle.closing.proofs.Indexed.{placed}
-use Rattle.closing.proofs.Counting.{hits-whole}
-use Rattle.closing.proofs.Members.{finished-member}
+use Rattle.stepping.specs.Engine.{at, setOn, Open}
+use Rattle.closing.specs.AllCuts.{AllCuts}
+use Rattle.stepping.specs.declared.Cuts.{Cuts}
+use Rattle.stepping.proofs.Indexed.{placed}
+use Rattle.stepping.proofs.Counting.{hits-whole}
+use Rattle.stepping.proofs.Members.{finished-member}
 
 -- a place is of one side and one position only
 same-place : (P : Side → ℕ → Type 0) (u v : Side) (x y : ℕ) → at u x ≡ at v y → P u x → P v y

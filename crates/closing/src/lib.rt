@@ -1,18 +1,17 @@
 // All cuts: the ends of the matches, carried until neither side gains one.
-mod steps;
-
 use cut_set::Added;
 use cut_set::CutSet;
-use steps::Closing;
-use steps::Cuts;
-use steps::a_step;
-use steps::b_step;
+use stepping::Closing;
+use stepping::Cuts;
+use stepping::a_step;
+use stepping::b_step;
 ghost use Prim.Native.Nat.{_+_, _*_, _^_, _≤_, _<_};
 ghost use lib.ListN.{length};
 ghost use Rattle.refinement.specs.declared.Side.{Side};
 ghost use Rattle.cut_set.specs.Store.{Good};
 ghost use Rattle.refining.specs.Columns.{Fit, Ends, matchesOf};
-ghost use Rattle.closing.specs.Engine.{Open, EndAt, EndOf, Seeding, Closure};
+ghost use Rattle.stepping.specs.Engine.{Open};
+ghost use Rattle.closing.specs.AllCuts.{EndAt, EndOf, Seeding, Closure};
 
 // The cuts of A, or that every resolved refinement has more pieces than the capacity.
 pub enum Closed {

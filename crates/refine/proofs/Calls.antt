@@ -23,15 +23,16 @@ use Rattle.refinement.specs.Least.{leastTable}
 use Rattle.cut_set.specs.Store.{Joined}
 use Rattle.cut_set.specs.declared.CutSet.{CutSet}
 use Rattle.refining.specs.Columns.{Fit, matchesOf}
-use Rattle.closing.specs.Engine.{at, AllCuts, Closure}
+use Rattle.stepping.specs.Engine.{at}
+use Rattle.closing.specs.AllCuts.{AllCuts, Closure}
 use Rattle.refining.specs.Rows.{rowsOver, numbersOf}
 use Rattle.refining.specs.Refining.{capacityOf, workNeeded, zeroed}
 use Rattle.writing_rows.specs.Writing.{Writable, Written}
 use Rattle.refine.specs.Calls.{Tabled, Refines}
 use Rattle.closing.specs.declared.Closed.{Closed}
 use Rattle.refining.specs.declared.answers.Refined.{Refined}
-use Rattle.closing.proofs.Indexed.{∈-matches}
-use Rattle.carrying_cuts.proofs.RunLists.{slice-in, in-slice, slice-rising}
+use Rattle.stepping.proofs.Indexed.{∈-matches}
+use Rattle.carrying_match.proofs.RunLists.{slice-in, in-slice, slice-rising}
 use Rattle.refine.proofs.RowsLeast.{rows-least}
 use Rattle.refining.proofs.RefiningCases.{written-sets, refining-crowded, refining-written}
 

@@ -18,7 +18,7 @@ use Rattle.refinement.proofs.Geometry.{spanned-iff}
 use Rattle.refinement.proofs.Theorem.{cuts-of-match}
 use Rattle.refining.specs.Columns.{Fit, upFrom, matchAt, matchesOf}
 use Rattle.refining.specs.Rows.{within, rowsOver}
-use Rattle.closing.proofs.Indexed.{matches-good}
+use Rattle.stepping.proofs.Indexed.{matches-good}
 
 -- The numbers that a match spans, by the test and by the decision.
 within-filter : (m : Match) (xs : List ℕ) → within (left m A) (m .length) xs ≡ filter (spans? m A) xs

@@ -3,4 +3,5 @@ pub mod Standing
 pub mod RefiningCases
 pub mod Demands
 pub mod WrongCalls
+pub mod WorkNeeded
 pub mod CarryingOutcome

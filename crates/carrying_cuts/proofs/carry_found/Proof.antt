@@ -2,7 +2,7 @@
 use Prim.Native.Nat.{_-_}
 use native.Mathlib.Omega.{arith}
 use lib.ListN as List
-use Rattle.carrying_cuts.proofs.Storing.{done-used}
+use Rattle.carrying_match.proofs.Storing.{done-used}
 use Rattle.carrying_cuts.proofs.Passing.{Passed, pass-start, pass-step, pass-too-much, pass-end, pass-ready, pass-run}
 use Rattle.carrying_cuts.proofs.Passing.{pass-over, pass-none}
 use borrow.Author.Needs.{needs}

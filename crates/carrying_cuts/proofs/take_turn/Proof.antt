@@ -1,6 +1,6 @@
 -- `take_turn` meets its contract: gathering and finishing keep the members of `from`, and `to` stands elsewhere.
 -- Assumes nothing.
-use Rattle.carrying_cuts.proofs.Storing.{ready-then}
+use Rattle.carrying_match.proofs.Storing.{ready-then}
 use Rattle.carrying_cuts.proofs.WholeTurn.{turn-ready, turned, turned-too-many}
 use borrow.Author.Needs.{needs}
 use Rattle.carrying_cuts.proofs.take_turn.Statement.{statement}
