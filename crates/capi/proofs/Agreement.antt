@@ -14,7 +14,7 @@ use Rattle.script.specs.Refusals.{numberOf}
 use Rattle.script.specs.Reading.{Reading, admitted, refused, scriptOf}
 use Rattle.script.specs.declared.refusal.Refusal.{Refusal}
 use Rattle.script.specs.declared.Verdict.{Verdict}
-use Rattle.script.specs.declared.find.Finding.{Finding}
+use Rattle.script.specs.declared.Finding.{Finding}
 use Rattle.refining.specs.Demands.{value, refusal, answerOf}
 use Rattle.refining.specs.Carrying.{carriedAnswer}
 use Rattle.refining.specs.declared.answers.Refined.{Refined}

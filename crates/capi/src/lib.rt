@@ -1,15 +1,15 @@
 // Doors for C and Rust: plain functions over the library, prefix notchergrey_. Each returns 0 or the refusal's number
 // and hands the rest out through pointers. Like a call of the library, a refused one alters no lent number but `place`.
 // The doors on tables refuse nothing.
+use reader::find::find_match;
 use refinement::Side;
 use refining::answers::Carried;
 use refining::answers::Refined;
+use refusals::number_of;
+use refusals::place_of;
 use report::Reported;
+use script::Finding;
 use script::Verdict;
-use script::find::Finding;
-use script::find::find_match;
-use script::refusal::number_of;
-use script::refusal::place_of;
 use table::CLASSES;
 use table::span_of;
 use table::sum_up;
@@ -61,7 +61,7 @@ pub extern "C" fn notchergrey_read(
           count = now (count .entry);
         }) ⌝ }
 {
-    let read = script::read(script);
+    let read = reader::read(script);
     let verdict = read.verdict;
     match verdict {
         Verdict::Admitted {

@@ -13,10 +13,10 @@ use libc::STDOUT_FILENO;
 use refinement::Side;
 use refining::answers::Carried;
 use refining::answers::Refined;
+use refusals::number_of;
+use refusals::place_of;
 use script::Refusal;
 use script::Verdict;
-use script::refusal::number_of;
-use script::refusal::place_of;
 ghost use mathlib.Core.Path.{_≡_};
 ghost use Prim.Native.Nat.{_+_, _*_};
 ghost use lib.ListN.{length};
@@ -38,7 +38,7 @@ fn print_refusal(refusal: Refusal) {
 }
 
 fn print_reading(script: &[u8]) {
-    let read = script::read(script);
+    let read = reader::read(script);
     let verdict = read.verdict;
     match verdict {
         Verdict::Admitted {

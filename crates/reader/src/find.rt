@@ -1,19 +1,15 @@
 // One match of a script, by its number.
-use crate::Script;
-use crate::Verdict;
-use crate::command::Match;
 use crate::read;
-use crate::refusal::Refusal;
+use script::Finding;
+use script::Refusal;
+use script::Script;
+use script::Verdict;
+use script::command::Match;
 ghost use mathlib.Core.Path.{_≡_};
 ghost use Prim.Native.Nat.{_<_};
 ghost use Rattle.script.specs.Limits.{mostMatches};
 ghost use Rattle.script.specs.Reading.{readScript};
 ghost use Rattle.script.specs.Finding.{findingOf, matchIn};
-
-pub enum Finding {
-    Found(Match),
-    Refused(Refusal),
-}
 
 // What stands at an index of the columns.
 fn match_in(read: Script, index: usize) -> Match

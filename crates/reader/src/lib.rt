@@ -1,39 +1,22 @@
 // The reader of match scripts: from any string of bytes to a verdict and the columns of its matches.
-pub mod command;
 pub mod find;
-pub mod limits;
-pub mod refusal;
-mod step;
 
-pub use command::Match;
-use command::read_command;
-use limits::MOST_MATCHES;
-pub use refusal::Refusal;
-use step::Opening;
-use step::Step;
-use step::judge;
-use step::judge_opening;
+use commands::read_command;
+use judging::judge;
+use judging::judge_opening;
+use script::Refusal;
+use script::Script;
+use script::Verdict;
+use script::limits::MOST_MATCHES;
+use script::step::Opening;
+use script::step::Step;
 ghost use mathlib.Core.Path.{_≡_};
 ghost use mathlib.Core.List.{[]};
 ghost use mathlib.Core.Bool.{false};
 ghost use lib.ListN.{replicate};
 ghost use Rattle.script.specs.Limits.{mostMatches};
 ghost use Rattle.script.specs.Reading.{readScript, scriptOf, refused};
 ghost use Rattle.script.specs.Outcomes.{Reach};
-
-pub enum Verdict {
-    Admitted { p: u32, q: u32, count: usize },
-    Refused(Refusal),
-}
-
-// Match k, numbered from 1, stands at k - 1 of each column; what stands past the count is zero.
-pub struct Script {
-    pub verdict: Verdict,
-    pub left_a: [u32; MOST_MATCHES],
-    pub left_b: [u32; MOST_MATCHES],
-    pub length: [u32; MOST_MATCHES],
-    pub reversed: [bool; MOST_MATCHES],
-}
 
 fn zeros() -> [u32; MOST_MATCHES]
     ensures { λ r. ⌜ r ≡ replicate mostMatches 0 ⌝ }

@@ -100,7 +100,7 @@ pub fn refine(script: &[u8], table: &mut [u32], work: &mut [u32]) -> Refined
     ensures demand3 { λ r. ⌜
         Demand3 (now (script .entry)) (now (table .entry)) (now (work .entry)) (answerOf r) (now (table .exit)) ⌝ }
 {
-    let read = script::read(script);
+    let read = reader::read(script);
     let verdict = read.verdict;
     match verdict {
         Verdict::Refused(refusal) => Refined::Refused(refusal),

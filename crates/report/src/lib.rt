@@ -90,7 +90,7 @@ pub fn report(script: &[u8], text: &mut [u8]) -> Reported
     ensures reply { λ r. ⌜ r ≡ reportingOf (now (script .entry)) (now (text .entry)) .reply ⌝ }
     ensures text { λ _. ⌜ now (text .exit) ≡ reportingOf (now (script .entry)) (now (text .entry)) .text ⌝ }
 {
-    let read = script::read(script);
+    let read = reader::read(script);
     let verdict = read.verdict;
     match verdict {
         Verdict::Refused(refusal) => print_refusal(refusal, text),

@@ -1,8 +1,8 @@
 // The lines of the text. Each is put into a lent buffer from a place on, and the place behind it is returned; what does
 // not fit is passed over and only counted.
+use refusals::number_of;
+use refusals::place_of;
 use script::Refusal;
-use script::refusal::number_of;
-use script::refusal::place_of;
 use table::Summary;
 use table::rows::Row;
 use table::rows::row_at;

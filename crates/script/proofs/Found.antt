@@ -13,7 +13,7 @@ use Rattle.script.specs.Finding.{foundIn, findingOf, matchIn}
 use Rattle.script.specs.Reading.{readScript}
 use Rattle.script.specs.declared.refusal.Refusal.the-variants.{NoSuchMatch}
 use Rattle.script.specs.declared.command.Match.{Match}
-use Rattle.script.specs.declared.find.Finding.{Finding}
+use Rattle.script.specs.declared.Finding.{Finding}
 use Rattle.script.specs.declared.Script.{Script}
 use Rattle.script.proofs.Admitted.{Holds}
 

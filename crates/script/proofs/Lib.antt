@@ -2,7 +2,7 @@ pub mod Tests
 pub mod Seen
 pub mod Judged
 pub mod Outcome
-pub mod Progress
 pub mod Prefix
 pub mod Admitted
 pub mod Found
+pub mod Replies

@@ -1,11 +1,11 @@
 -- `read` meets its contract: the first command decides, or opens the loop. Assumes nothing.
 use borrow.Author.Needs.{needs}
 use mathlib.Core.Path.{sym, ap, _∙_}
 use Rattle.script.specs.Steps.{openingOf}
 use Rattle.script.specs.Reading.{scriptOf}
-use Rattle.script.proofs.Progress.{opening-reach, opening-refused}
-use Rattle.script.proofs.read.Statement.{statement}
-use Rattle.script.proofs.read.Tie as tie
+use Rattle.reader.proofs.Progress.{opening-reach, opening-refused}
+use Rattle.reader.proofs.read.Statement.{statement}
+use Rattle.reader.proofs.read.Tie as tie
 
 read-command-requires : tie.Need-read-command-requires
 read-command-requires c κs = search needs

@@ -6,12 +6,12 @@ use lib.ListN as List
 use mathlib.Core.Path.{refl, sym, ap, _∙_}
 use mathlib.Core.List.{[]}
 use native.Mathlib.Omega.{arith}
-use Rattle.script.proofs.Progress.{Progress, comes, progress-refused, progress-finished, progress-taken}
+use Rattle.reader.proofs.Progress.{Progress, comes, progress-refused, progress-finished, progress-taken}
 use Rattle.script.proofs.Outcome.{reach-place, reach-inside}
 use Rattle.script.specs.Reading.{scriptOf}
 use borrow.Author.Needs.{needs}
-use Rattle.script.proofs.read_matches.Statement.{statement}
-use Rattle.script.proofs.read_matches.Tie as tie
+use Rattle.reader.proofs.read_matches.Statement.{statement}
+use Rattle.reader.proofs.read_matches.Tie as tie
 
 abbrev Inv-loop : tie.InvT-loop
 Inv-loop script p q left-a₀ left-b₀ length₀ reversed₀ count₀ at₀ left-a left-b length reversed count at =

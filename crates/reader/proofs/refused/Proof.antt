@@ -1,7 +1,7 @@
 -- `refused` meets its contract: its columns are those of no match. Assumes nothing.
 use borrow.Author.Needs.{needs}
-use Rattle.script.proofs.refused.Statement.{statement}
-use Rattle.script.proofs.refused.Tie as tie
+use Rattle.reader.proofs.refused.Statement.{statement}
+use Rattle.reader.proofs.refused.Tie as tie
 
 zeros-requires : tie.Need-zeros-requires
 zeros-requires c κs = search needs

@@ -2,11 +2,11 @@
 use mathlib.Core.Path.{sym, ap, _∙_}
 use native.Mathlib.Omega.{arith}
 use borrow.Author.Needs.{needs}
-use Rattle.script.specs.declared.find.Finding.{Finding}
+use Rattle.script.specs.declared.Finding.{Finding}
 use Rattle.script.proofs.Admitted.{holds-admitted, reading-refused}
 use Rattle.script.proofs.Found.{found-none-zero, found-none-above, found-held}
-use Rattle.script.proofs.find.find_match.Statement.{statement}
-use Rattle.script.proofs.find.find_match.Tie as tie
+use Rattle.reader.proofs.find.find_match.Statement.{statement}
+use Rattle.reader.proofs.find.find_match.Tie as tie
 
 read-requires : tie.Need-read-requires
 read-requires c κs = search needs

@@ -1,0 +1,23 @@
+// One command of a script: what stands at the start of a remainder, without what it means for the script.
+
+// Letters left_a to left_a + length of A and left_b to left_b + length of B, read the same way or one backwards.
+pub struct Match {
+    pub left_a: u32,
+    pub left_b: u32,
+    pub length: u32,
+    pub reversed: bool,
+}
+
+pub enum Command {
+    // No byte is left.
+    Missing,
+    // A byte that begins no command.
+    Unknown,
+    Lengths { p: u32, q: u32 },
+    LengthsCutShort,
+    Pairing(Match),
+    MatchCutShort,
+    // The last byte of the script.
+    End,
+    EndThenMore,
+}
