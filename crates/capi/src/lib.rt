@@ -1,6 +1,7 @@
 // Doors for C and Rust: plain functions over the library, prefix notchergrey_. Each returns 0 or the refusal's number
 // and hands the rest out through pointers. Like a call of the library, a refused one alters no lent number but `place`.
 // The doors on tables refuse nothing.
+use match_rows::span_of;
 use reader::find::find_match;
 use refinement::Side;
 use refining::answers::Carried;
@@ -10,9 +11,8 @@ use refusals::place_of;
 use report::Reported;
 use script::Finding;
 use script::Verdict;
+use summary::sum_up;
 use table::CLASSES;
-use table::span_of;
-use table::sum_up;
 ghost use mathlib.Core.Path.{_≡_};
 ghost use Rattle.script.specs.Reading.{readScript};
 ghost use Rattle.script.specs.Finding.{findingOf};

@@ -16,11 +16,11 @@ use native.Mathlib.Decide.{decLt, ℕ-discrete}
 use lib.ListN.{length, getD, set, length-set, length-map, length-append, List·getD-append}
 use lib.Dec.{lit<}
 use lib.Seq.{getD-append-seam, getD-set-same, getD-set-other}
-use Rattle.table.specs.Rows.{rowAt}
+use Rattle.rows.specs.Rows.{rowAt}
 use Rattle.table.specs.Distinct.{same, occurs}
-use Rattle.table.specs.Store.{mostShares, storeSize, spot, shareOf, bucketOf, Last, bucketAt, Store, storedRows}
-use Rattle.table.specs.declared.rows.Row.{Row}
+use Rattle.distinct_pieces.specs.Store.{mostShares, storeSize, spot, shareOf, bucketOf, Last, bucketAt, Store, storedRows}
+use Rattle.rows.specs.declared.Row.{Row}
 use Rattle.table.proofs.Pieces.{false-of, never-both, same-fields, occurs-at, occurs-where}
 
 -- ---- dealing
 

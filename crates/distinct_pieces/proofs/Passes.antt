@@ -19,15 +19,15 @@ use borrow.Author.Tests.{eq-eqb, ne-eqb, eqb-true}
 use lib.ListN.{length, getD, take, set, replicate}
 use lib.ListN.{length-set, length-append, length-replicate, getD-replicate, List·getD-append}
 use lib.Seq.{getD-append-seam, length-take-le, take-suc-set}
-use Rattle.table.specs.Rows.{rowAt}
+use Rattle.rows.specs.Rows.{rowAt}
 use Rattle.table.specs.Distinct.{same, occurs, firstsAfter, firstOfEach}
 use Rattle.table.specs.Summing.{total, count}
-use Rattle.table.specs.Store.{storeSize, shareOf, bucketOf, inShare, storedRows, Kept}
-use Rattle.table.specs.declared.rows.Row.{Row}
+use Rattle.distinct_pieces.specs.Store.{storeSize, shareOf, bucketOf, inShare, storedRows, Kept}
+use Rattle.rows.specs.declared.Row.{Row}
 use Rattle.table.proofs.Counting.{total-snoc, count-inside}
 use Rattle.table.proofs.Pieces.{false-of, never-both, occurs-before, occurs-same, occurs-passed}
 use Rattle.table.proofs.Pieces.{firsts-known, firsts-fresh, firsts-inside}
-use Rattle.table.proofs.Buckets.{same-share, stored-where, walk-hits, store-more}
+use Rattle.distinct_pieces.proofs.Buckets.{same-share, stored-where, walk-hits, store-more}
 
 -- ---- the rows passed
 

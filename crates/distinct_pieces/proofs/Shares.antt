@@ -13,10 +13,10 @@ use native.Mathlib.Nat.{mul-comm, mul-lt-mul-of-pos-right, div-lt-iff-lt-mul}
 use borrow.Author.Tests.{eq-eqb, ne-eqb, lt-ltb, le-ltb}
 use lib.ListN.{length}
 use lib.Dec.{eqb, ltb, lit<}
 use Rattle.table.specs.Summing.{count}
-use Rattle.table.specs.Store.{shareOf, inShare}
-use Rattle.table.specs.declared.rows.Row.{Row}
+use Rattle.distinct_pieces.specs.Store.{shareOf, inShare}
+use Rattle.rows.specs.declared.Row.{Row}
 use Rattle.table.proofs.Counting.{count-agrees, count-every, count-no-one, count-joined}
 
 abbrev pub belowShare : ℕ → ℕ → Row → Bool
 belowShare shares share r = ltb (shareOf shares r) share

@@ -1,16 +1,16 @@
 // The count of distinct pieces. Rows are dealt into shares, by a number that depends on the piece alone, and each pass
 // over the table counts one share with the help of a store in local arrays. A store that is full only costs time.
-use crate::rows::Row;
-use crate::rows::row_at;
-use crate::rows::row_count;
+use rows::Row;
+use rows::row_at;
+use rows::row_count;
 ghost use mathlib.Core.Path.{_≡_};
 ghost use Prim.Native.Nat.{_<_, _≤_};
 ghost use lib.ListN.{length, take, replicate};
-ghost use Rattle.table.specs.Rows.{rowsOf};
+ghost use Rattle.rows.specs.Rows.{rowsOf};
 ghost use Rattle.table.specs.Distinct.{same, occurs, firstOfEach};
 ghost use Rattle.table.specs.Summing.{count};
-ghost use Rattle.table.specs.Store.{mostShares, storeSize, spot, shareOf, bucketOf, inShare};
-ghost use Rattle.table.specs.Store.{Store, storedRows, Kept};
+ghost use Rattle.distinct_pieces.specs.Store.{mostShares, storeSize, spot, shareOf, bucketOf, inShare};
+ghost use Rattle.distinct_pieces.specs.Store.{Store, storedRows, Kept};
 
 const MOST_SHARES: usize = 65_536;
 // The rows that a store takes, and its buckets.

@@ -1,12 +1,13 @@
 // The rows of one match, as a part of the lent table.
-use crate::rows::ROW_WIDTH;
-use crate::rows::row_at;
-use crate::rows::row_count;
+use rows::ROW_WIDTH;
+use rows::row_at;
+use rows::row_count;
+use table::Span;
 ghost use mathlib.Core.Path.{_≡_};
 ghost use Prim.Native.Nat.{_+_, _≤_};
 ghost use lib.ListN.{length, drop};
-ghost use Rattle.table.specs.Rows.{rowsOf};
+ghost use Rattle.rows.specs.Rows.{rowsOf};
 ghost use Rattle.table.specs.Finding.{before, run, startOf, spanOf, partOf, further};
 
 fn rows_before(table: &[u32], number: u32) -> usize
     ensures { λ r. ⌜ r ≡ before number (rowsOf (now (table .entry))) ⌝ }
@@ -37,12 +38,6 @@ fn run_end(table: &[u32], number: u32, start: usize) -> usize
         k += 1;
     }
     k
-}
-
-// A part of a table: from the number at `start` up to the number at `end`.
-pub struct Span {
-    pub start: usize,
-    pub end: usize,
 }
 
 // Where the rows with that number stand, from the first on until another number follows; 0 and 0 if none has it.

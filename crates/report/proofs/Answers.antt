@@ -15,7 +15,7 @@ use Rattle.script.specs.declared.refusal.Refusal.{Refusal}
 use Rattle.script.specs.declared.Script.{Script}
 use Rattle.script.specs.declared.Verdict.{Verdict}
 use Rattle.script.proofs.Admitted.{holds-admitted, reading-refused}
-use Rattle.table.specs.Rows.{rowWidth}
+use Rattle.rows.specs.Rows.{rowWidth}
 use Rattle.refining.specs.Refining.{refiningOf, capacityOf}
 use Rattle.refining.specs.Demands.{value, answerOf, RefiningOutcome}
 use Rattle.refining.specs.declared.answers.Refined.{Refined}

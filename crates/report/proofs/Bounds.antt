@@ -15,7 +15,7 @@ use lib.ListN.{length, length-append}
 use Rattle.script.specs.declared.refusal.Refusal.{Refusal}
 use Rattle.script.specs.Refusals.{numberOf, placeOf}
 use Rattle.table.specs.Summing.{classCount, summaryOfRows}
-use Rattle.table.specs.declared.rows.Row.{Row}
+use Rattle.rows.specs.declared.Row.{Row}
 use Rattle.table.specs.declared.summing.Summary.{Summary}
 use Rattle.table.proofs.Sums.{classes-length}
 use Rattle.text.specs.Decimal.{decimal}

@@ -15,8 +15,8 @@ use Rattle.script.specs.declared.refusal.Refusal.{Refusal}
 use Rattle.script.specs.declared.refusal.Refusal.the-variants.{TooManyPieces}
 use Rattle.refinement.specs.Match.{Match}
 use Rattle.refinement.specs.Least.{leastTable}
-use Rattle.table.specs.Rows.{rowWidth, rowsOf, numbersOf as rowsNumbers}
-use Rattle.table.specs.declared.rows.Row.{Row}
+use Rattle.rows.specs.Rows.{rowWidth, rowsOf, numbersOf as rowsNumbers}
+use Rattle.rows.specs.declared.Row.{Row}
 use Rattle.table.proofs.Laws.{rows-back}
 use Rattle.refining.specs.Rows.{direction, numbersOf}
 use Rattle.refining.specs.Refining.{capacityOf, workNeeded, refiningOfMatches, refiningOf}

@@ -12,7 +12,7 @@ use Rattle.script.specs.Reading.{admitted, readScript}
 use Rattle.script.specs.declared.command.Match.{Match as ScriptMatch}
 use Rattle.refinement.specs.Match.{Match}
 use Rattle.refinement.specs.Least.{leastTable}
-use Rattle.table.specs.Rows.{rowWidth}
+use Rattle.rows.specs.Rows.{rowWidth}
 use Rattle.refining.specs.Refining.{capacityOf, workNeeded, numbered, refiningOfMatches, refiningOf}
 use Rattle.report.specs.Reporting.{lentRows, lentTable, lentWork, reportOfRefining, reportOf}
 use Rattle.report.proofs.LeastRows.{report-crowded, report-rows}

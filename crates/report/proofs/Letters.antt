@@ -25,9 +25,9 @@ use Rattle.refinement.specs.Match.{Match}
 use Rattle.refinement.specs.Least.{leastTable}
 use Rattle.refinement.proofs.Theorem.{table-resolved}
 use Rattle.refinement.proofs.Letters.{letters, least-letters}
-use Rattle.table.specs.Rows.{rowWidth}
+use Rattle.rows.specs.Rows.{rowWidth}
 use Rattle.table.specs.Summing.{total, count, lettersOf, classCount, summaryOf}
-use Rattle.table.specs.declared.rows.Row.{Row}
+use Rattle.rows.specs.declared.Row.{Row}
 use Rattle.table.proofs.Laws.{sumOf, between, classes-sum}
 use Rattle.refining.specs.Refining.{numbered, refiningOf}
 use Rattle.refining.specs.declared.answers.Refined.the-variants.{Rows}

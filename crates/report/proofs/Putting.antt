@@ -16,11 +16,11 @@ use lib.ListN.{length, getD, take}
 use lib.Seq.{take-suc, length-take-le}
 use Rattle.script.specs.Refusals.{numberOf, placeOf}
 use Rattle.script.specs.declared.refusal.Refusal.{Refusal}
-use Rattle.table.specs.Rows.{rowAt}
+use Rattle.rows.specs.Rows.{rowAt}
 use Rattle.table.specs.Summing.{summaryOfRows}
-use Rattle.table.specs.declared.rows.Row.{Row}
+use Rattle.rows.specs.declared.Row.{Row}
 use Rattle.table.specs.declared.summing.Summary.{Summary}
-use Rattle.table.proofs.TableRows.{take-more}
+use Rattle.rows.proofs.TableRows.{take-more}
 use Rattle.text.specs.Decimal.{decimal}
 use Rattle.text.specs.Putting.{Put}
 use Rattle.text.proofs.Stores.{put-then, put-same}

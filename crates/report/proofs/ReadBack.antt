@@ -17,7 +17,7 @@ use lib.Dec.{eqb}
 use lib.ListN.{getD, take, drop}
 use Rattle.refinement.specs.Order.{_∈_}
 use Rattle.table.specs.Summing.{summaryOfRows}
-use Rattle.table.specs.declared.rows.Row.{Row}
+use Rattle.rows.specs.declared.Row.{Row}
 use Rattle.text.specs.Decimal.{decimal}
 use Rattle.text.proofs.Reading.{decimal-inj, decimal-cut, decimal-start}
 use Rattle.report.specs.Lines.{class, refused, sign, line, rowLine, rowLines, classLines, tableText}

@@ -26,8 +26,8 @@ use Rattle.refinement.specs.Match.{Match}
 use Rattle.refinement.specs.Refinement.{Piece}
 use Rattle.refinement.specs.Least.{leastTable}
 use Rattle.refinement.proofs.Theorem.{table-resolved}
-use Rattle.table.specs.Rows.{rowWidth, rowsOf}
-use Rattle.table.specs.declared.rows.Row.{Row}
+use Rattle.rows.specs.Rows.{rowWidth, rowsOf}
+use Rattle.rows.specs.declared.Row.{Row}
 use Rattle.refining.specs.Rows.{direction}
 use Rattle.refining.specs.Refining.{numbered, Refining, refiningOfMatches, refiningOfReading, refiningOf}
 use Rattle.refining.specs.declared.answers.Refined.{Refined}

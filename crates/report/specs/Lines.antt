@@ -12,7 +12,7 @@ use lib.Dec.{eqb}
 use Rattle.script.specs.Refusals.{numberOf, placeOf}
 use Rattle.script.specs.declared.refusal.Refusal.{Refusal}
 use Rattle.table.specs.Summing.{summaryOfRows}
-use Rattle.table.specs.declared.rows.Row.{Row}
+use Rattle.rows.specs.declared.Row.{Row}
 use Rattle.table.specs.declared.summing.Summary.{Summary}
 use Rattle.text.specs.Decimal.{decimal}
 

@@ -11,7 +11,7 @@ use mathlib.Core.List.{List, _++_}
 use lib.ListN.{length, take, drop, replicate}
 use lib.Dec.{ltb}
 use Rattle.script.specs.Reading.{Reading, admitted, refused, readScript}
-use Rattle.table.specs.Rows.{rowWidth, rowsOf}
+use Rattle.rows.specs.Rows.{rowWidth, rowsOf}
 use Rattle.refining.specs.Refining.{Refining, numbered, refiningOfMatches}
 use Rattle.refining.specs.declared.answers.Refined.{Refined}
 use Rattle.report.specs.Lines.{refusalText, tableText}

@@ -2,11 +2,11 @@
 // not fit is passed over and only counted.
 use refusals::number_of;
 use refusals::place_of;
+use rows::Row;
+use rows::row_at;
+use rows::row_count;
 use script::Refusal;
 use table::Summary;
-use table::rows::Row;
-use table::rows::row_at;
-use table::rows::row_count;
 use text::put_byte;
 use text::put_bytes;
 use text::put_number;
@@ -14,7 +14,7 @@ ghost use mathlib.Core.Path.{_≡_};
 ghost use mathlib.Core.List.{[], _∷_, _++_};
 ghost use Prim.Native.Nat.{_+_, _*_, _≤_};
 ghost use lib.ListN.{length};
-ghost use Rattle.table.specs.Rows.{rowsOf};
+ghost use Rattle.rows.specs.Rows.{rowsOf};
 ghost use Rattle.table.specs.Summing.{summaryOf};
 ghost use Rattle.text.specs.Decimal.{decimal};
 ghost use Rattle.text.specs.Putting.{Put};

@@ -13,8 +13,8 @@ use native.Mathlib.Numerals.{add-one}
 use native.Mathlib.Nat.{le-of-suc-le-suc, not-suc-le-zero, add-zero}
 use lib.ListN.{length, getD, take, drop}
 use lib.Seq.{take-suc, drop-drop, getD-drop}
-use Rattle.table.specs.declared.rows.Row.{Row}
-use Rattle.table.specs.Rows.{rowWidth, rowOf, firstRows, rowsOf, rowAt}
+use Rattle.rows.specs.declared.Row.{Row}
+use Rattle.rows.specs.Rows.{rowWidth, rowOf, firstRows, rowsOf, rowAt}
 
 first-rows-length : (n : ℕ) (t : List ℕ) → length (firstRows n t) ≡ n
 unfolding firstRows

@@ -8,7 +8,7 @@
 use Prim.Native.Nat.{ℕ, zero, suc, _/_}
 use mathlib.Core.List.{List, [], _∷_}
 use lib.ListN.{length, getD, drop}
-use Rattle.table.specs.declared.rows.Row.{Row}
+use Rattle.rows.specs.declared.Row.{Row}
 
 -- "A row is five 32-bit numbers"
 abbrev pub rowWidth : ℕ

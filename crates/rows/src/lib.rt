@@ -2,7 +2,7 @@
 ghost use mathlib.Core.Path.{_≡_};
 ghost use Prim.Native.Nat.{_<_};
 ghost use lib.ListN.{length};
-ghost use Rattle.table.specs.Rows.{rowsOf, rowAt};
+ghost use Rattle.rows.specs.Rows.{rowsOf, rowAt};
 
 // The numbers of a row.
 pub const ROW_WIDTH: usize = 5;

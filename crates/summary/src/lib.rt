@@ -1,22 +1,14 @@
 // The summary of a table: pieces, distinct pieces, letters and classes.
-use crate::distinct::count_distinct;
-use crate::rows::row_at;
-use crate::rows::row_count;
+use distinct_pieces::count_distinct;
+use rows::row_at;
+use rows::row_count;
+use table::CLASSES;
+use table::Summary;
 ghost use mathlib.Core.Path.{_≡_};
 ghost use Prim.Native.Nat.{ℕ, _%_, _^_, _<_};
 ghost use lib.Dec.{eqb};
-ghost use Rattle.table.specs.Rows.{rowsOf};
+ghost use Rattle.rows.specs.Rows.{rowsOf};
 ghost use Rattle.table.specs.Summing.{lettersOf, classCount, lengthInClass, classesOf, summaryOf};
-
-// The classes of lengths: class c is of those from 2^c on, below 2^(c + 1).
-pub const CLASSES: usize = 30;
-
-pub struct Summary {
-    pub pieces: usize,
-    pub distinct: usize,
-    pub letters: u64,
-    pub classes: [usize; CLASSES],
-}
 
 // The class of a length; CLASSES where it fits none.
 fn class_of(length: u32) -> usize

@@ -7,7 +7,7 @@ use native.Mathlib.Decide.{decLe, decLt, ℕ-discrete}
 use Rattle.script.specs.Reading.{readFrom, readScript}
 use Rattle.refinement.specs.Order.{insertBy, sortBy}
 use Rattle.refinement.specs.Least as Least
-use Rattle.table.specs.Rows.{firstRows, rowsOf}
+use Rattle.rows.specs.Rows.{firstRows, rowsOf}
 use Rattle.table.specs.Distinct.{occurs, firstsAfter}
 use Rattle.table.specs.Summing.{total, classesFrom}
 use Rattle.refining.specs.Rows.{numbersOf}

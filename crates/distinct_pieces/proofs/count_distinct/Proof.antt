@@ -3,15 +3,15 @@ use mathlib.Core.Path.{_≡_, sym, _∙_}
 use mathlib.Core.List.{[]}
 use native.Mathlib.Omega.{arith}
 use borrow.Author.Needs.{needs}
-use Rattle.table.specs.Rows.{rowsOf}
+use Rattle.rows.specs.Rows.{rowsOf}
 use Rattle.table.specs.Distinct.{firstOfEach}
 use Rattle.table.specs.Summing.{count}
-use Rattle.table.proofs.TableRows.{rows-length}
+use Rattle.rows.proofs.TableRows.{rows-length}
 use Rattle.table.proofs.Counting.{count-inside}
 use Rattle.table.proofs.Pieces.{firsts-inside}
-use Rattle.table.proofs.Shares.{belowShare, shares-start, shares-more, shares-all}
-use Rattle.table.proofs.distinct.count_distinct.Statement.{statement}
-use Rattle.table.proofs.distinct.count_distinct.Tie as tie
+use Rattle.distinct_pieces.proofs.Shares.{belowShare, shares-start, shares-more, shares-all}
+use Rattle.distinct_pieces.proofs.count_distinct.Statement.{statement}
+use Rattle.distinct_pieces.proofs.count_distinct.Tie as tie
 
 abbrev Inv-loop : tie.InvT-loop
 Inv-loop table shares found₀ share₀ found share =

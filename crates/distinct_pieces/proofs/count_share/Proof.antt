@@ -3,11 +3,11 @@ use mathlib.Core.Path.{sym, _∙_}
 use native.Mathlib.Omega.{arith}
 use lib.Seq.{take-all, length-take-le}
 use borrow.Author.Needs.{needs}
-use Rattle.table.specs.Rows.{rowsOf}
-use Rattle.table.proofs.Passes.{Dealt, dealt-starts, dealt-bound}
-use Rattle.table.proofs.Passes.{dealt-other, dealt-known, dealt-full, dealt-stored}
-use Rattle.table.proofs.distinct.count_share.Statement.{statement}
-use Rattle.table.proofs.distinct.count_share.Tie as tie
+use Rattle.rows.specs.Rows.{rowsOf}
+use Rattle.distinct_pieces.proofs.Passes.{Dealt, dealt-starts, dealt-bound}
+use Rattle.distinct_pieces.proofs.Passes.{dealt-other, dealt-known, dealt-full, dealt-stored}
+use Rattle.distinct_pieces.proofs.count_share.Statement.{statement}
+use Rattle.distinct_pieces.proofs.count_share.Tie as tie
 
 abbrev Inv-loop : tie.InvT-loop
 Inv-loop table shares share rows heads₀ links₀ places₀ stored₀ found₀ k₀ heads links places stored found k =

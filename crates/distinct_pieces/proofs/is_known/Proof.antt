@@ -1,8 +1,8 @@
 use mathlib.Core.Path.{sym, _∙_}
 use borrow.Author.Needs.{needs}
-use Rattle.table.proofs.Passes.{known-stored, known-missing}
-use Rattle.table.proofs.distinct.is_known.Statement.{statement}
-use Rattle.table.proofs.distinct.is_known.Tie as tie
+use Rattle.distinct_pieces.proofs.Passes.{known-stored, known-missing}
+use Rattle.distinct_pieces.proofs.is_known.Statement.{statement}
+use Rattle.distinct_pieces.proofs.is_known.Tie as tie
 
 is-stored-requires : tie.Need-is-stored-requires
 is-stored-requires c κs = search needs

@@ -2,10 +2,10 @@ use Prim.Native.Nat.{_-_}
 use mathlib.Core.Path.{_≡_, sym, _∙_}
 use native.Mathlib.Omega.{arith}
 use borrow.Author.Needs.{needs}
-use Rattle.table.specs.Rows.{rowsOf}
-use Rattle.table.proofs.Buckets.{Walk, walk-starts, walk-on, walk-misses, walk-hits}
-use Rattle.table.proofs.distinct.is_stored.Statement.{statement}
-use Rattle.table.proofs.distinct.is_stored.Tie as tie
+use Rattle.rows.specs.Rows.{rowsOf}
+use Rattle.distinct_pieces.proofs.Buckets.{Walk, walk-starts, walk-on, walk-misses, walk-hits}
+use Rattle.distinct_pieces.proofs.is_stored.Statement.{statement}
+use Rattle.distinct_pieces.proofs.is_stored.Tie as tie
 
 abbrev Inv-loop : tie.InvT-loop
 Inv-loop table heads links places shares row bucket next₀ next = Walk shares (rowsOf table) places row next

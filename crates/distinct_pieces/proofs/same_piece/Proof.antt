@@ -1,6 +1,6 @@
 use borrow.Author.Tests.{eq-eqb, ne-eqb}
-use Rattle.table.proofs.distinct.same_piece.Statement.{statement}
-use Rattle.table.proofs.distinct.same_piece.Tie as tie
+use Rattle.distinct_pieces.proofs.same_piece.Statement.{statement}
+use Rattle.distinct_pieces.proofs.same_piece.Tie as tie
 
 returns : tie.Need-returns
 returns c =

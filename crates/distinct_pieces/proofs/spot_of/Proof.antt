@@ -1,8 +1,8 @@
 use native.Mathlib.Omega.{arith}
 use borrow.Author.Needs.{needs}
-use Rattle.table.proofs.Buckets.{spot-fits}
-use Rattle.table.proofs.distinct.spot_of.Statement.{statement}
-use Rattle.table.proofs.distinct.spot_of.Tie as tie
+use Rattle.distinct_pieces.proofs.Buckets.{spot-fits}
+use Rattle.distinct_pieces.proofs.spot_of.Statement.{statement}
+use Rattle.distinct_pieces.proofs.spot_of.Tie as tie
 
 cast-mixed : tie.Need-cast-mixed
 cast-mixed c = search needs

@@ -5,11 +5,11 @@ use native.Mathlib.Omega.{arith}
 use native.Mathlib.Nat.{not-suc-le-zero}
 use borrow.Author.Count.{below-more}
 use borrow.Author.Needs.{needs}
-use Rattle.table.specs.Rows.{rowAt, rowsOf}
+use Rattle.rows.specs.Rows.{rowAt, rowsOf}
 use Rattle.table.specs.Distinct.{same}
 use Rattle.table.proofs.Pieces.{never-both, occurs-before, none-before}
-use Rattle.table.proofs.distinct.stands_before.Statement.{statement}
-use Rattle.table.proofs.distinct.stands_before.Tie as tie
+use Rattle.distinct_pieces.proofs.stands_before.Statement.{statement}
+use Rattle.distinct_pieces.proofs.stands_before.Tie as tie
 
 abbrev Inv-loop : tie.InvT-loop
 Inv-loop table k row j₀ j = (j ≤ k) × ((i : ℕ) → i < j → same (rowAt (rowsOf table) i) row ≡ true → ⊥)

@@ -5,11 +5,11 @@ use native.Mathlib.Omega.{arith}
 use lib.ListN.{length, drop}
 use borrow.Author.Needs.{needs}
 use borrow.Author.Tests.{eq-eqb, ne-eqb}
 use Rattle.table.proofs.Runs.{leading-more, leading-stop, leading-none}
-use Rattle.table.specs.Rows.{rowsOf}
+use Rattle.rows.specs.Rows.{rowsOf}
 use Rattle.table.specs.Finding.{numberedElse, before}
-use Rattle.table.proofs.finding.rows_before.Statement.{statement}
-use Rattle.table.proofs.finding.rows_before.Tie as tie
+use Rattle.match_rows.proofs.rows_before.Statement.{statement}
+use Rattle.match_rows.proofs.rows_before.Tie as tie
 
 abbrev Inv-loop : tie.InvT-loop
 Inv-loop table number rows k₀ k =

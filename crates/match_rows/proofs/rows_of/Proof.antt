@@ -3,11 +3,11 @@ use mathlib.Core.Path.{_≡_, ap, ap₂}
 use native.Mathlib.Omega.{arith}
 use lib.ListN.{length, take, drop}
 use borrow.Author.Needs.{needs}
 use Rattle.table.specs.Finding.{startOf, sizeOf}
 use Rattle.table.specs.declared.finding.Span.{Span}
 use Rattle.table.proofs.Runs.{part-inside}
-use Rattle.table.proofs.finding.rows_of.Statement.{statement}
-use Rattle.table.proofs.finding.rows_of.Tie as tie
+use Rattle.match_rows.proofs.rows_of.Statement.{statement}
+use Rattle.match_rows.proofs.rows_of.Tie as tie
 
 span-of-requires : tie.Need-span-of-requires
 span-of-requires c κs = search needs

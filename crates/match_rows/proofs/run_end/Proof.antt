@@ -4,11 +4,11 @@ use native.Mathlib.Omega.{arith}
 use lib.ListN.{length, drop}
 use borrow.Author.Needs.{needs}
 use borrow.Author.Tests.{eq-eqb, ne-eqb}
 use Rattle.table.proofs.Runs.{leading-more, leading-stop, leading-none}
-use Rattle.table.specs.Rows.{rowsOf}
+use Rattle.rows.specs.Rows.{rowsOf}
 use Rattle.table.specs.Finding.{numbered, run}
-use Rattle.table.proofs.finding.run_end.Statement.{statement}
-use Rattle.table.proofs.finding.run_end.Tie as tie
+use Rattle.match_rows.proofs.run_end.Statement.{statement}
+use Rattle.match_rows.proofs.run_end.Tie as tie
 
 abbrev Inv-loop : tie.InvT-loop
 Inv-loop table number start rows k₀ k =

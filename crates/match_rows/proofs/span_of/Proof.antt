@@ -2,12 +2,12 @@ use Prim.Native.Nat.{_*_, _≤_}
 use native.Mathlib.Omega.{arith}
 use lib.ListN.{length, drop, length-drop}
 use borrow.Author.Needs.{needs}
-use Rattle.table.specs.Rows.{rowWidth, rowsOf}
+use Rattle.rows.specs.Rows.{rowWidth, rowsOf}
 use Rattle.table.specs.Finding.{numbered, before}
-use Rattle.table.proofs.TableRows.{rows-length}
+use Rattle.rows.proofs.TableRows.{rows-length}
 use Rattle.table.proofs.Runs.{leading-inside, start-found, end-found, start-missing, size-missing}
-use Rattle.table.proofs.finding.span_of.Statement.{statement}
-use Rattle.table.proofs.finding.span_of.Tie as tie
+use Rattle.match_rows.proofs.span_of.Statement.{statement}
+use Rattle.match_rows.proofs.span_of.Tie as tie
 
 row-count-requires : tie.Need-row-count-requires
 row-count-requires c κs = search needs

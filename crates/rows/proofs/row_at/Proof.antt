@@ -1,10 +1,10 @@
 use native.Mathlib.Omega.{arith}
 use Prim.Native.Nat.{_≤_, _+_, _*_}
 use lib.ListN.{length}
-use Rattle.table.specs.Rows.{rowWidth}
-use Rattle.table.proofs.TableRows.{row-inside, row-read}
-use Rattle.table.proofs.rows.row_at.Statement.{statement}
-use Rattle.table.proofs.rows.row_at.Tie as tie
+use Rattle.rows.specs.Rows.{rowWidth}
+use Rattle.rows.proofs.TableRows.{row-inside, row-read}
+use Rattle.rows.proofs.row_at.Statement.{statement}
+use Rattle.rows.proofs.row_at.Tie as tie
 
 -- the row's numbers lie in the table
 inside : (c : tie.Start) → c .args .k * rowWidth + rowWidth ≤ length (c .args .table .now)

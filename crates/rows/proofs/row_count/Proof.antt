@@ -1,7 +1,7 @@
 use mathlib.Core.Path.{sym}
-use Rattle.table.proofs.TableRows.{rows-length}
-use Rattle.table.proofs.rows.row_count.Statement.{statement}
-use Rattle.table.proofs.rows.row_count.Tie as tie
+use Rattle.rows.proofs.TableRows.{rows-length}
+use Rattle.rows.proofs.row_count.Statement.{statement}
+use Rattle.rows.proofs.row_count.Tie as tie
 
 returns : tie.Need-returns
 returns c = sym (rows-length (c .args .table .now))

@@ -4,11 +4,11 @@ use native.Mathlib.Omega.{arith}
 use lib.ListN.{length, take}
 use lib.Seq.{take-all}
 use borrow.Author.Needs.{needs}
-use Rattle.table.specs.Rows.{rowsOf}
+use Rattle.rows.specs.Rows.{rowsOf}
 use Rattle.table.specs.Summing.{total, lettersOf}
 use Rattle.table.proofs.Sums.{letters-more}
-use Rattle.table.proofs.summing.add_lengths.Statement.{statement}
-use Rattle.table.proofs.summing.add_lengths.Tie as tie
+use Rattle.summary.proofs.add_lengths.Statement.{statement}
+use Rattle.summary.proofs.add_lengths.Tie as tie
 
 abbrev Inv-loop : tie.InvT-loop
 Inv-loop table rows sum₀ k₀ sum k =

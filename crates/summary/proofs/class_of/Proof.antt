@@ -4,10 +4,10 @@ use native.Mathlib.Omega.{arith}
 use borrow.Author.Needs.{needs}
 use borrow.Author.Tests.{ne-eqb}
 use lib.Count.{leadingZeros}
 use Rattle.table.specs.Summing.{classCount}
 use Rattle.table.proofs.Sums.{class-of-none, top-place, top-class}
-use Rattle.table.proofs.summing.class_of.Statement.{statement}
-use Rattle.table.proofs.summing.class_of.Tie as tie
+use Rattle.summary.proofs.class_of.Statement.{statement}
+use Rattle.summary.proofs.class_of.Tie as tie
 
 returns : tie.Need-returns
 returns c = λ d l. rw (c .if1 .taken) (class-of-none d ∙ sym (ne-eqb d classCount (λ e. omega arith)))

@@ -5,12 +5,12 @@ use native.Mathlib.Omega.{arith}
 use lib.ListN.{length, getD, take}
 use lib.Seq.{take-all, length-take-le}
 use borrow.Author.Needs.{needs}
-use Rattle.table.specs.Rows.{rowsOf}
+use Rattle.rows.specs.Rows.{rowsOf}
 use Rattle.table.specs.Summing.{total, inClass, classesFrom, classesOf}
 use Rattle.table.proofs.Sums.{classes-at, classes-same, classes-more}
 use Rattle.table.proofs.Counting.{count-inside}
-use Rattle.table.proofs.summing.count_classes.Statement.{statement}
-use Rattle.table.proofs.summing.count_classes.Tie as tie
+use Rattle.summary.proofs.count_classes.Statement.{statement}
+use Rattle.summary.proofs.count_classes.Tie as tie
 
 abbrev Inv-loop : tie.InvT-loop
 Inv-loop table rows classes₀ k₀ classes k =

@@ -1,6 +1,6 @@
 use borrow.Author.Needs.{needs}
-use Rattle.table.proofs.summing.sum_up.Statement.{statement}
-use Rattle.table.proofs.summing.sum_up.Tie as tie
+use Rattle.summary.proofs.sum_up.Statement.{statement}
+use Rattle.summary.proofs.sum_up.Tie as tie
 
 row-count-requires : tie.Need-row-count-requires
 row-count-requires c κs = search needs

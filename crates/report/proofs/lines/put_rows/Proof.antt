@@ -6,7 +6,7 @@ use native.Mathlib.Omega.{arith}
 use lib.ListN.{length, take}
 use lib.Seq.{take-all, length-sets, length-take-le}
 use borrow.Author.Needs.{needs}
-use Rattle.table.specs.Rows.{rowsOf}
+use Rattle.rows.specs.Rows.{rowsOf}
 use Rattle.text.specs.Putting.{Put}
 use Rattle.text.proofs.Stores.{put-then, put-same}
 use Rattle.report.specs.Lines.{rowLines}

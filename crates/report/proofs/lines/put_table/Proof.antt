@@ -3,7 +3,7 @@ use mathlib.Core.Path.{ap}
 use native.Mathlib.Omega.{arith}
 use lib.ListN.{length}
 use borrow.Author.Needs.{needs}
-use Rattle.table.specs.Rows.{rowsOf}
+use Rattle.rows.specs.Rows.{rowsOf}
 use Rattle.table.specs.Summing.{classCount}
 use Rattle.table.specs.declared.summing.Summary.{Summary}
 use Rattle.table.proofs.Sums.{classes-length}
