@@ -17,11 +17,11 @@ use lib.Seq.{slice}
 use borrow.Author.Tests.{le-leb}
 use Rattle.refinement.specs.Match.{spanned}
 use Rattle.refinement.proofs.Geometry.{spanned-bounds}
-use Rattle.cut_set.specs.Runs.{Same}
+use Rattle.runs.specs.Runs.{Same}
 use Rattle.cut_set.specs.Store.{Found, FoundRun, Stored}
 use Rattle.cut_set.specs.declared.CutSet.{CutSet}
-use Rattle.cut_set.proofs.Moving.{lt-or-le}
-use Rattle.cut_set.proofs.Membership.{in-same}
+use Rattle.runs.proofs.Moving.{lt-or-le}
+use Rattle.runs.proofs.Membership.{in-same}
 use Rattle.cut_set.proofs.Laws.{stored-none, stored-same, stored-then}
 use Rattle.near_matches.specs.Near.{reaching, Passable}
 use Rattle.carrying_match.specs.OneMatch.{ImageBy, hitsOn, TooMuch, Ready}

@@ -16,8 +16,8 @@ use lib.ListN.{length, getD}
 use lib.Seq.{slice, slice-empty, slice-cons}
 use Rattle.refinement.specs.Order.{_∈_, Rising}
 use Rattle.refinement.specs.Match.{spanned}
-use Rattle.cut_set.specs.Runs.{In, Same}
-use Rattle.cut_set.proofs.Membership.{in-wide}
+use Rattle.runs.specs.Runs.{In, Same}
+use Rattle.runs.proofs.Membership.{in-wide}
 use Rattle.carrying_match.specs.OneMatch.{hitsOn}
 
 module _ (xs : List ℕ) {hi : ℕ} (w : hi ≤ length xs) where

@@ -15,11 +15,11 @@ use mathlib.Core.List.{List, _∷_, List·Memᴰ·cases-cons}
 use mathlib.Core.Logic.{_⊎_, inl, inr, ⊎-elim, _≢_}
 use lib.ListN.{length}
 use lib.Seq.{slice, length-slice}
-use Rattle.cut_set.specs.Runs.{Run, Same}
+use Rattle.runs.specs.Runs.{Run, Same}
 use Rattle.cut_set.specs.Store.{Good, Member, Outside, Stored, Crowded}
 use Rattle.cut_set.specs.declared.CutSet.{CutSet}
-use Rattle.cut_set.proofs.Membership.{in-wide, in-parts}
-use Rattle.cut_set.proofs.Rearranging.{run-same}
+use Rattle.runs.proofs.Membership.{in-wide, in-parts}
+use Rattle.runs.proofs.Rearranging.{run-same}
 use Rattle.carrying_match.specs.OneMatch.{Overflow, TooMuch, Apart, Ready}
 use Rattle.carrying_match.proofs.RunLists.{slice-in, slice-rising}
 

@@ -14,11 +14,11 @@ use lib.Seq.{slice, slice-cons}
 use borrow.Author.Tests.{leb-false, lt-leb}
 use Rattle.refinement.specs.Match.{spanned, carryOver}
 use Rattle.refinement.proofs.Geometry.{spanned-bounds, spanned-below, spanned-from}
-use Rattle.cut_set.specs.Runs.{In, Bound}
+use Rattle.runs.specs.Runs.{In, Bound}
 use Rattle.cut_set.specs.Store.{Found, FoundRun, Stored}
 use Rattle.cut_set.specs.declared.CutSet.{CutSet}
-use Rattle.cut_set.proofs.Moving.{lt-or-le}
-use Rattle.cut_set.proofs.Membership.{in-wide, in-parts}
+use Rattle.runs.proofs.Moving.{lt-or-le}
+use Rattle.runs.proofs.Membership.{in-wide, in-parts}
 use Rattle.cut_set.proofs.Laws.{stored-none, stored-same, stored-then}
 use Rattle.carrying_match.specs.OneMatch.{ImageBy, hitsOn, TooMuch, Ready}
 use Rattle.carrying_match.proofs.RunLists.{hits-past, hits-none}

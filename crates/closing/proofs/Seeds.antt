@@ -18,7 +18,7 @@ use Rattle.refinement.specs.declared.Side.the-variants.{A, B}
 use Rattle.refinement.specs.Order.{_∈_}
 use Rattle.refinement.specs.Match.{Match, left, right}
 use Rattle.refinement.specs.Cut.{left-end, right-end, Cut, end}
-use Rattle.cut_set.specs.Runs.{In, Run}
+use Rattle.runs.specs.Runs.{In, Run}
 use Rattle.cut_set.specs.Store.{Good, Member, Stored, Crowded, Emptied, AddedTo, Adding}
 use Rattle.cut_set.specs.declared.CutSet.{CutSet}
 use Rattle.cut_set.specs.declared.Added.{Added}

@@ -13,7 +13,7 @@ use Rattle.refinement.specs.Order.{_∈_}
 use Rattle.refinement.specs.Match.{Match, other, left, right, Place, carry}
 use Rattle.refinement.specs.Cut.{left-end, right-end, Cut, end, mark, carried}
 use Rattle.refinement.proofs.Geometry.{end-spanned, carry-meets, carry-spans, carry-back, meets-end}
-use Rattle.cut_set.specs.Runs.{In}
+use Rattle.runs.specs.Runs.{In}
 use Rattle.cut_set.specs.Store.{Member, Finished}
 use Rattle.refining.specs.Columns.{Fit, matchesOf}
 use Rattle.stepping.specs.Engine.{at, setOn, Open}

@@ -12,7 +12,7 @@ use mathlib.Core.List.{List}
 use native.Mathlib.Omega.{arith}
 use Rattle.cut_set.specs.Store.{Good, Member, Finished, Found}
 use Rattle.cut_set.specs.declared.CutSet.{CutSet}
-use Rattle.cut_set.proofs.Membership.{in-wide, in-parts}
+use Rattle.runs.proofs.Membership.{in-wide, in-parts}
 use Rattle.carrying_match.specs.OneMatch.{Overflow}
 
 module _ {xs : List ℕ} {s : CutSet} (g : Good xs s) where

@@ -20,10 +20,10 @@ use Rattle.refinement.specs.Order.{_∈_, Distinct}
 use Rattle.refinement.specs.Match.{Match, other, Spans, carry}
 use Rattle.refinement.specs.Cut.{Cut, carried}
 use Rattle.refinement.proofs.Lists.{rising-append, rising-weaken}
-use Rattle.cut_set.specs.Runs.{In}
+use Rattle.runs.specs.Runs.{In}
 use Rattle.cut_set.specs.Store.{Good, Member, Finished, Found}
 use Rattle.cut_set.specs.declared.CutSet.{CutSet}
-use Rattle.cut_set.proofs.Membership.{in-parts}
+use Rattle.runs.proofs.Membership.{in-parts}
 use Rattle.refining.specs.Columns.{Fit, matchAt, matchesOf}
 use Rattle.carrying_match.specs.OneMatch.{before, behind, Ready, TooMuch, crowded, excess}
 use Rattle.carrying_cuts.specs.Worker.{Images, hitsOver, Listed, Turned, TurnedTooMany}

@@ -15,7 +15,7 @@ use borrow.Author.Tests.{le-leb}
 use Rattle.refinement.specs.Match.{Match, matchAB, spanned, carryOver}
 use Rattle.refinement.specs.Least.{pieceOf, piecesBetween}
 use Rattle.refinement.proofs.Geometry.{spanned-from}
-use Rattle.cut_set.specs.Runs.{Bound}
+use Rattle.runs.specs.Runs.{Bound}
 use Rattle.refining.specs.Columns.{Fit, matchAt}
 use Rattle.refining.specs.Rows.{within, rowsOver, direction, rowNumbers, numbersOf}
 use Rattle.refining.proofs.Standing.{length-numbers}

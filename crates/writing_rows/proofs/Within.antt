@@ -14,7 +14,7 @@ use lib.ListN.{getD, take, length-take, drop-of-length-le}
 use lib.Seq.{slice, slice-cons}
 use borrow.Author.Tests.{le-leb, lt-leb}
 use Rattle.refinement.proofs.Geometry.{spanned-below, spanned-from}
-use Rattle.cut_set.specs.Runs.{In, Run, Bound}
+use Rattle.runs.specs.Runs.{In, Run, Bound}
 use Rattle.refining.specs.Rows.{within}
 use Rattle.writing_rows.specs.Writing.{Stretch, Cutting}
 

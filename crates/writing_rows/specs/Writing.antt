@@ -9,7 +9,7 @@ use mathlib.Core.Bool.{Bool}
 use mathlib.Core.List.{List}
 use lib.ListN.{length, getD}
 use lib.Seq.{slice, sets}
-use Rattle.cut_set.specs.Runs.{In, Run}
+use Rattle.runs.specs.Runs.{In, Run}
 use Rattle.refinement.specs.Match.{Match}
 use Rattle.refining.specs.Rows.{rowsOver, numbersOf}
 

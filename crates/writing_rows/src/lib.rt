@@ -1,5 +1,5 @@
 // The rows of the table: a piece between each two neighbouring cuts of a match.
-use cut_set::runs::lower_bound;
+use runs::lower_bound;
 ghost use mathlib.Core.Path.{_≡_};
 ghost use mathlib.Core.Bool.{cond};
 ghost use Prim.Native.Nat.{suc, _+_, _*_, _^_, _≤_, _<_};
