@@ -19,7 +19,7 @@ use Rattle.refining.specs.Demands.{value, refusal, answerOf}
 use Rattle.refining.specs.Carrying.{carriedAnswer}
 use Rattle.refining.specs.declared.answers.Refined.{Refined}
 use Rattle.refining.specs.declared.answers.Carried.{Carried}
-use Rattle.report.specs.declared.Reported.{Reported}
+use Rattle.reporting.specs.declared.Reported.{Reported}
 use Rattle.table.specs.Finding.{sizeOf, spanOf, partOf}
 use Rattle.table.specs.declared.summing.Summary.{Summary}
 use Rattle.capi.specs.Doors.{ReadReply, MatchReply, RefineReply, CarryReply, bitOf, readDoor, matchDoor}

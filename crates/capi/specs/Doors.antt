@@ -9,7 +9,7 @@ use Rattle.script.specs.Reading.{Reading, admitted, refused}
 use Rattle.script.specs.declared.Finding.{Finding}
 use Rattle.refining.specs.declared.answers.Refined.{Refined}
 use Rattle.refining.specs.declared.answers.Carried.{Carried}
-use Rattle.report.specs.declared.Reported.{Reported}
+use Rattle.reporting.specs.declared.Reported.{Reported}
 use Rattle.table.specs.declared.finding.Span.{Span}
 use Rattle.table.specs.declared.summing.Summary.{Summary}
 

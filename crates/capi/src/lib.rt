@@ -8,7 +8,7 @@ use refining::answers::Carried;
 use refining::answers::Refined;
 use refusals::number_of;
 use refusals::place_of;
-use report::Reported;
+use reporting::Reported;
 use script::Finding;
 use script::Verdict;
 use summary::sum_up;
@@ -21,7 +21,7 @@ ghost use Rattle.capi.specs.Doors.{reportDoor};
 ghost use Rattle.refining.specs.Refining.{refiningOf};
 ghost use Rattle.refining.specs.Carrying.{carryingOf};
 ghost use Rattle.refinement.specs.declared.Side.{Side};
-ghost use Rattle.report.specs.Reporting.{reportingOf};
+ghost use Rattle.reporting.specs.Reporting.{reportingOf};
 ghost use Rattle.table.specs.Finding.{spanOf};
 ghost use Rattle.table.specs.Summing.{summaryOf};
 

@@ -24,8 +24,8 @@ use Rattle.rows.proofs.TableRows.{take-more}
 use Rattle.text.specs.Decimal.{decimal}
 use Rattle.text.specs.Putting.{Put}
 use Rattle.text.proofs.Stores.{put-then, put-same}
-use Rattle.report.specs.Lines.{refused, line, refusalText, lengthsLine, summaryLine, rowLine, rowLines}
-use Rattle.report.specs.Lines.{classLine, classLines, tableText}
+use Rattle.reporting.specs.Lines.{refused, line, refusalText, lengthsLine, summaryLine, rowLine, rowLines}
+use Rattle.reporting.specs.Lines.{classLine, classLines, tableText}
 
 pub put-none : (t : List ℕ) (at : ℕ) → Put [] t at t at
 put-none t at = record { place = omega arith; stored = refl }

@@ -18,9 +18,9 @@ ghost use Rattle.rows.specs.Rows.{rowsOf};
 ghost use Rattle.table.specs.Summing.{summaryOf};
 ghost use Rattle.text.specs.Decimal.{decimal};
 ghost use Rattle.text.specs.Putting.{Put};
-ghost use Rattle.report.specs.Lines.{refusalText, sign, lengthsLine, summaryLine, rowLine, rowLines, classLine};
-ghost use Rattle.report.specs.Lines.{classLines, tableText};
-ghost use Rattle.report.specs.Reporting.{lentRows, longestText};
+ghost use Rattle.reporting.specs.Lines.{refusalText, sign, lengthsLine, summaryLine, rowLine, rowLines, classLine};
+ghost use Rattle.reporting.specs.Lines.{classLines, tableText};
+ghost use Rattle.reporting.specs.Reporting.{lentRows, longestText};
 
 // A number in decimal, and a byte behind it.
 fn put_field(text: &mut [u8], at: usize, number: u64, after: u8) -> usize

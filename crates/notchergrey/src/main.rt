@@ -2,13 +2,13 @@
 use libc::STDIN_FILENO;
 use libc::STDOUT_FILENO;
 use report::LONGEST_TEXT;
-use report::Reported;
+use reporting::Reported;
 use script::limits::LONGEST_SCRIPT;
 ghost use mathlib.Core.Path.{_≡_};
 ghost use Prim.Native.Nat.{_≤_};
 ghost use lib.ListN.{length, take};
 ghost use Rattle.io.specs.Counts.{Counts};
-ghost use Rattle.report.specs.Reporting.{reportOf, longestText};
+ghost use Rattle.reporting.specs.Reporting.{reportOf, longestText};
 ghost use Rattle.notchergrey.specs.Counting.{countOf};
 
 // How many bytes were read to the start of the buffer.

@@ -20,8 +20,8 @@ use Rattle.table.specs.declared.summing.Summary.{Summary}
 use Rattle.table.proofs.Sums.{classes-length}
 use Rattle.text.specs.Decimal.{decimal}
 use Rattle.text.proofs.Digits.{decimal-short}
-use Rattle.report.specs.Lines.{class, line, refusalText, lengthsLine, summaryLine, rowLine, rowLines, classLine}
-use Rattle.report.specs.Lines.{classLines, tableText}
+use Rattle.reporting.specs.Lines.{class, line, refusalText, lengthsLine, summaryLine, rowLine, rowLines, classLine}
+use Rattle.reporting.specs.Lines.{classLines, tableText}
 
 pub refusal-text-short : (r : Refusal) → length (refusalText r) ≤ 50
 refusal-text-short r = simp length-append (omega (arith, decimal-short (numberOf r), decimal-short (placeOf r)))

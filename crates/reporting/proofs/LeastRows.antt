@@ -26,8 +26,8 @@ use Rattle.refining.specs.declared.answers.Refined.the-variants.{Rows, Refused}
 use Rattle.refining.proofs.Standing.{length-numbers}
 use Rattle.refining.proofs.Numbered.{admitted-unique}
 use Rattle.refining.proofs.RefiningCases.{written, Case, refusing, short, crowded, writing, case}
-use Rattle.report.specs.Lines.{refusalText, tableText}
-use Rattle.report.specs.Reporting.{reportOfRefining}
+use Rattle.reporting.specs.Lines.{refusalText, tableText}
+use Rattle.reporting.specs.Reporting.{reportOfRefining}
 
 -- "match number, left-A, left-B, length, direction"
 abbrev pub rowOfPiece : Match → Row

@@ -14,8 +14,8 @@ use Rattle.refinement.specs.Match.{Match}
 use Rattle.refinement.specs.Least.{leastTable}
 use Rattle.rows.specs.Rows.{rowWidth}
 use Rattle.refining.specs.Refining.{capacityOf, workNeeded, numbered, refiningOfMatches, refiningOf}
-use Rattle.report.specs.Reporting.{lentRows, lentTable, lentWork, reportOfRefining, reportOf}
-use Rattle.report.proofs.LeastRows.{report-crowded, report-rows}
+use Rattle.reporting.specs.Reporting.{lentRows, lentTable, lentWork, reportOfRefining, reportOf}
+use Rattle.reporting.proofs.LeastRows.{report-crowded, report-rows}
 
 pub report-lent : (p q count : ℕ) (ms : List Match) (table table′ work work′ : List ℕ)
     → capacityOf table ≡ capacityOf table′ → workNeeded table ≤ length work → workNeeded table′ ≤ length work′

@@ -32,7 +32,7 @@ use Rattle.table.proofs.Laws.{sumOf, between, classes-sum}
 use Rattle.refining.specs.Refining.{numbered, refiningOf}
 use Rattle.refining.specs.declared.answers.Refined.the-variants.{Rows}
 use Rattle.refining.proofs.Numbered.{admitted-of, admitted-matches}
-use Rattle.report.proofs.LeastRows.{rowOfPiece, LeastRows, least-rows}
+use Rattle.reporting.proofs.LeastRows.{rowOfPiece, LeastRows, least-rows}
 
 -- ---- the matches
 

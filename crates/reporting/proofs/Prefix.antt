@@ -6,7 +6,7 @@ use mathlib.Core.Path.{_≡_}
 use mathlib.Core.List.{List}
 use lib.ListN.{take}
 use Rattle.script.proofs.Prefix.{prefix-decides}
-use Rattle.report.specs.Reporting.{reportOf}
+use Rattle.reporting.specs.Reporting.{reportOf}
 
 pub report-decided : (s : List ℕ) → reportOf (take 26635 s) ≡ reportOf s
 unfolding reportOf

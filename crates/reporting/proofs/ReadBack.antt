@@ -20,7 +20,7 @@ use Rattle.table.specs.Summing.{summaryOfRows}
 use Rattle.rows.specs.declared.Row.{Row}
 use Rattle.text.specs.Decimal.{decimal}
 use Rattle.text.proofs.Reading.{decimal-inj, decimal-cut, decimal-start}
-use Rattle.report.specs.Lines.{class, refused, sign, line, rowLine, rowLines, classLines, tableText}
+use Rattle.reporting.specs.Lines.{class, refused, sign, line, rowLine, rowLines, classLines, tableText}
 
 -- a row as tables hold them: the numbers have 64 bits, and the direction is one of the two
 pub record Printable (r : Row) : Type 0 where

@@ -34,10 +34,10 @@ use Rattle.refining.specs.declared.answers.Refined.{Refined}
 use Rattle.refining.specs.declared.answers.Refined.the-variants.{Rows, Refused}
 use Rattle.refining.proofs.Numbered.{admitted-of, admitted-matches}
 use Rattle.refining.proofs.RefiningCases.{refining-refused, Case, refusing, short, crowded, writing, case}
-use Rattle.report.specs.Lines.{refusalText}
-use Rattle.report.specs.Reporting.{lentTable, lentWork, reportOfReply, reportOfReading, reportOf}
-use Rattle.report.proofs.LeastRows.{rowOfPiece, least-rows}
-use Rattle.report.proofs.ReadBack.{Printable, Said, textOf, Sayable, text-read-back}
+use Rattle.reporting.specs.Lines.{refusalText}
+use Rattle.reporting.specs.Reporting.{lentTable, lentWork, reportOfReply, reportOfReading, reportOf}
+use Rattle.reporting.proofs.LeastRows.{rowOfPiece, least-rows}
+use Rattle.reporting.proofs.ReadBack.{Printable, Said, textOf, Sayable, text-read-back}
 
 -- the rows that a success counts
 abbrev pub rowsIn : Refining → ℕ → List Row

@@ -14,8 +14,8 @@ use Rattle.script.specs.Reading.{Reading, admitted, refused, readScript}
 use Rattle.rows.specs.Rows.{rowWidth, rowsOf}
 use Rattle.refining.specs.Refining.{Refining, numbered, refiningOfMatches}
 use Rattle.refining.specs.declared.answers.Refined.{Refined}
-use Rattle.report.specs.Lines.{refusalText, tableText}
-use Rattle.report.specs.declared.Reported.{Reported}
+use Rattle.reporting.specs.Lines.{refusalText, tableText}
+use Rattle.reporting.specs.declared.Reported.{Reported}
 
 -- "with a table of 3,000 rows"
 abbrev pub lentRows : ℕ

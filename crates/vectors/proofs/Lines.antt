@@ -13,8 +13,8 @@ use Rattle.table.specs.Summing.{total, classesFrom}
 use Rattle.refining.specs.Rows.{numbersOf}
 use Rattle.refining.specs.Refining.{refiningOfMatches, refiningOf}
 use Rattle.text.specs.Decimal.{placesWithin}
-use Rattle.report.specs.Lines.{rowLines, classLines}
-use Rattle.report.specs.Reporting.{reportOf}
+use Rattle.reporting.specs.Lines.{rowLines, classLines}
+use Rattle.reporting.specs.Reporting.{reportOf}
 use Rattle.vectors.specs.Lines.{comes, leaves, lines}
 
 pub lines-hold : map comes lines ≡ map leaves lines

@@ -16,7 +16,7 @@ use Rattle.table.specs.Summing.{summaryOf}
 use Rattle.refining.specs.Refining.{refiningOf}
 use Rattle.refining.specs.Demands.{Answer, value, refusal, answerOf}
 use Rattle.refining.specs.declared.answers.Refined.{Refined}
-use Rattle.report.specs.Reporting.{reportOf}
+use Rattle.reporting.specs.Reporting.{reportOf}
 
 pub data Expected : Type 0 where
   refused : (number place : ℕ) → Expected

@@ -1,10 +1,10 @@
 -- `put_class` meets its contract: a class without pieces has no line. Assumes nothing.
 use borrow.Author.Needs.{needs}
 use borrow.Author.Tests.{eq-eqb, ne-eqb}
-use Rattle.report.specs.Lines.{class}
-use Rattle.report.proofs.Putting.{put-none, put-three}
-use Rattle.report.proofs.lines.put_class.Statement.{statement}
-use Rattle.report.proofs.lines.put_class.Tie as tie
+use Rattle.reporting.specs.Lines.{class}
+use Rattle.lines.proofs.Putting.{put-none, put-three}
+use Rattle.lines.proofs.put_class.Statement.{statement}
+use Rattle.lines.proofs.put_class.Tie as tie
 
 returns : tie.Need-returns
 returns c = search (needs, eq-eqb, put-none)

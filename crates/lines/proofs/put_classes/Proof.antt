@@ -8,11 +8,11 @@ use lib.Seq.{take-all, length-sets, length-take-le}
 use borrow.Author.Needs.{needs}
 use Rattle.text.specs.Putting.{Put}
 use Rattle.text.proofs.Stores.{put-then, put-same}
-use Rattle.report.specs.Lines.{classLines}
-use Rattle.report.proofs.Bounds.{class-lines-short}
-use Rattle.report.proofs.Putting.{put-none, class-lines-more}
-use Rattle.report.proofs.lines.put_classes.Statement.{statement}
-use Rattle.report.proofs.lines.put_classes.Tie as tie
+use Rattle.reporting.specs.Lines.{classLines}
+use Rattle.reporting.proofs.Bounds.{class-lines-short}
+use Rattle.lines.proofs.Putting.{put-none, class-lines-more}
+use Rattle.lines.proofs.put_classes.Statement.{statement}
+use Rattle.lines.proofs.put_classes.Tie as tie
 
 abbrev Inv-loop : tie.InvT-loop
 Inv-loop text₀ at counts next₀ class₀ text next class =

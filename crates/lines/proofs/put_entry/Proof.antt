@@ -1,8 +1,8 @@
 -- `put_entry` meets its contract: the number stands behind the word. Assumes nothing.
 use borrow.Author.Needs.{needs}
 use Rattle.text.proofs.Stores.{put-then}
-use Rattle.report.proofs.lines.put_entry.Statement.{statement}
-use Rattle.report.proofs.lines.put_entry.Tie as tie
+use Rattle.lines.proofs.put_entry.Statement.{statement}
+use Rattle.lines.proofs.put_entry.Tie as tie
 
 put-bytes-requires : tie.Need-put-bytes-requires
 put-bytes-requires c κs = search needs

@@ -1,9 +1,9 @@
 -- `put_lengths` meets its contract: a line of three words. Assumes nothing.
 use borrow.Author.Needs.{needs}
-use Rattle.report.specs.Lines.{lengths}
-use Rattle.report.proofs.Putting.{put-three}
-use Rattle.report.proofs.lines.put_lengths.Statement.{statement}
-use Rattle.report.proofs.lines.put_lengths.Tie as tie
+use Rattle.reporting.specs.Lines.{lengths}
+use Rattle.lines.proofs.Putting.{put-three}
+use Rattle.lines.proofs.put_lengths.Statement.{statement}
+use Rattle.lines.proofs.put_lengths.Tie as tie
 
 slice-aggregate-put-entry : tie.Need-slice-aggregate-put-entry
 slice-aggregate-put-entry c = search needs

@@ -1,8 +1,8 @@
 -- `put_refusal` meets its contract: a line of three words. Assumes nothing.
 use borrow.Author.Needs.{needs}
-use Rattle.report.proofs.Putting.{put-refused}
-use Rattle.report.proofs.lines.put_refusal.Statement.{statement}
-use Rattle.report.proofs.lines.put_refusal.Tie as tie
+use Rattle.lines.proofs.Putting.{put-refused}
+use Rattle.lines.proofs.put_refusal.Statement.{statement}
+use Rattle.lines.proofs.put_refusal.Tie as tie
 
 slice-aggregate-put-entry : tie.Need-slice-aggregate-put-entry
 slice-aggregate-put-entry c = search needs

@@ -9,11 +9,11 @@ use borrow.Author.Needs.{needs}
 use Rattle.rows.specs.Rows.{rowsOf}
 use Rattle.text.specs.Putting.{Put}
 use Rattle.text.proofs.Stores.{put-then, put-same}
-use Rattle.report.specs.Lines.{rowLines}
-use Rattle.report.proofs.Bounds.{row-lines-short}
-use Rattle.report.proofs.Putting.{put-none, row-lines-more}
-use Rattle.report.proofs.lines.put_rows.Statement.{statement}
-use Rattle.report.proofs.lines.put_rows.Tie as tie
+use Rattle.reporting.specs.Lines.{rowLines}
+use Rattle.reporting.proofs.Bounds.{row-lines-short}
+use Rattle.lines.proofs.Putting.{put-none, row-lines-more}
+use Rattle.lines.proofs.put_rows.Statement.{statement}
+use Rattle.lines.proofs.put_rows.Tie as tie
 
 abbrev Inv-loop : tie.InvT-loop
 Inv-loop text₀ at table rows next₀ k₀ text next k =

@@ -1,9 +1,9 @@
 -- `put_summary` meets its contract: a line of eight words. Assumes nothing.
 use borrow.Author.Needs.{needs}
-use Rattle.report.specs.Lines.{matches, pieces, distinct, letters}
-use Rattle.report.proofs.Putting.{put-eight}
-use Rattle.report.proofs.lines.put_summary.Statement.{statement}
-use Rattle.report.proofs.lines.put_summary.Tie as tie
+use Rattle.reporting.specs.Lines.{matches, pieces, distinct, letters}
+use Rattle.lines.proofs.Putting.{put-eight}
+use Rattle.lines.proofs.put_summary.Statement.{statement}
+use Rattle.lines.proofs.put_summary.Tie as tie
 
 slice-aggregate-put-entry : tie.Need-slice-aggregate-put-entry
 slice-aggregate-put-entry c = search needs

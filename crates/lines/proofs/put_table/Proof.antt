@@ -7,9 +7,9 @@ use Rattle.rows.specs.Rows.{rowsOf}
 use Rattle.table.specs.Summing.{classCount}
 use Rattle.table.specs.declared.summing.Summary.{Summary}
 use Rattle.table.proofs.Sums.{classes-length}
-use Rattle.report.proofs.Putting.{put-parts}
-use Rattle.report.proofs.lines.put_table.Statement.{statement}
-use Rattle.report.proofs.lines.put_table.Tie as tie
+use Rattle.lines.proofs.Putting.{put-parts}
+use Rattle.lines.proofs.put_table.Statement.{statement}
+use Rattle.lines.proofs.put_table.Tie as tie
 
 put-lengths-requires : tie.Need-put-lengths-requires
 put-lengths-requires c κs = search needs

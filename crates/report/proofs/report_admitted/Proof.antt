@@ -4,7 +4,7 @@ use native.Mathlib.Omega.{arith}
 use lib.ListN.{length-take}
 use borrow.Author.Needs.{needs}
 use Rattle.rows.proofs.TableRows.{rows-length}
-use Rattle.report.specs.Reporting.{lentRows}
+use Rattle.reporting.specs.Reporting.{lentRows}
 use Rattle.report.proofs.Answers.{rows-few, report-refined}
 use Rattle.report.proofs.report_admitted.Statement.{statement}
 use Rattle.report.proofs.report_admitted.Tie as tie
