@@ -24,13 +24,13 @@ use Rattle.script.specs.Reading.{Reading, admitted, refused, readScript, script
 use Rattle.script.specs.Finding.{findingOf}
 use Rattle.script.specs.declared.refusal.Refusal.{Refusal}
 use Rattle.script.specs.declared.Verdict.{Verdict}
-use Rattle.script.specs.declared.find.Finding.{Finding}
+use Rattle.script.specs.declared.Finding.{Finding}
 use Rattle.refinement.specs.declared.Side.{Side}
-use Rattle.refine.specs.Refining.{refiningOf}
-use Rattle.refine.specs.Carrying.{carryingOf}
-use Rattle.refine.specs.declared.answers.Refined.{Refined}
-use Rattle.refine.specs.declared.answers.Carried.{Carried}
-use Rattle.report.specs.Reporting.{reportOf, reportingOfText, reportingOf}
+use Rattle.refining.specs.Refining.{refiningOf}
+use Rattle.refining.specs.Carrying.{carryingOf}
+use Rattle.refining.specs.declared.answers.Refined.{Refined}
+use Rattle.refining.specs.declared.answers.Carried.{Carried}
+use Rattle.reporting.specs.Reporting.{reportOf, reportingOfText, reportingOf}
 use Rattle.table.specs.Finding.{sizeOf, partOf}
 use Rattle.table.specs.Summing.{summaryOf}
 use Rattle.capi.specs.Doors.{Reply, gives, refuses, door, Read, ofReading, readDoor, bitOf, OneMatch, ofFinding}

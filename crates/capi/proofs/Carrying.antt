@@ -9,15 +9,15 @@ use mathlib.Core.List.{List}
 use native.Mathlib.Omega.{arith}
 use Rattle.script.specs.Reading.{readScript}
 use Rattle.script.specs.Finding.{findingOf}
-use Rattle.script.specs.declared.find.Finding.{Finding}
+use Rattle.script.specs.declared.Finding.{Finding}
 use Rattle.refinement.specs.declared.Side.{Side}
 use Rattle.refinement.specs.declared.Side.the-variants.{A, B}
 use Rattle.refinement.specs.Match.{Match, other, left, spanned, carry}
 use Rattle.refinement.proofs.Geometry.{carry-spans, carry-back, spanned-iff}
-use Rattle.refine.specs.Carrying.{carryingOver, carryingOfFinding, carryingOf}
-use Rattle.refine.specs.Refining.{withNumber}
-use Rattle.refine.specs.declared.answers.Carried.{Carried}
-use Rattle.refine.specs.declared.answers.Carried.the-variants.{To, Refused}
+use Rattle.refining.specs.Carrying.{carryingOver, carryingOfFinding, carryingOf}
+use Rattle.refining.specs.Refining.{withNumber}
+use Rattle.refining.specs.declared.answers.Carried.{Carried}
+use Rattle.refining.specs.declared.answers.Carried.the-variants.{To, Refused}
 use Rattle.capi.specs.Doors.{Reply, door, ofCarried, carryDoor, carryFromA, carryFromB}
 use Rattle.capi.proofs.Agreement.{number-some}
 

@@ -14,15 +14,15 @@ use Rattle.script.specs.Refusals.{numberOf, placeOf}
 use Rattle.script.specs.Reading.{Reading, admitted, refused, readScript}
 use Rattle.script.specs.Finding.{findingOf}
 use Rattle.script.specs.declared.refusal.Refusal.{Refusal}
-use Rattle.script.specs.declared.find.Finding.{Finding}
+use Rattle.script.specs.declared.Finding.{Finding}
 use Rattle.refinement.specs.declared.Side.{Side}
 use Rattle.refinement.specs.declared.Side.the-variants.{A, B}
-use Rattle.refine.specs.Refining.{refiningOf}
-use Rattle.refine.specs.Carrying.{carryingOf}
-use Rattle.refine.specs.declared.answers.Refined.{Refined}
-use Rattle.refine.specs.declared.answers.Carried.{Carried}
-use Rattle.report.specs.Reporting.{reportingOf}
-use Rattle.report.specs.declared.Reported.{Reported}
+use Rattle.refining.specs.Refining.{refiningOf}
+use Rattle.refining.specs.Carrying.{carryingOf}
+use Rattle.refining.specs.declared.answers.Refined.{Refined}
+use Rattle.refining.specs.declared.answers.Carried.{Carried}
+use Rattle.reporting.specs.Reporting.{reportingOf}
+use Rattle.reporting.specs.declared.Reported.{Reported}
 use Rattle.table.specs.Finding.{spanOf}
 use Rattle.table.specs.Summing.{summaryOf}
 use Rattle.table.specs.declared.finding.Span.{Span}

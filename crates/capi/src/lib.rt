@@ -1,23 +1,23 @@
 // Doors for C and Rust: plain functions over the library, prefix notchergrey_. Each returns 0 or the refusal's number
 // and hands the rest out through pointers. Like a call of the library, a refused one alters no lent number but `place`.
 // The doors on tables refuse nothing.
-use refine::answers::Carried;
-use refine::answers::Refined;
+use match_rows::span_of;
+use reader::find::find_match;
 use refinement::Side;
-use report::Reported;
+use refining::answers::Carried;
+use refining::answers::Refined;
+use refusals::number_of;
+use refusals::place_of;
+use reporting::Reported;
+use script::Finding;
 use script::Verdict;
-use script::find::Finding;
-use script::find::find_match;
-use script::refusal::number_of;
-use script::refusal::place_of;
+use summary::sum_up;
 use table::CLASSES;
-use table::span_of;
-use table::sum_up;
 ghost use mathlib.Core.Path.{_≡_};
 ghost use Rattle.capi.specs.Doors.{bitOf, readDoor, matchDoor, refineDoor, carryDoor, carryFromA, carryFromB};
 ghost use Rattle.capi.specs.Doors.{rowsDoor, summaryDoor, reportDoor};
-ghost use Rattle.refine.specs.Refining.{refiningOf};
-ghost use Rattle.report.specs.Reporting.{reportingOf};
+ghost use Rattle.refining.specs.Refining.{refiningOf};
+ghost use Rattle.reporting.specs.Reporting.{reportingOf};
 
 // The number that a request after 01 gives a lent buffer that is too short; 01 itself has none for it.
 const TOO_SHORT: u32 = 16;
@@ -47,7 +47,7 @@ pub extern "C" fn notchergrey_read(
         ≡ readDoor (now (script .entry)) (now (place .entry))
         (record { p = now (p .entry); q = now (q .entry); count = now (count .entry) }) ⌝ }
 {
-    let read = script::read(script);
+    let read = reader::read(script);
     let verdict = read.verdict;
     match verdict {
         Verdict::Admitted {

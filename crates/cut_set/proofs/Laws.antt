@@ -12,7 +12,7 @@ use mathlib.Core.List.{List}
 use mathlib.Core.Logic.{_↔_, _⊎_, inl, inr, ⊎-elim, Iff·rfl, Iff·trans}
 use Rattle.cut_set.specs.Store.{Good, Finished, Found, Member, Stored}
 use Rattle.cut_set.specs.declared.CutSet.{CutSet}
-use Rattle.cut_set.proofs.Membership.{in-wide, in-parts}
+use Rattle.runs.proofs.Membership.{in-wide, in-parts}
 use Rattle.cut_set.proofs.Storing.{outside-same}
 
 pub member-parts : {xs : List ℕ} {s : CutSet} {y : ℕ} → Good xs s → Member xs s y ↔ (Finished xs s y ⊎ Found xs s y)

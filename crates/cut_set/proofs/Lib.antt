@@ -1,8 +1,3 @@
--- The lemmas that belong to no one function. Each file cites only those before it; Laws is for the crates above.
-pub mod Moving
-pub mod Membership
-pub mod Searching
-pub mod Merging
-pub mod Rearranging
+-- The lemmas that belong to no one function. Laws is for the crates above.
 pub mod Storing
 pub mod Laws

@@ -19,15 +19,15 @@ use mathlib.Core.List.{List}
 use mathlib.Core.Logic.{_⊎_, inl, inr, ⊎-elim, Iff·rfl, Iff·trans}
 use mathlib.Core.Bool.{Bool}
 use lib.ListN.{length, getD, set, length-set}
-use Rattle.cut_set.specs.Runs.{In, Run, Rising, Distinct, Same, Bound, Answers}
-use Rattle.cut_set.specs.Steps.{Put, Mergeable, Merged}
+use Rattle.runs.specs.Runs.{In, Run, Rising, Distinct, Same, Bound, Answers}
+use Rattle.runs.specs.Steps.{Put, Mergeable, Merged}
 use Rattle.cut_set.specs.Store.{Good, Member, FoundRun, Kept, Gathered, AllFinished, Joined, AddedTo, Growing}
 use Rattle.cut_set.specs.declared.CutSet.{CutSet}
-use Rattle.cut_set.proofs.Moving.{lt-or-le, put-end}
-use Rattle.cut_set.proofs.Membership.{in-wide, in-parts, in-same, rising-distinct, distinct-part}
-use Rattle.cut_set.proofs.Searching.{answers-from, answers-later}
-use Rattle.cut_set.proofs.Merging.{InGapped, Putting, gapped-closed, put-gapped, put-here, put-kept, put-only}
-use Rattle.cut_set.proofs.Rearranging.{run-same, merged-none, merged-wide, merged-distinct}
+use Rattle.runs.proofs.Moving.{lt-or-le, put-end}
+use Rattle.runs.proofs.Membership.{in-wide, in-parts, in-same, rising-distinct, distinct-part}
+use Rattle.runs.proofs.Searching.{answers-from, answers-later}
+use Rattle.runs.proofs.Merging.{InGapped, Putting, gapped-closed, put-gapped, put-here, put-kept, put-only}
+use Rattle.runs.proofs.Rearranging.{run-same, merged-none, merged-wide, merged-distinct}
 
 abbrev pub withEnds : CutSet → ℕ → ℕ → ℕ → CutSet
 withEnds s long done fresh =

@@ -10,7 +10,7 @@ use mathlib.Core.Path.{_≡_}
 use mathlib.Core.List.{List}
 use mathlib.Core.Logic.{_↔_, _⊎_}
 use lib.ListN.{length, getD}
-use Rattle.cut_set.specs.Runs.{In, Run, Rising, Distinct, Bound}
+use Rattle.runs.specs.Runs.{In, Run, Rising, Distinct, Bound}
 use Rattle.cut_set.specs.declared.CutSet.{CutSet}
 use Rattle.cut_set.specs.declared.Added.{Added}
 use Rattle.cut_set.specs.declared.Added.the-variants.{Held, Full}

@@ -4,9 +4,7 @@
 // Each kind is a long rising run and a short one of at most 512 numbers. A number is added to a short
 // run, which merges into the long one when it is full, so that n additions in any order move far
 // fewer numbers than one sorted run would.
-pub mod runs;
-
-ghost use Rattle.cut_set.specs.Runs.{In, Answers, Bound};
+ghost use Rattle.runs.specs.Runs.{In, Answers, Bound};
 ghost use Rattle.cut_set.specs.Store.{Part, Good, FoundRun, Member, Growing, Emptied, Gathered, AllFinished};
 ghost use Rattle.cut_set.specs.Store.{Joined, Adding, AddedTo};
 

@@ -7,7 +7,7 @@ use cut_set::CutSet;
 ghost use mathlib.Core.Path.{_≡_};
 ghost use Prim.Native.Nat.{_≤_};
 ghost use lib.ListN.{length};
-ghost use Rattle.cut_set.specs.Runs.{Answers, Bound};
+ghost use Rattle.runs.specs.Runs.{Answers, Bound};
 ghost use Rattle.cut_set.specs.Store.{Part, FoundRun, Member, Emptied, Gathered, AllFinished, Joined};
 ghost use Rattle.cut_set_doors.specs.Doors.{setOf, Lent, AddedBy};
 

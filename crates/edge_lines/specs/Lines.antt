@@ -14,10 +14,10 @@ use Rattle.script.specs.declared.refusal.Refusal.{Refusal}
 use Rattle.script.specs.declared.Verdict.{Verdict}
 use Rattle.refinement.specs.declared.Side.{Side}
 use Rattle.refinement.specs.declared.Side.the-variants.{A, B}
-use Rattle.refine.specs.Refining.{refiningOf}
-use Rattle.refine.specs.Carrying.{carryingOf}
-use Rattle.refine.specs.declared.answers.Refined.{Refined}
-use Rattle.refine.specs.declared.answers.Carried.{Carried}
+use Rattle.refining.specs.Refining.{refiningOf}
+use Rattle.refining.specs.Carrying.{carryingOf}
+use Rattle.refining.specs.declared.answers.Refined.{Refined}
+use Rattle.refining.specs.declared.answers.Carried.{Carried}
 use Rattle.text.specs.Decimal.{decimal}
 use Rattle.edge_lines.specs.Scripts.{run, touching, long, many}
 

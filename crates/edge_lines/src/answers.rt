@@ -1,18 +1,18 @@
 // Lines put into a lent text from a place on: a heading, and what the library answers. The place behind is returned.
-use refine::answers::Carried;
-use refine::answers::Refined;
+use refining::answers::Carried;
+use refining::answers::Refined;
 use refinement::Side;
 use script::Refusal;
 use script::Verdict;
-use script::refusal::number_of;
-use script::refusal::place_of;
+use refusals::number_of;
+use refusals::place_of;
 use text::put_byte;
 use text::put_bytes;
 use text::put_number;
 ghost use mathlib.Core.Path.{_≡_};
 ghost use Prim.Native.Nat.{_+_, _≤_};
 ghost use lib.ListN.{length, replicate};
-ghost use Rattle.refine.specs.Refining.{refiningOf};
+ghost use Rattle.refining.specs.Refining.{refiningOf};
 ghost use Rattle.text.specs.Putting.{Put};
 ghost use Rattle.edge_lines.specs.Lines.{entry, refusedText, readLine, refinedLine, carriedLine};
 
@@ -43,7 +43,7 @@ pub fn put_read(text: &mut [u8], at: usize, heading: &[u8], script: &[u8]) -> us
     ensures { λ r. ⌜ r ≤ at + 71 ⌝ }
 {
     let next = put_bytes(text, at, heading);
-    let read = script::read(script);
+    let read = reader::read(script);
     let verdict = read.verdict;
     match verdict {
         Verdict::Admitted {

@@ -6,8 +6,8 @@ use Prim.Native.Nat.{ℕ}
 use mathlib.Core.Path.{_≡_, refl}
 use mathlib.Core.List.{List}
 use lib.ListN.{take}
-use Rattle.report.specs.Reporting.{reportOf}
-use Rattle.report.proofs.Prefix.{report-decided}
+use Rattle.reporting.specs.Reporting.{reportOf}
+use Rattle.reporting.proofs.Prefix.{report-decided}
 use Rattle.notchergrey.specs.Counting.{inputRoom}
 
 pub room-exact : inputRoom ≡ 26635

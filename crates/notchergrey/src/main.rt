@@ -7,14 +7,14 @@ use libc::STDERR_FILENO;
 use libc::STDIN_FILENO;
 use libc::STDOUT_FILENO;
 use report::LONGEST_TEXT;
-use report::Reported;
+use reporting::Reported;
 use script::limits::LONGEST_SCRIPT;
 ghost use mathlib.Core.Bool.{true};
 ghost use mathlib.Core.Path.{_≡_};
 ghost use Prim.Native.Nat.{_+_, _<_, _≤_};
 ghost use lib.ListN.{length, take, drop};
 ghost use Rattle.io.specs.Counts.{Counts};
-ghost use Rattle.report.specs.Reporting.{reportOf, longestText};
+ghost use Rattle.reporting.specs.Reporting.{reportOf, longestText};
 ghost use Rattle.notchergrey.specs.Counting.{inputRoom, countOf, Went};
 
 // So often a call that was interrupted, or found its descriptor busy, is made again: about a second.

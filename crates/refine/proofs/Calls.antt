@@ -22,17 +22,19 @@ use Rattle.refinement.specs.Cut.{Cut, end, left-end, right-end}
 use Rattle.refinement.specs.Least.{leastTable}
 use Rattle.cut_set.specs.Store.{Joined}
 use Rattle.cut_set.specs.declared.CutSet.{CutSet}
-use Rattle.refine.specs.Columns.{Fit, matchesOf}
-use Rattle.refine.specs.Engine.{at, AllCuts, Closure}
-use Rattle.refine.specs.Rows.{rowsOver, numbersOf}
-use Rattle.refine.specs.Refining.{capacityOf, workNeeded, zeroed}
-use Rattle.refine.specs.Writing.{Writable, Written, Tabled, Refines}
-use Rattle.refine.specs.declared.closure.Closed.{Closed}
-use Rattle.refine.specs.declared.answers.Refined.{Refined}
-use Rattle.refine.proofs.Indexed.{∈-matches}
-use Rattle.refine.proofs.RunLists.{slice-in, in-slice, slice-rising}
+use Rattle.refining.specs.Columns.{Fit, matchesOf}
+use Rattle.stepping.specs.Engine.{at}
+use Rattle.closing.specs.AllCuts.{AllCuts, Closure}
+use Rattle.refining.specs.Rows.{rowsOver, numbersOf}
+use Rattle.refining.specs.Refining.{capacityOf, workNeeded, zeroed}
+use Rattle.writing_rows.specs.Writing.{Writable, Written}
+use Rattle.refine.specs.Calls.{Tabled, Refines}
+use Rattle.closing.specs.declared.Closed.{Closed}
+use Rattle.refining.specs.declared.answers.Refined.{Refined}
+use Rattle.stepping.proofs.Indexed.{∈-matches}
+use Rattle.carrying_match.proofs.RunLists.{slice-in, in-slice, slice-rising}
 use Rattle.refine.proofs.RowsLeast.{rows-least}
-use Rattle.refine.proofs.RefiningCases.{written-sets, refining-crowded, refining-written}
+use Rattle.refining.proofs.RefiningCases.{written-sets, refining-crowded, refining-written}
 
 -- what the closure's answer tells
 pub told-cuts :

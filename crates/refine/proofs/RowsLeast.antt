@@ -16,9 +16,9 @@ use Rattle.refinement.specs.Least.{spans?, leastCuts, cutsWithin, piecesBetween
 use Rattle.refinement.proofs.Lists.{∈-filter, ∈-unfilter, rising-filter}
 use Rattle.refinement.proofs.Geometry.{spanned-iff}
 use Rattle.refinement.proofs.Theorem.{cuts-of-match}
-use Rattle.refine.specs.Columns.{Fit, upFrom, matchAt, matchesOf}
-use Rattle.refine.specs.Rows.{within, rowsOver}
-use Rattle.refine.proofs.Indexed.{matches-good}
+use Rattle.refining.specs.Columns.{Fit, upFrom, matchAt, matchesOf}
+use Rattle.refining.specs.Rows.{within, rowsOver}
+use Rattle.stepping.proofs.Indexed.{matches-good}
 
 -- The numbers that a match spans, by the test and by the decision.
 within-filter : (m : Match) (xs : List ℕ) → within (left m A) (m .length) xs ≡ filter (spans? m A) xs

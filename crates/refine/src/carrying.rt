@@ -1,17 +1,17 @@
 // Carrying one position over one match of a script.
-use crate::answers::Carried;
 use refinement::Side;
+use refining::answers::Carried;
+use script::Finding;
 use script::Refusal;
-use script::find::Finding;
 ghost use mathlib.Core.Path.{_≡_};
-ghost use Rattle.refine.specs.Carrying.{carryingOf, carriedAnswer, CarryingDemand};
+ghost use Rattle.refining.specs.Carrying.{carryingOf, carriedAnswer, CarryingDemand};
 
 // Where the match of this number carries the position to, from the side named.
 pub fn carry(script: &[u8], number: u32, side: Side, position: u32) -> Carried
     ensures { λ r. ⌜ r ≡ carryingOf (now (script .entry)) number side position ⌝ }
     ensures { λ r. ⌜ CarryingDemand (now (script .entry)) number side position (carriedAnswer r) ⌝ }
 {
-    match script::find::find_match(script, number) {
+    match reader::find::find_match(script, number) {
         Finding::Refused(refusal) => Carried::Refused(refusal),
         Finding::Found(found) => {
             let from = refinement::on_side(side, found.left_a, found.left_b);

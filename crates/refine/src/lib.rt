@@ -1,24 +1,19 @@
 // Refining and carrying: the calls that stand above the reader, the theory and the store of cuts.
-pub mod answers;
 pub mod carrying;
-mod closure;
-mod rows;
-mod steps;
-mod worker;
 
-use answers::Refined;
-use closure::Closed;
-use closure::close;
-use rows::write_rows;
+use closing::Closed;
+use closing::close;
+use refining::answers::Refined;
 use script::Refusal;
 use script::Verdict;
+use writing_rows::write_rows;
 ghost use mathlib.Core.Path.{_≡_};
 ghost use Prim.Native.Nat.{_≤_, _<_};
 ghost use lib.ListN.{length};
-ghost use Rattle.refine.specs.Columns.{Fit, matchesOf};
-ghost use Rattle.refine.specs.Refining.{workNeeded, zeroed, refiningOf};
-ghost use Rattle.refine.specs.Writing.{Tabled, Refines};
-ghost use Rattle.refine.specs.Demands.{answerOf, Demand1, Demand2, Demand3};
+ghost use Rattle.refining.specs.Columns.{Fit, matchesOf};
+ghost use Rattle.refining.specs.Refining.{workNeeded, zeroed, refiningOf};
+ghost use Rattle.refine.specs.Calls.{Tabled, Refines};
+ghost use Rattle.refining.specs.Demands.{answerOf, Demand1, Demand2, Demand3};
 
 // Sets every number of the work buffer to zero, those past what refining needs too.
 fn clear(work: &mut [u32])
@@ -105,7 +100,7 @@ pub fn refine(script: &[u8], table: &mut [u32], work: &mut [u32]) -> Refined
     ensures demand3 { λ r. ⌜
         Demand3 (now (script .entry)) (now (table .entry)) (now (work .entry)) (answerOf r) (now (table .exit)) ⌝ }
 {
-    let read = script::read(script);
+    let read = reader::read(script);
     let verdict = read.verdict;
     match verdict {
         Verdict::Refused(refusal) => Refined::Refused(refusal),

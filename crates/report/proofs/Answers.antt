@@ -15,14 +15,14 @@ use Rattle.script.specs.declared.refusal.Refusal.{Refusal}
 use Rattle.script.specs.declared.Script.{Script}
 use Rattle.script.specs.declared.Verdict.{Verdict}
 use Rattle.script.proofs.Admitted.{holds-admitted, reading-refused}
-use Rattle.table.specs.Rows.{rowWidth}
-use Rattle.refine.specs.Refining.{refiningOf, capacityOf}
-use Rattle.refine.specs.Demands.{value, answerOf, RefiningOutcome}
-use Rattle.refine.specs.declared.answers.Refined.{Refined}
-use Rattle.report.specs.Lines.{refusalText}
-use Rattle.report.specs.Reporting.{lentRows, lentTable, lentWork, reportOf, reportOfReply, reportOfRefining}
-use Rattle.report.specs.Reporting.{Reporting, reportingOfText, reportingOf}
-use Rattle.report.specs.declared.Reported.{Reported}
+use Rattle.rows.specs.Rows.{rowWidth}
+use Rattle.refining.specs.Refining.{refiningOf, capacityOf}
+use Rattle.refining.specs.Demands.{value, answerOf, RefiningOutcome}
+use Rattle.refining.specs.declared.answers.Refined.{Refined}
+use Rattle.reporting.specs.Lines.{refusalText}
+use Rattle.reporting.specs.Reporting.{lentRows, lentTable, lentWork, reportOf, reportOfReply, reportOfRefining}
+use Rattle.reporting.specs.Reporting.{Reporting, reportingOfText, reportingOf}
+use Rattle.reporting.specs.declared.Reported.{Reported}
 
 outcome-few : {script table work : List ℕ} {n : ℕ} → RefiningOutcome script table work (value n) → n ≤ capacityOf table
 outcome-few (RefiningOutcome.least-rows a enough R L room) = room

@@ -1,12 +1,2 @@
-pub mod Bounds
-pub mod LeastRows
-pub mod Letters
-pub mod Fits
-pub mod Lent
-pub mod Prefix
-pub mod ReadBack
-pub mod SameReports
-pub mod Shown
-pub mod Putting
 pub mod Printing
 pub mod Answers

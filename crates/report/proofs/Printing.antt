@@ -10,8 +10,8 @@ use borrow.Author.Tests.{lt-ltb, le-ltb}
 use lib.ListN.{length, drop}
 use lib.Seq.{sets-eq}
 use Rattle.text.specs.Putting.{Put}
-use Rattle.report.specs.Reporting.{reportingOfText}
-use Rattle.report.specs.declared.Reported.{Reported}
+use Rattle.reporting.specs.Reporting.{reportingOfText}
+use Rattle.reporting.specs.declared.Reported.{Reported}
 
 module _ (printed : List ℕ) {text part part′ : List ℕ} {needed : ℕ} (measured : Put printed part 0 part′ needed) where
   pub reporting-short : length text < needed

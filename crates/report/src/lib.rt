@@ -1,33 +1,26 @@
 // The program's text, made in a lent buffer: what is printed is proved, and the program only reads, calls and writes.
-mod lines;
-
 use lines::put_refusal;
 use lines::put_table;
-use refine::answers::Refined;
 use refine::refine;
+use refining::answers::Refined;
+use reporting::Reported;
+use rows::ROW_WIDTH;
 use script::Refusal;
 use script::Verdict;
-use table::rows::ROW_WIDTH;
-use table::sum_up;
+use summary::sum_up;
 ghost use mathlib.Core.Path.{_≡_};
 ghost use Prim.Native.Nat.{_≤_};
 ghost use lib.ListN.{length};
-ghost use Rattle.refine.specs.Refining.{refiningOf};
-ghost use Rattle.table.specs.Rows.{rowsOf};
-ghost use Rattle.report.specs.Lines.{refusalText, tableText};
-ghost use Rattle.report.specs.Reporting.{lentRows, lentTable, lentWork, reportOf, reportOfRefining};
-ghost use Rattle.report.specs.Reporting.{reportingOfText, reportingOf};
+ghost use Rattle.refining.specs.Refining.{refiningOf};
+ghost use Rattle.rows.specs.Rows.{rowsOf};
+ghost use Rattle.reporting.specs.Lines.{refusalText, tableText};
+ghost use Rattle.reporting.specs.Reporting.{lentRows, lentTable, lentWork, reportOf, reportOfRefining};
+ghost use Rattle.reporting.specs.Reporting.{reportingOfText, reportingOf};
 
 // The rows of the table that the program lends.
 pub const ROWS: usize = 3000;
 // So many bytes are room for the text of every input.
 pub const LONGEST_TEXT: usize = 262_144;
-
-// The length of the text; or the length that it needs, and then nothing is written.
-pub enum Reported {
-    Printed(usize),
-    TextTooShort(usize),
-}
 
 // Measures the line by putting it into an empty buffer, and puts it into the text if there is room.
 fn print_refusal(refusal: Refusal, text: &mut [u8]) -> Reported
@@ -90,7 +83,7 @@ pub fn report(script: &[u8], text: &mut [u8]) -> Reported
     ensures reply { λ r. ⌜ r ≡ reportingOf (now (script .entry)) (now (text .entry)) .reply ⌝ }
     ensures text { λ _. ⌜ now (text .exit) ≡ reportingOf (now (script .entry)) (now (text .entry)) .text ⌝ }
 {
-    let read = script::read(script);
+    let read = reader::read(script);
     let verdict = read.verdict;
     match verdict {
         Verdict::Refused(refusal) => print_refusal(refusal, text),

@@ -20,7 +20,7 @@ use Rattle.script.specs.Finding.{findingOf}
 use Rattle.script.specs.Demands.{scriptAnswer, countOf, BlankFrom, ReadingDemand}
 use Rattle.script.specs.Demands.{findingAnswer, FindingOutcome, FindingDemand}
 use Rattle.script.specs.declared.command.Match.{Match}
-use Rattle.script.specs.declared.find.Finding.{Finding}
+use Rattle.script.specs.declared.Finding.{Finding}
 use Rattle.script.specs.declared.Verdict.{Verdict}
 use Rattle.script.specs.declared.Script.{Script}
 use Rattle.script.proofs.Outcome.{outcome-stated, outcome-alone, read-outcome, outcome-admitted}

@@ -3,7 +3,6 @@ pub mod Seen
 pub mod Judged
 pub mod Named
 pub mod Outcome
-pub mod Progress
 pub mod Prefix
 pub mod Admitted
 pub mod Found

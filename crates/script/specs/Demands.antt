@@ -19,7 +19,7 @@ use Rattle.script.specs.Answers.{Answer, value, refusal, Contents, conte
 use Rattle.script.specs.Outcomes.{Outcome}
 use Rattle.script.specs.Finding.{matchIn}
 use Rattle.script.specs.declared.command.Match.{Match}
-use Rattle.script.specs.declared.find.Finding.{Finding}
+use Rattle.script.specs.declared.Finding.{Finding}
 use Rattle.script.specs.declared.Verdict.{Verdict}
 use Rattle.script.specs.declared.Script.{Script}
 

@@ -8,7 +8,7 @@ use lib.ListN.{getD}
 use Rattle.script.specs.Reading.{Reading, admitted, refused}
 use Rattle.script.specs.declared.refusal.Refusal.the-variants.{NoSuchMatch}
 use Rattle.script.specs.declared.command.Match.{Match}
-use Rattle.script.specs.declared.find.Finding.{Finding}
+use Rattle.script.specs.declared.Finding.{Finding}
 use Rattle.script.specs.declared.Script.{Script}
 
 abbrev pub foundIn : List Match → ℕ → Finding

@@ -1,12 +1,6 @@
-// What one command does to the script read so far, with the refusals in 01's order.
-use crate::command::Command;
+// What one command does to the script read so far.
 use crate::command::Match;
-use crate::limits::LONGEST;
-use crate::limits::MOST_MATCHES;
 use crate::refusal::Refusal;
-ghost use mathlib.Core.Path.{_≡_};
-ghost use Prim.Native.Nat.{_<_};
-ghost use Rattle.script.specs.Steps.{inRange, lengthsStep, openingOf, matchStep, cutShortStep, stepOf};
 
 // What the first command does.
 pub enum Opening {
@@ -19,86 +13,4 @@ pub enum Step {
     Refuse(Refusal),
     Finish,
     Take(Match),
-}
-
-// Whether a sequence may have this many letters.
-fn in_range(letters: u32) -> bool
-    ensures { λ r. ⌜ r ≡ inRange letters ⌝ }
-{
-    0 < letters && letters <= LONGEST
-}
-
-// Lengths with both operands.
-fn judge_lengths(p: u32, q: u32) -> Opening
-    ensures { λ r. ⌜ r ≡ lengthsStep p q ⌝ }
-{
-    if !in_range(p) {
-        return Opening::Refuse(Refusal::LengthOutOfRange);
-    }
-    if !in_range(q) {
-        return Opening::Refuse(Refusal::LengthOutOfRange);
-    }
-    Opening::Open { p, q }
-}
-
-// The first command must be lengths.
-pub fn judge_opening(command: Command) -> Opening
-    ensures { λ r. ⌜ r ≡ openingOf command ⌝ }
-{
-    match command {
-        Command::Missing => Opening::Refuse(Refusal::Headless),
-        Command::Unknown => Opening::Refuse(Refusal::Headless),
-        Command::Lengths { p, q } => judge_lengths(p, q),
-        Command::LengthsCutShort => Opening::Refuse(Refusal::CutShort(0)),
-        Command::Pairing(_) => Opening::Refuse(Refusal::Headless),
-        Command::MatchCutShort => Opening::Refuse(Refusal::Headless),
-        Command::End => Opening::Refuse(Refusal::Headless),
-        Command::EndThenMore => Opening::Refuse(Refusal::Headless),
-    }
-}
-
-// A whole match: 6, 7, 8, 9. The sums are taken in 64 bits, where they cannot wrap.
-fn judge_match(found: Match, p: u32, q: u32, count: usize, at: usize) -> Step
-    ensures { λ r. ⌜ r ≡ matchStep p q count at found ⌝ }
-{
-    if MOST_MATCHES <= count {
-        return Step::Refuse(Refusal::TooManyMatches(at));
-    }
-    if found.length == 0 {
-        return Step::Refuse(Refusal::EmptyMatch(at));
-    }
-    if (p as u64) < found.left_a as u64 + found.length as u64 {
-        return Step::Refuse(Refusal::BeyondA(at));
-    }
-    if (q as u64) < found.left_b as u64 + found.length as u64 {
-        return Step::Refuse(Refusal::BeyondB(at));
-    }
-    Step::Take(found)
-}
-
-// A match whose operands are incomplete: 6, 3.
-fn judge_cut_short(count: usize, at: usize) -> Step
-    ensures { λ r. ⌜ r ≡ cutShortStep count at ⌝ }
-{
-    if MOST_MATCHES <= count {
-        return Step::Refuse(Refusal::TooManyMatches(at));
-    }
-    Step::Refuse(Refusal::CutShort(at))
-}
-
-// A command after the first, found at the offset `at` with `count` matches before it.
-pub fn judge(command: Command, p: u32, q: u32, count: usize, at: usize) -> Step
-    requires { ⌜ at < 4294967296 ⌝ }
-    ensures { λ r. ⌜ r ≡ stepOf p q count at command ⌝ }
-{
-    match command {
-        Command::Missing => Step::Refuse(Refusal::CutShort(at)),
-        Command::Unknown => Step::Refuse(Refusal::UnknownCommand(at)),
-        Command::Lengths { p: _, q: _ } => Step::Refuse(Refusal::SecondLengths(at)),
-        Command::LengthsCutShort => Step::Refuse(Refusal::SecondLengths(at)),
-        Command::Pairing(found) => judge_match(found, p, q, count, at),
-        Command::MatchCutShort => judge_cut_short(count, at),
-        Command::End => Step::Finish,
-        Command::EndThenMore => Step::Refuse(Refusal::Tail(at + 1)),
-    }
 }

@@ -12,7 +12,7 @@ use mathlib.Core.List.{List, [], _∷_, _++_}
 use native.Mathlib.Omega.{arith}
 use lib.ListN.{length}
 use Rattle.table.specs.Summing.{total, count}
-use Rattle.table.specs.declared.rows.Row.{Row}
+use Rattle.rows.specs.declared.Row.{Row}
 
 pub total-snoc : (f : Row → ℕ) (rs : List Row) (r : Row) → total f (rs ++ r ∷ []) ≡ total f rs + f r
 unfolding total

@@ -9,7 +9,7 @@ use Prim.Native.Nat.{ℕ}
 use mathlib.Core.Path.{_≡_, refl}
 use mathlib.Core.List.{List, [], _∷_, _++_}
 use lib.ListN.{replicate}
-use Rattle.table.specs.Rows.{firstRows, rowsOf}
+use Rattle.rows.specs.Rows.{firstRows, rowsOf}
 use Rattle.table.specs.Finding.{leading, startOf, partOf}
 use Rattle.table.specs.Distinct.{occurs, firstsAfter}
 use Rattle.table.specs.Summing.{total, classesFrom, summaryOf}

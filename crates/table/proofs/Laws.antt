@@ -20,12 +20,12 @@ use lib.ListN.{length, getD, drop}
 use lib.Dec.{leb, ltb}
 use lib.Pow.{pow-mono}
 use lib.Seq.{getD-drop}
-use Rattle.table.specs.Rows.{rowWidth, firstRows, rowsOf, numbersOf}
+use Rattle.rows.specs.Rows.{rowWidth, firstRows, rowsOf, numbersOf}
 use Rattle.table.specs.Distinct.{same, occurs, firstsAfter, firstOfEach}
 use Rattle.table.specs.Summing.{total, count, lettersOf, classCount, inClass, classesFrom, summaryOf, summaryOfRows}
-use Rattle.table.specs.declared.rows.Row.{Row}
+use Rattle.rows.specs.declared.Row.{Row}
 use Rattle.table.proofs.Counting.{count-inside, count-agrees, count-every, count-no-one, count-joined}
-use Rattle.table.proofs.TableRows.{rows-length}
+use Rattle.rows.proofs.TableRows.{rows-length}
 use Rattle.table.proofs.Pieces.{bool-same, same-sym, occurs-same, firsts-inside}
 
 -- ---- rows and their numbers

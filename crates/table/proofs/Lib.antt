@@ -1,10 +1,6 @@
-pub mod TableRows
 pub mod Runs
 pub mod Counting
 pub mod Pieces
 pub mod Sums
-pub mod Buckets
-pub mod Passes
-pub mod Shares
 pub mod Laws
 pub mod Examples

@@ -19,10 +19,10 @@ use borrow.Author.Tests.{eq-eqb, eqb-true}
 use lib.ListN.{length, take}
 use lib.Dec.{eqb}
 use lib.Seq.{length-take-le, getD-take}
-use Rattle.table.specs.Rows.{rowOf, rowAt}
+use Rattle.rows.specs.Rows.{rowOf, rowAt}
 use Rattle.table.specs.Distinct.{same, occurs, firstsAfter, firstOfEach}
-use Rattle.table.specs.declared.rows.Row.{Row}
-use Rattle.table.proofs.TableRows.{take-more}
+use Rattle.rows.specs.declared.Row.{Row}
+use Rattle.rows.proofs.TableRows.{take-more}
 
 -- ---- tests joined
 

@@ -19,10 +19,10 @@ use native.Mathlib.Decide.{decLt}
 use borrow.Author.Tests.{lt-ltb, le-ltb, eqb-true, eqb-false, not-true, not-false}
 use lib.ListN.{length, drop, drop-of-length-le, length-drop}
 use lib.Seq.{drop-cons, getD-drop}
-use Rattle.table.specs.Rows.{rowWidth, rowOf, rowAt, rowsOf}
+use Rattle.rows.specs.Rows.{rowWidth, rowOf, rowAt, rowsOf}
 use Rattle.table.specs.Finding.{leading, numbered, numberedElse, before, run, startOf, sizeOf}
-use Rattle.table.specs.declared.rows.Row.{Row}
-use Rattle.table.proofs.TableRows.{rows-length}
+use Rattle.rows.specs.declared.Row.{Row}
+use Rattle.rows.proofs.TableRows.{rows-length}
 
 -- ---- row by row: r is the row that was read at k
 

@@ -19,10 +19,10 @@ use lib.Count.{leadingZeros, leading-top}
 use lib.Dec.{eqb, leb}
 use lib.Pow.{pow-mono, pow-pos}
 use lib.Seq.{ext-getD, getD-set-same, getD-set-other}
-use Rattle.table.specs.Rows.{rowAt}
+use Rattle.rows.specs.Rows.{rowAt}
 use Rattle.table.specs.Summing.{count, lettersOf, classCount, lengthInClass, inClass, classesFrom, classesOf}
-use Rattle.table.specs.declared.rows.Row.{Row}
-use Rattle.table.proofs.TableRows.{take-more}
+use Rattle.rows.specs.declared.Row.{Row}
+use Rattle.rows.proofs.TableRows.{take-more}
 use Rattle.table.proofs.Counting.{total-snoc}
 
 -- ---- letters

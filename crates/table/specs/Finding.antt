@@ -14,8 +14,8 @@ use mathlib.Core.Bool.{Bool, not, cond}
 use mathlib.Core.List.{List, [], _∷_}
 use lib.ListN.{length, take, drop}
 use lib.Dec.{eqb, ltb}
-use Rattle.table.specs.Rows.{rowWidth, rowsOf}
-use Rattle.table.specs.declared.rows.Row.{Row}
+use Rattle.rows.specs.Rows.{rowWidth, rowsOf}
+use Rattle.rows.specs.declared.Row.{Row}
 use Rattle.table.specs.declared.finding.Span.{Span}
 
 -- how many rows pass the test before the first that fails it

@@ -1,5 +1,3 @@
-pub mod Rows
 pub mod Finding
 pub mod Distinct
 pub mod Summing
-pub mod Store

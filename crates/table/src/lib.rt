@@ -1,17 +1,9 @@
-// Piece tables in a lent slice of numbers, with any contents: the rows of one match, and the summary of a table.
+// What is found in a piece table and what sums it up: a part of the table, and the summary. specs/ has what they are of
+// a table with any contents, proofs/ the laws of it; `match_rows`, `distinct_pieces` and `summary` have the functions.
 // A caller hands over its finished rows alone, `&table[..n * ROW_WIDTH]`: what stands behind them is read as rows too.
-mod distinct;
 pub mod finding;
-pub mod rows;
 pub mod summing;
 
 pub use finding::Span;
-pub use finding::rows_of;
-pub use finding::span_of;
-pub use rows::ROW_WIDTH;
-pub use rows::Row;
-pub use rows::row_at;
-pub use rows::row_count;
 pub use summing::CLASSES;
 pub use summing::Summary;
-pub use summing::sum_up;

@@ -7,16 +7,16 @@ use native.Mathlib.Decide.{decLe, decLt, ℕ-discrete}
 use Rattle.script.specs.Reading.{readFrom, readScript}
 use Rattle.refinement.specs.Order.{insertBy, sortBy}
 use Rattle.refinement.specs.Least as Least
-use Rattle.table.specs.Rows.{firstRows, rowsOf}
+use Rattle.rows.specs.Rows.{firstRows, rowsOf}
 use Rattle.table.specs.Distinct.{occurs, firstsAfter}
 use Rattle.table.specs.Summing.{total, classesFrom}
 use Rattle.table.specs.Finding.{leading}
-use Rattle.refine.specs.Rows.{numbersOf}
-use Rattle.refine.specs.Refining.{refiningOfMatches, refiningOf}
-use Rattle.refine.specs.Carrying.{carryingOf}
+use Rattle.refining.specs.Rows.{numbersOf}
+use Rattle.refining.specs.Refining.{refiningOfMatches, refiningOf}
+use Rattle.refining.specs.Carrying.{carryingOf}
 use Rattle.text.specs.Decimal.{placesWithin}
-use Rattle.report.specs.Lines.{rowLines, classLines}
-use Rattle.report.specs.Reporting.{reportOf}
+use Rattle.reporting.specs.Lines.{rowLines, classLines}
+use Rattle.reporting.specs.Reporting.{reportOf}
 use Rattle.vectors.specs.Kinds.{Line}
 use Rattle.vectors.specs.Lines.{lines}
 

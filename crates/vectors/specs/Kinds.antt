@@ -12,9 +12,9 @@ use mathlib.Core.List.{List, [], _∷_, _++_}
 use lib.ListN.{length, take, replicate}
 use lib.Dec.{eqb}
 use Rattle.table.specs.Summing.{summaryOf}
-use Rattle.refine.specs.Refining.{refiningOf}
-use Rattle.refine.specs.declared.answers.Refined.{Refined}
-use Rattle.report.specs.Reporting.{reportOf, reportingOf}
+use Rattle.refining.specs.Refining.{refiningOf}
+use Rattle.refining.specs.declared.answers.Refined.{Refined}
+use Rattle.reporting.specs.Reporting.{reportOf, reportingOf}
 use Rattle.capi.specs.Doors.{Reply, Read, OneMatch, RowsReply, SummaryReply, ReportReply, readDoor, matchDoor}
 use Rattle.capi.specs.Doors.{refineDoor, carryFromA, carryFromB, rowsDoor, summaryDoor, reportDoor}
 

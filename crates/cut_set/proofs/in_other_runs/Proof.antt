@@ -1,7 +1,7 @@
 -- `cut_set::in_other_runs` meets its contract: a run answers for itself, and its answers are joined run by run.
 -- Assumes nothing.
-use Rattle.cut_set.proofs.Membership.{in-wide}
-use Rattle.cut_set.proofs.Searching.{answers-yes, answers-later}
+use Rattle.runs.proofs.Membership.{in-wide}
+use Rattle.runs.proofs.Searching.{answers-yes, answers-later}
 use borrow.Author.Needs.{needs}
 use Rattle.cut_set.proofs.in_other_runs.Statement.{statement}
 use Rattle.cut_set.proofs.in_other_runs.Tie as tie

@@ -5,9 +5,9 @@ use mathlib.Core.Bool.{Bool, true, false, true≢false}
 use native.Mathlib.Omega.{arith}
 use lib.ListN.{length, drop, length-append}
 use lib.Seq.{take-append-seam}
-use Rattle.report.specs.Reporting.{reportOf}
-use Rattle.report.specs.declared.Reported.{Reported}
-use Rattle.report.proofs.Fits.{report-printed}
+use Rattle.reporting.specs.Reporting.{reportOf}
+use Rattle.reporting.specs.declared.Reported.{Reported}
+use Rattle.reporting.proofs.Fits.{report-printed}
 use borrow.Author.Needs.{needs}
 use Rattle.notchergrey.proofs.make_text.Statement.{statement}
 use Rattle.notchergrey.proofs.make_text.Tie as tie

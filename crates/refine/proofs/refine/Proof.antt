@@ -2,9 +2,9 @@
 -- `refine_matches` does the rest. The demands follow from the three equations. Assumes nothing.
 use mathlib.Core.Path.{sym}
 use Rattle.script.proofs.Admitted.{holds-admitted, reading-refused}
-use Rattle.refine.proofs.Numbered.{held-admitted, held-fit}
-use Rattle.refine.proofs.RefiningCases.{refining-refused}
-use Rattle.refine.proofs.Demands.{refining-contract}
+use Rattle.refining.proofs.Numbered.{held-admitted, held-fit}
+use Rattle.refining.proofs.RefiningCases.{refining-refused}
+use Rattle.refining.proofs.Demands.{refining-contract}
 use Rattle.refine.proofs.Calls.{column-reaches, column-few}
 use borrow.Author.Needs.{needs}
 use Rattle.refine.proofs.refine.Statement.{statement}

@@ -4,7 +4,7 @@ use Prim.Native.Nat.{ℕ}
 use mathlib.Core.Path.{sym, ap, _∙_}
 use native.Mathlib.Omega.{arith}
 use lib.ListN.{replicate}
-use Rattle.refine.proofs.RefiningCases.{refining-short}
+use Rattle.refining.proofs.RefiningCases.{refining-short}
 use Rattle.refine.proofs.Calls.{tabled-refines}
 use borrow.Author.Needs.{needs}
 use Rattle.refine.proofs.refine_matches.Statement.{statement}

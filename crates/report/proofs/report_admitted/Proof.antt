@@ -3,8 +3,8 @@ use Prim.Native.Nat.{_≤_}
 use native.Mathlib.Omega.{arith}
 use lib.ListN.{length-take}
 use borrow.Author.Needs.{needs}
-use Rattle.table.proofs.TableRows.{rows-length}
-use Rattle.report.specs.Reporting.{lentRows}
+use Rattle.rows.proofs.TableRows.{rows-length}
+use Rattle.reporting.specs.Reporting.{lentRows}
 use Rattle.report.proofs.Answers.{rows-few, report-refined}
 use Rattle.report.proofs.report_admitted.Statement.{statement}
 use Rattle.report.proofs.report_admitted.Tie as tie

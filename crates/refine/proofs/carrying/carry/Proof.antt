@@ -3,9 +3,9 @@ use native.Mathlib.Omega.{arith}
 use borrow.Author.Needs.{needs}
 use Rattle.refinement.specs.Match.{other, onSide}
 use Rattle.refinement.specs.declared.Side.{Side}
-use Rattle.refine.specs.declared.answers.Carried.{Carried}
-use Rattle.refine.proofs.CarryingOutcome.{carrying-refused, carrying-off, carrying-to, carrying-demand}
-use Rattle.refine.proofs.CarryingOutcome.{found-fits}
+use Rattle.refining.specs.declared.answers.Carried.{Carried}
+use Rattle.refining.proofs.CarryingOutcome.{carrying-refused, carrying-off, carrying-to, carrying-demand}
+use Rattle.refining.proofs.CarryingOutcome.{found-fits}
 use Rattle.refine.proofs.carrying.carry.Statement.{statement}
 use Rattle.refine.proofs.carrying.carry.Tie as tie
 

@@ -1,0 +1,121 @@
+// Carrying the newly found cuts of one side over every match to the other. One worker serves the A step and the B step.
+use carrying_match::Worked;
+use carrying_match::carry_match;
+use cut_set::CutSet;
+use near_matches::next_near;
+ghost use Prim.Native.Nat.{_≤_};
+ghost use lib.ListN.{length};
+ghost use lib.Seq.{slice};
+ghost use Rattle.cut_set.specs.Store.{FoundRun};
+ghost use Rattle.refining.specs.Columns.{Fit};
+ghost use Rattle.carrying_match.specs.OneMatch.{Ready};
+ghost use Rattle.carrying_cuts.specs.Worker.{Working, Turning};
+
+pub enum Turn {
+    Carried {
+        hits: usize,
+        from: CutSet,
+        to: CutSet,
+    },
+    TooMany,
+}
+
+// Carries the newly found cuts, one rising run, over every match.
+fn carry_found(
+    lefts: &[u32],
+    others: &[u32],
+    lengths: &[u32],
+    reversed: &[bool],
+    work: &mut [u32],
+    from: CutSet,
+    to: CutSet,
+    hits: usize,
+    most: usize,
+) -> Worked
+    requires { ⌜ Fit (now lefts) (now others) (now lengths) (now reversed) ⌝ }
+    requires { ⌜ Ready (now work) from to ⌝ }
+    requires { ⌜ FoundRun (now work) from ⌝ }
+    requires { ⌜ hits ≤ most ⌝ }
+    ensures { λ r. ⌜
+        Working (now (lefts .entry)) (now (others .entry)) (now (lengths .entry)) (now (reversed .entry))
+        (length (now (lengths .entry))) (now (work .entry)) from to
+        (slice (from .done) (from .used) (now (work .entry))) hits most (now (work .exit)) r ⌝ }
+{
+    let first = from.done;
+    let end = from.used;
+    if first == end {
+        return Worked::Held { hits: hits, to: to };
+    }
+    let lowest = work[first];
+    let highest = work[end - 1];
+    let mut set = to;
+    let mut count = hits;
+    let mut k = next_near(lefts, lengths, 0, lowest, highest);
+    while k < lengths.len() {
+        match carry_match(
+            work,
+            from,
+            set,
+            lefts[k],
+            others[k],
+            lengths[k],
+            reversed[k],
+            count,
+            most,
+        ) {
+            Worked::Held { hits: h, to: t } => {
+                count = h;
+                set = t;
+            }
+            Worked::TooMany => return Worked::TooMany,
+        }
+        k = next_near(lefts, lengths, k + 1, lowest, highest);
+    }
+    Worked::Held {
+        hits: count,
+        to: set,
+    }
+}
+
+// One turn: the newly found cuts of a side are carried over every match, and are finished.
+pub fn take_turn(
+    lefts: &[u32],
+    others: &[u32],
+    lengths: &[u32],
+    reversed: &[bool],
+    work: &mut [u32],
+    from: CutSet,
+    to: CutSet,
+    hits: usize,
+    most: usize,
+) -> Turn
+    requires { ⌜ Fit (now lefts) (now others) (now lengths) (now reversed) ⌝ }
+    requires { ⌜ Ready (now work) from to ⌝ }
+    requires { ⌜ hits ≤ most ⌝ }
+    ensures { λ r. ⌜
+        Turning (now (lefts .entry)) (now (others .entry)) (now (lengths .entry)) (now (reversed .entry))
+        (now (work .entry)) from to hits most (now (work .exit)) r ⌝ }
+{
+    let gathered = cut_set::gather(work, from);
+    match carry_found(
+        lefts,
+        others,
+        lengths,
+        reversed,
+        work,
+        gathered,
+        to,
+        hits,
+        most,
+    ) {
+        Worked::Held {
+            hits: count,
+            to: set,
+        } => Turn::Carried {
+            hits: count,
+            from: cut_set::finish(work, gathered),
+            to: set,
+        },
+        Worked::TooMany => Turn::TooMany,
+    }
+}

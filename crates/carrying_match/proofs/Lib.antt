@@ -1,0 +1,3 @@
+pub mod RunLists
+pub mod Storing
+pub mod Walking

@@ -1,0 +1,129 @@
+-- Why there are too many numbers for a set, and what storing in one set leaves of another.
+--     base-done, done-used        the order of the ends of a set's runs
+--     crowded-overflow            a full set and one number more overflow it
+--     too-much-in                 too many, seen from another buffer
+--     too-much-more, too-much-then    too many of a kind are too many of a wider one; too many after a storing
+--     too-much-crowded            no place is left for one more
+--     apart-flip, apart-same      sets that share no place
+--     same-apart, good-apart      what changes only the one set leaves the other as it is
+--     ready-then                  storing leaves the worker ready to go on
+-- Assumes nothing.
+use Prim.Native.Nat.{ℕ, _-_, _≤_}
+use native.Mathlib.Omega.{arith}
+use mathlib.Core.Path.{_≡_, refl, sym, _∙_}
+use mathlib.Core.List.{List, _∷_, List·Memᴰ·cases-cons}
+use mathlib.Core.Logic.{_⊎_, inl, inr, ⊎-elim, _≢_}
+use lib.ListN.{length}
+use lib.Seq.{slice, length-slice}
+use Rattle.runs.specs.Runs.{Run, Same}
+use Rattle.cut_set.specs.Store.{Good, Member, Outside, Stored, Crowded}
+use Rattle.cut_set.specs.declared.CutSet.{CutSet}
+use Rattle.runs.proofs.Membership.{in-wide, in-parts}
+use Rattle.runs.proofs.Rearranging.{run-same}
+use Rattle.carrying_match.specs.OneMatch.{Overflow, TooMuch, Apart, Ready}
+use Rattle.carrying_match.proofs.RunLists.{slice-in, slice-rising}
+
+-- the order of the ends of a set's runs
+pub base-done : {xs : List ℕ} {s : CutSet} → Good xs s → s .base ≤ s .done
+base-done g = omega (arith, g .finished-long .order, g .finished-short .order)
+
+pub done-used : {xs : List ℕ} {s : CutSet} → Good xs s → s .done ≤ s .used
+done-used g = omega (arith, g .found-long .order, g .found-short .order)
+
+module _ {P : ℕ → Type 0} {xs : List ℕ} {s : CutSet} (g : Good xs s) where
+  pub crowded-overflow : Crowded P xs s → Overflow (λ y. Member xs s y ⊎ P y) (s .limit - s .base)
+  crowded-overflow c = record {
+    numbers = c .missing ∷ slice (s .base) (s .used) xs;
+    distinct = (
+      λ y m e. c .absent (rw e (slice-in xs w o m)),
+      slice-rising xs w o _≢_ (λ i j l h u e.
+          let f : i ≡ j = g .distinct i j l (omega arith) (omega arith) u e in omega arith),
+    );
+    all = λ x m. ⊎-elim (λ e. inr (rw e (c .wanted))) (λ q. inl (slice-in xs w o q)) (List·Memᴰ·cases-cons m);
+    more = omega (arith, length-slice (s .base) (s .used) xs w, c .full);
+  }
+    where
+      w : s .used ≤ length xs
+      w = g .found-short .within
+
+      o : s .base ≤ s .used
+      o = omega (arith, base-done g, done-used g)
+
+  module _ {ys : List ℕ} {t : CutSet} (p : Stored P xs s ys t) where
+    member-only : {y : ℕ} → Member ys t y → Member xs s y ⊎ P y
+    member-only {y} m = ⊎-elim
+        (λ q. inl (in-wide (omega arith) (done-used g) (p .finished y .0 q)))
+        (λ q. ⊎-elim (λ r. inl (in-wide (base-done g) (omega arith) r)) inr (p .only y q))
+        (in-parts (t .done) m)
+
+-- the same numbers are members or new elsewhere, where there is as much room
+pub too-much-in :
+    {P Q : ℕ → Type 0} {xs ys : List ℕ} (s t : CutSet) {hits most : ℕ} → t .base ≡ s .base → t .limit ≡ s .limit
+    → ((y : ℕ) → Member ys t y ⊎ P y → Member xs s y ⊎ Q y) → TooMuch ys t P hits most → TooMuch xs s Q hits most
+too-much-in s t a b f (TooMuch.crowded o) = TooMuch.crowded (record {
+  numbers = o .numbers;
+  distinct = o .distinct;
+  all = λ x m. f x (o .all x m);
+  more = omega (arith, o .more);
+})
+too-much-in s t a b f (TooMuch.excess h) = TooMuch.excess h
+
+module _ {P Q : ℕ → Type 0} {xs ys : List ℕ} {s t : CutSet} (g : Good xs s) (p : Stored P xs s ys t) where
+  pub too-much-then : {hits most : ℕ} → TooMuch ys t Q hits most → TooMuch xs s (λ y. P y ⊎ Q y) hits most
+  too-much-then m = too-much-in s t (p .base-same) (p .limit-same)
+      (λ y q. ⊎-elim (λ r. ⊎-elim inl (λ e. inr (inl e)) (member-only g p r)) (λ e. inr (inr e)) q) m
+
+pub too-much-more :
+    {P Q : ℕ → Type 0} {xs : List ℕ} {s : CutSet} {hits hits′ most : ℕ} → ((y : ℕ) → P y → Q y) → hits ≤ hits′
+    → TooMuch xs s P hits most → TooMuch xs s Q hits′ most
+too-much-more {s = s} f l (TooMuch.crowded o) =
+    too-much-in s s refl refl (λ y q. ⊎-elim inl (λ e. inr (f y e)) q) (TooMuch.crowded o)
+too-much-more f l (TooMuch.excess h) = TooMuch.excess (omega arith)
+
+pub too-much-crowded :
+    {P Q : ℕ → Type 0} {xs : List ℕ} {s : CutSet} {hits most : ℕ} → ((y : ℕ) → P y → Q y) → Good xs s → Crowded P xs s
+    → TooMuch xs s Q hits most
+too-much-crowded {s = s} f g c =
+    too-much-in s s refl refl (λ y q. ⊎-elim inl (λ e. inr (f y e)) q) (TooMuch.crowded (crowded-overflow g c))
+
+module _ (xs ys : List ℕ) {s t : CutSet} where
+  pub same-apart : Apart s t → Outside t xs ys → Same xs ys (s .base) (s .limit)
+  same-apart (Apart.before h) o k l u = o k (inl (omega arith))
+  same-apart (Apart.behind h) o k l u = o k (inr (omega arith))
+
+  pub good-apart : Apart s t → Outside t xs ys → length ys ≡ length xs → Good xs s → Good ys s
+  good-apart a o n g = record {
+    finished-long = run (omega arith) (omega (arith, g .finished-short .order, done-used g)) (g .finished-long);
+    finished-short = run (g .finished-long .order) (done-used g) (g .finished-short);
+    found-long = run (base-done g) (g .found-short .order) (g .found-long);
+    found-short = run (omega (arith, base-done g, g .found-long .order)) (omega arith) (g .found-short);
+    few-finished = g .few-finished;
+    few-found = g .few-found;
+    room = g .room;
+    within = omega (arith, n, g .within);
+    distinct = λ i j il ih jl jh e.
+        g .distinct i j il ih jl jh (sym (same i il (omega (arith, g .room))) ∙ e ∙ same j jl (omega (arith, g .room)));
+  }
+    where
+      same : Same xs ys (s .base) (s .limit)
+      same = same-apart a o
+
+      run : {lo hi : ℕ} → s .base ≤ lo → hi ≤ s .used → Run xs lo hi → Run ys lo hi
+      run l h p = run-same {xs = xs} (λ k a b. same k (omega arith) (omega (arith, g .room))) n p
+
+pub apart-flip : {s t : CutSet} → Apart s t → Apart t s
+apart-flip (Apart.before h) = Apart.behind h
+apart-flip (Apart.behind h) = Apart.before h
+
+pub apart-same : {s t u : CutSet} → u .base ≡ t .base → u .limit ≡ t .limit → Apart s t → Apart s u
+apart-same a b (Apart.before h) = Apart.before (omega arith)
+apart-same a b (Apart.behind h) = Apart.behind (omega arith)
+
+pub ready-then :
+    {P : ℕ → Type 0} {xs ys : List ℕ} {from to t : CutSet} → Ready xs from to → Stored P xs to ys t
+    → length ys ≡ length xs → Ready ys from t
+ready-then {xs = xs} {ys = ys} r p n = record {
+  from-good = good-apart xs ys (r .apart) (p .outside) n (r .from-good);
+  to-good = p .good;
+  apart = apart-same (p .base-same) (p .limit-same) (r .apart);
+}

@@ -1,0 +1,163 @@
+-- Carrying the newly found cuts that one match spans, place by place from the first that is at least its left end.
+--     Walked              the invariant: the cuts at [lo, at) are carried
+--     walk-start, walk-step, walk-too-much     where it begins, one cut more, and no room for one more
+--     walk-over, walk-break                    the run is at its end, or its next cut is not spanned
+-- Assumes nothing.
+use Prim.Native.Nat.{ℕ, suc, _+_, _≤_, _<_}
+use native.Mathlib.Omega.{arith}
+use mathlib.Core.Path.{_≡_, refl, sym, ap, _∙_}
+use mathlib.Core.Bool.{Bool, true, false, true≢false}
+use mathlib.Core.List.{List}
+use mathlib.Core.Logic.{_↔_, _⊎_, inl, inr, ⊎-elim}
+use lib.ListN.{length, getD}
+use lib.Seq.{slice, slice-cons}
+use borrow.Author.Tests.{leb-false, lt-leb}
+use Rattle.refinement.specs.Match.{spanned, carryOver}
+use Rattle.refinement.proofs.Geometry.{spanned-bounds, spanned-below, spanned-from}
+use Rattle.runs.specs.Runs.{In, Bound}
+use Rattle.cut_set.specs.Store.{Found, FoundRun, Stored}
+use Rattle.cut_set.specs.declared.CutSet.{CutSet}
+use Rattle.runs.proofs.Moving.{lt-or-le}
+use Rattle.runs.proofs.Membership.{in-wide, in-parts}
+use Rattle.cut_set.proofs.Laws.{stored-none, stored-same, stored-then}
+use Rattle.carrying_match.specs.OneMatch.{ImageBy, hitsOn, TooMuch, Ready}
+use Rattle.carrying_match.proofs.RunLists.{hits-past, hits-none}
+use Rattle.carrying_match.proofs.Storing.{base-done, done-used}
+use Rattle.carrying_match.proofs.Storing.{too-much-more, too-much-then, same-apart}
+
+pub record Walked (i k d : ℕ) (b : Bool) (xs : List ℕ) (to : CutSet) (hits most lo hi : ℕ) (ys : List ℕ) (t : CutSet)
+    (count at : ℕ) : Type 0 where
+  pub from : lo ≤ at
+  pub until : at ≤ hi
+  pub lengths : length ys ≡ length xs
+  pub stored : Stored (ImageBy i k d b (In xs lo at)) xs to ys t
+  pub counted : hits + hitsOn i d (slice lo hi xs) ≡ count + hitsOn i d (slice at hi xs)
+  pub few : count ≤ most
+
+module _ {i k d : ℕ} {b : Bool} {xs : List ℕ} where
+  image-wide : {lo hi l h y : ℕ} → l ≤ lo → hi ≤ h → ImageBy i k d b (In xs lo hi) y → ImageBy i k d b (In xs l h) y
+  image-wide p q m = record { x = m .x; carried = in-wide p q (m .carried); spans = m .spans; is = m .is }
+
+pub walk-start :
+    {i k d : ℕ} {b : Bool} {xs : List ℕ} {from to : CutSet} {lo hits most : ℕ} → Ready xs from to
+    → Bound xs (from .done) (from .used) i lo → hits ≤ most
+    → Walked i k d b xs to hits most lo (from .used) xs to hits lo
+walk-start r e h = record {
+  from = omega arith;
+  until = e .to;
+  lengths = refl;
+  stored = stored-none (r .to-good) (λ y m. absurd (omega (arith, m .carried .from, m .carried .below)));
+  counted = refl;
+  few = h;
+}
+
+module _ {i k d : ℕ} {b : Bool} {xs : List ℕ} {from to : CutSet} {hits most lo : ℕ} {ys : List ℕ} {t : CutSet}
+    {count at : ℕ} (r : Ready xs from to) (up : FoundRun xs from) (e : Bound xs (from .done) (from .used) i lo)
+    (w : Walked i k d b xs to hits most lo (from .used) ys t count at) where
+  within : from .used ≤ length xs
+  within = r .from-good .found-short .within
+
+  place-same : at < from .used → getD ys at 0 ≡ getD xs at 0
+  place-same h = same-apart xs ys (r .apart) (w .stored .outside) at
+      (omega (arith, base-done (r .from-good), e .from, w .from)) (omega (arith, r .from-good .room))
+
+  skipped : hitsOn i d (slice (from .done) (from .used) xs) ≡ hitsOn i d (slice lo (from .used) xs)
+  skipped = hits-past xs within (done-used (r .from-good)) i d lo (e .from) (e .to)
+      (λ j l u. sym (spanned-below i d (getD xs j 0) (e .less j l u)))
+
+  module _ (h : at < from .used) (s : spanned i d (getD ys at 0) ≡ true) where
+    next :
+        (y : ℕ) → (ImageBy i k d b (In xs lo at) y ⊎ (y ≡ carryOver b i k d (getD ys at 0)))
+        ↔ ImageBy i k d b (In xs lo (at + 1)) y
+    next y = (
+      λ q. ⊎-elim (image-wide (omega arith) (omega arith))
+          (λ p. record {
+            x = getD ys at 0;
+            carried = record { place = at; from = w .from; below = omega arith; is = sym (place-same h) };
+            spans = s;
+            is = p;
+          })
+          q,
+      λ q. ⊎-elim
+          (λ u. inl (record { x = q .x; carried = u; spans = q .spans; is = q .is }))
+          (λ u. let f : u .place ≡ at = omega (arith, u .from, u .below) in
+          let here : q .x ≡ getD ys at 0 = sym (u .is) ∙ ap (λ (j : ℕ). getD xs j 0) f ∙ sym (place-same h) in
+          inr (q .is ∙ ap (carryOver b i k d) here))
+          (in-parts at (q .carried)),
+    )
+
+    hit : hitsOn i d (slice at (from .used) xs) ≡ 1 + hitsOn i d (slice (at + 1) (from .used) xs)
+    hit = let f : at + 1 ≡ suc at = omega arith in
+        let spans : spanned i d (getD xs at 0) ≡ true = rw (place-same h) at s in
+        rw (f, slice-cons at (from .used) xs 0 h within, spans)
+
+    pub walk-step :
+        {zs : List ℕ} {u : CutSet} {c : ℕ} → length zs ≡ length ys
+        → Stored (λ y. y ≡ carryOver b i k d (getD ys at 0)) ys t zs u × (c ≡ count + 1) × (c ≤ most)
+        → Walked i k d b xs to hits most lo (from .used) zs u c (at + 1)
+    walk-step n p = record {
+      from = omega (arith, w .from);
+      until = omega arith;
+      lengths = n ∙ w .lengths;
+      stored = stored-same next (stored-then (w .stored) (p .0));
+      counted = omega (arith, w .counted, hit, p .1);
+      few = p .2;
+    }
+
+    pub walk-too-much :
+        TooMuch ys t (λ y. y ≡ carryOver b i k d (getD ys at 0)) (count + 1) most
+        → TooMuch xs to (ImageBy i k d b (Found xs from)) (hits + hitsOn i d (slice (from .done) (from .used) xs)) most
+    walk-too-much m = too-much-more (λ y q. image-wide (e .from) (omega arith) (next y .0 q))
+        (omega (arith, w .counted, hit, skipped)) (too-much-then (r .to-good) (w .stored) m)
+
+  -- the cuts from `at` on are not spanned
+  stopped :
+      ((j : ℕ) → at ≤ j → j < from .used → spanned i d (getD xs j 0) ≡ false)
+      → Stored (ImageBy i k d b (Found xs from)) xs to ys t
+      × (count ≡ hits + hitsOn i d (slice (from .done) (from .used) xs)) × (count ≤ most)
+  stopped f = (
+    stored-same (λ y. (image-wide (e .from) (w .until), narrow)) (w .stored),
+    omega (arith, w .counted, skipped, rest),
+    w .few,
+  )
+    where
+      rest : hitsOn i d (slice at (from .used) xs) ≡ 0
+      rest = hits-none xs within (w .until) i d f
+
+      narrow : {y : ℕ} → ImageBy i k d b (Found xs from) y → ImageBy i k d b (In xs lo at) y
+      narrow q = ⊎-elim
+          (λ u. let bounds = spanned-bounds i d (q .x) (q .spans) in
+          absurd (omega (arith, e .less (u .place) (u .from) (u .below), u .is, bounds)))
+          (λ u. ⊎-elim
+          (λ v. record { x = q .x; carried = v; spans = q .spans; is = q .is })
+          (λ v. let not-here = f (v .place) (v .from) (v .below) in
+          absurd (true≢false (sym (q .spans) ∙ ap (spanned i d) (sym (v .is)) ∙ not-here)))
+          (in-parts at u))
+          (in-parts lo (q .carried))
+
+  pub walk-over :
+      from .used ≤ at
+      → Stored (ImageBy i k d b (Found xs from)) xs to ys t
+      × (count ≡ hits + hitsOn i d (slice (from .done) (from .used) xs)) × (count ≤ most)
+  walk-over h = stopped (λ j l u. absurd (omega arith))
+
+  pub walk-break :
+      at < from .used → spanned i d (getD ys at 0) ≡ false
+      → Stored (ImageBy i k d b (Found xs from)) xs to ys t
+      × (count ≡ hits + hitsOn i d (slice (from .done) (from .used) xs)) × (count ≤ most)
+  walk-break h s = stopped later
+    where
+      left : (j : ℕ) → at ≤ j → j < from .used → i ≤ getD xs j 0
+      left j l u = e .least j (omega (arith, w .from)) u
+
+      past : i + d < getD xs at 0
+      past = leb-false (getD xs at 0) (i + d)
+          (spanned-from i d (getD xs at 0) (left at (omega arith) h) ∙ ap (spanned i d) (sym (place-same h)) ∙ s)
+
+      above : (j : ℕ) → at ≤ j → j < from .used → (at < j) ⊎ (j ≤ at) → i + d < getD xs j 0
+      above j l u (inl o) = omega (arith, past, up at j (omega (arith, e .from, w .from)) o u)
+      above j l u (inr o) = let f : j ≡ at = omega arith in rw f past
+
+      later : (j : ℕ) → at ≤ j → j < from .used → spanned i d (getD xs j 0) ≡ false
+      later j l u = sym (spanned-from i d (getD xs j 0) (left j l u))
+          ∙ lt-leb (getD xs j 0) (i + d) (above j l u (lt-or-le at j))

@@ -1,0 +1,154 @@
+-- `carry_match` meets its contract. The loop keeps `Walked`; its measure is what is left of the run. Assumes nothing.
+use Prim.Native.Nat.{_-_}
+use native.Mathlib.Omega.{arith}
+use mathlib.Core.Path.{refl, sym, _∙_}
+use borrow.Author.Needs.{needs}
+use borrow.Author.Tests.{not-true, not-false}
+use Rattle.cut_set.proofs.Laws.{stored-same}
+use Rattle.carrying_match.specs.OneMatch.{TooMuch}
+use Rattle.carrying_match.proofs.Storing.{too-much-crowded}
+use Rattle.carrying_match.proofs.Walking.{Walked, walk-start, walk-step, walk-too-much, walk-over, walk-break}
+use Rattle.carrying_match.proofs.carry_match.Statement.{statement}
+use Rattle.carrying_match.proofs.carry_match.Tie as tie
+
+abbrev Inv-loop : tie.InvT-loop
+Inv-loop work₀ left other length reversed hits most used set₀ count₀ at₀ work set count at =
+    Walked left other length reversed work₀ set₀ hits most at₀ used work set count at
+
+abbrev μ-loop : tie.MeasureT-loop
+μ-loop work₀ left other length reversed hits most used set₀ count₀ at₀ work set count at = used - at
+
+first-found-requires : tie.Need-first-found-requires Inv-loop μ-loop
+first-found-requires c κs = search needs
+
+loop-holds : tie.Need-loop-holds Inv-loop μ-loop
+loop-holds c =
+    let start = c .before .before .before in
+    walk-start (start .pre .0) (c .first-found .ensures) (start .pre .1 .1 .1)
+
+mul-cut : tie.Need-mul-cut Inv-loop μ-loop
+mul-cut c = search needs
+
+slice-read-cut : tie.Need-slice-read-cut Inv-loop μ-loop
+slice-read-cut c = omega (arith, c .before .before .loop .inv .lengths)
+
+spans-requires : tie.Need-spans-requires Inv-loop μ-loop
+spans-requires c κs = search needs
+
+same-length : tie.Need-same-length Inv-loop μ-loop
+same-length c = search needs
+
+returns : tie.Need-returns Inv-loop μ-loop
+returns c =
+    let test = c .before in
+    let spans = test .before .spans in
+    let in-loop = test .before .before .before in
+    let found = in-loop .before .before in
+    let start = found .before .before .before in
+    walk-too-much (start .pre .0) (start .pre .1 .0) (found .first-found .ensures) (in-loop .before .loop .inv)
+    (in-loop .loop-test .taken) (sym (spans .ensures) ∙ not-false (spans .result) (test .if1 .left))
+    (TooMuch.excess (omega (arith, c .if2 .taken)))
+
+carry-requires : tie.Need-carry-requires Inv-loop μ-loop
+carry-requires c κs =
+    let spans = c .before .before .spans in
+    (sym (spans .ensures) ∙ not-false (spans .result) (c .before .if1 .left), search needs)
+
+add-requires : tie.Need-add-requires Inv-loop μ-loop
+add-requires c κs = c .before .before .before .before .before .before .before .loop .inv .stored .good
+
+enum-known-s : tie.Need-enum-known-s Inv-loop μ-loop
+enum-known-s c = search needs
+
+enum-told : tie.Need-enum-told Inv-loop μ-loop
+enum-told c = search needs
+
+same-length-2 : tie.Need-same-length-2 Inv-loop μ-loop
+same-length-2 c = search needs
+
+returns-2 : tie.Need-returns-2 Inv-loop μ-loop
+returns-2 c =
+    let called = c .before .before .before .before in
+    let image = called .before .before .carry .ensures in
+    let test = called .before .before .before .before in
+    let spans = test .before .spans in
+    let in-loop = test .before .before .before in
+    let found = in-loop .before .before in
+    let start = found .before .before .before in
+    let full = rw (c .enum-told .given .1) at (called .add .ensures) in
+    walk-too-much (start .pre .0) (start .pre .1 .0) (found .first-found .ensures) (in-loop .before .loop .inv)
+    (in-loop .loop-test .taken) (sym (spans .ensures) ∙ not-false (spans .result) (test .if1 .left))
+    (too-much-crowded (λ y e. e ∙ image) (in-loop .before .loop .inv .stored .good) (full .0))
+
+add-count : tie.Need-add-count Inv-loop μ-loop
+add-count c = search needs
+
+add-at : tie.Need-add-at Inv-loop μ-loop
+add-at c = search needs
+
+loop-less : tie.Need-loop-less Inv-loop μ-loop
+loop-less c = search needs
+
+loop-again : tie.Need-loop-again Inv-loop μ-loop
+loop-again c =
+    let called = c .before .before .before .before .before in
+    let image = called .before .before .carry .ensures in
+    let test = called .before .before .before .before in
+    let spans = test .before .spans in
+    let in-loop = test .before .before .before in
+    let found = in-loop .before .before in
+    let start = found .before .before .before in
+    let added = rw (c .before .s .given .1) at (called .add .ensures) in
+    walk-step (start .pre .0) (start .pre .1 .0) (found .first-found .ensures) (in-loop .before .loop .inv)
+    (in-loop .loop-test .taken) (sym (spans .ensures) ∙ not-false (spans .result) (test .if1 .left)) (search needs)
+    (stored-same (λ y. (λ e. e ∙ image, λ e. e ∙ sym image)) (added .stored), refl, omega arith)
+
+same-length-3 : tie.Need-same-length-3 Inv-loop μ-loop
+same-length-3 c = search needs
+
+returns-3 : tie.Need-returns-3 Inv-loop μ-loop
+returns-3 c =
+    let found = c .before .before in
+    let start = found .before .before .before in
+    walk-over (start .pre .0) (start .pre .1 .0) (found .first-found .ensures) (c .before .loop .inv)
+    (c .loop-test .left)
+
+same-length-4 : tie.Need-same-length-4 Inv-loop μ-loop
+same-length-4 c = search needs
+
+returns-4 : tie.Need-returns-4 Inv-loop μ-loop
+returns-4 c =
+    let spans = c .before .spans in
+    let in-loop = c .before .before .before in
+    let found = in-loop .before .before in
+    let start = found .before .before .before in
+    walk-break (start .pre .0) (start .pre .1 .0) (found .first-found .ensures) (in-loop .before .loop .inv)
+    (in-loop .loop-test .taken) (sym (spans .ensures) ∙ not-true (spans .result) (c .if1 .taken))
+
+pub carry-match-spec : {M : Type 1} → statement M
+carry-match-spec =
+    tie.close
+    (tie.spec
+    Inv-loop
+    μ-loop
+    first-found-requires
+    loop-holds
+    mul-cut
+    slice-read-cut
+    spans-requires
+    same-length
+    returns
+    carry-requires
+    add-requires
+    enum-known-s
+    enum-told
+    same-length-2
+    returns-2
+    add-count
+    add-at
+    loop-less
+    loop-again
+    same-length-3
+    returns-3
+    same-length-4
+    returns-4)

@@ -1,0 +1,59 @@
+-- What carrying the newly found cuts of one side over one match to the other side does.
+--     ImageBy      y is what the match carries a newly found cut to
+--     hitsOn       how many cuts of a list the match spans
+--     Overflow     more numbers of a kind than there are places
+--     Ready        what carrying needs of the two sets
+--     TooMuch      why there are too many
+--     Carrying     what carrying does, by its answer
+-- Assumes nothing.
+use Prim.Native.Nat.{ℕ, suc, _+_, _-_, _≤_, _<_}
+use mathlib.Core.Path.{_≡_}
+use mathlib.Core.Logic.{_⊎_}
+use mathlib.Core.Bool.{Bool, true, cond}
+use mathlib.Core.List.{List, [], _∷_}
+use lib.ListN.{length}
+use Rattle.refinement.specs.Order.{_∈_, Distinct}
+use Rattle.refinement.specs.Match.{spanned, carryOver}
+use Rattle.cut_set.specs.Store.{Good, Member, Stored}
+use Rattle.cut_set.specs.declared.CutSet.{CutSet}
+use Rattle.carrying_match.specs.declared.Worked.{Worked}
+
+-- an image of a number with P under one match, which has these left ends, this length and direction
+pub record ImageBy (i k d : ℕ) (b : Bool) (P : ℕ → Type 0) (y : ℕ) : Type 0 where
+  pub x : ℕ
+  pub carried : P x
+  pub spans : spanned i d x ≡ true
+  pub is : y ≡ carryOver b i k d x
+
+abbrev pub hitsOn : ℕ → ℕ → List ℕ → ℕ
+hitsOn i d [] = 0
+hitsOn i d (x ∷ xs) = cond (spanned i d x) 1 0 + hitsOn i d xs
+
+-- as many numbers with Q as there are places, and one more
+pub record Overflow (Q : ℕ → Type 0) (places : ℕ) : Type 0 where
+  pub numbers : List ℕ
+  pub distinct : Distinct numbers
+  pub all : (x : ℕ) → x ∈ numbers → Q x
+  pub more : length numbers ≡ suc places
+
+-- two sets in parts of one buffer that share no place
+pub data Apart (s t : CutSet) : Type 0 where
+  before : s .limit ≤ t .base → Apart s t
+  behind : t .limit ≤ s .base → Apart s t
+
+-- what the worker is given: a set `from`, and a set `to` elsewhere in the buffer
+pub record Ready (xs : List ℕ) (from to : CutSet) : Type 0 where
+  pub from-good : Good xs from
+  pub to-good : Good xs to
+  pub apart : Apart from to
+
+-- why the answer is "too many": no place for one more image, or more hits than the most that are allowed
+pub data TooMuch (xs : List ℕ) (to : CutSet) (P : ℕ → Type 0) (hits most : ℕ) : Type 0 where
+  crowded : Overflow (λ y. Member xs to y ⊎ P y) (to .limit - to .base) → TooMuch xs to P hits most
+  excess : most < hits → TooMuch xs to P hits most
+
+-- carrying cuts to all that has P, with n more hits than before
+abbrev pub Carrying : (ℕ → Type 0) → ℕ → List ℕ → CutSet → ℕ → ℕ → List ℕ → Worked → Type 0
+Carrying P n xs to hits most ys (Worked.Held hits′ to′) =
+    Stored P xs to ys to′ × (hits′ ≡ hits + n) × (hits′ ≤ most)
+Carrying P n xs to hits most ys Worked.TooMany = TooMuch xs to P (hits + n) most

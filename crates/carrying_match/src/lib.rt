@@ -1,0 +1,62 @@
+// Carrying the newly found cuts of one side over one match to the other.
+use cut_set::Added;
+use cut_set::CutSet;
+ghost use Prim.Native.Nat.{_+_, _^_, _≤_, _<_};
+ghost use lib.Seq.{slice};
+ghost use Rattle.cut_set.specs.Store.{Found, FoundRun};
+ghost use Rattle.carrying_match.specs.OneMatch.{Ready, ImageBy, hitsOn, Carrying};
+
+// The hits so far and the set that images went to, or that there are too many for any table lent. The hits stand first:
+// right behind the answer's tag a set would be copied from odd places, which is slow.
+pub enum Worked {
+    Held { hits: usize, to: CutSet },
+    TooMany,
+}
+
+// Carries the newly found cuts that one match spans: they follow each other in the run. The hits are tested before they
+// are counted, so they never pass `most`.
+pub fn carry_match(
+    work: &mut [u32],
+    from: CutSet,
+    to: CutSet,
+    left: u32,
+    other: u32,
+    length: u32,
+    reversed: bool,
+    hits: usize,
+    most: usize,
+) -> Worked
+    requires { ⌜ Ready (now work) from to ⌝ }
+    requires { ⌜ FoundRun (now work) from ⌝ }
+    requires { ⌜ other + length < 2 ^ 32 ⌝ }
+    requires { ⌜ hits ≤ most ⌝ }
+    ensures { λ r. ⌜
+        Carrying (ImageBy left other length reversed (Found (now (work .entry)) from))
+        (hitsOn left length (slice (from .done) (from .used) (now (work .entry)))) (now (work .entry)) to hits most
+        (now (work .exit)) r ⌝ }
+{
+    let used = from.used;
+    let mut set = to;
+    let mut count = hits;
+    let mut at = cut_set::first_found(work, from, left);
+    while at < used {
+        let cut = work[at];
+        if !refinement::spans(left, length, cut) {
+            break;
+        }
+        if count == most {
+            return Worked::TooMany;
+        }
+        let image = refinement::carry(left, other, length, reversed, cut);
+        match cut_set::add(work, set, image) {
+            Added::Held(s) => set = s,
+            Added::Full => return Worked::TooMany,
+        }
+        count += 1;
+        at += 1;
+    }
+    Worked::Held {
+        hits: count,
+        to: set,
+    }
+}

@@ -1,0 +1,99 @@
+-- `seed` meets its contract. The loop keeps `Sown`: the ends of the first k matches are added. Assumes nothing.
+use Prim.Native.Nat.{_-_}
+use mathlib.Core.Path.{_∙_}
+use native.Mathlib.Omega.{arith}
+use lib.ListN as List
+use borrow.Author.Needs.{needs}
+use Rattle.closing.proofs.Seeds.{Sown, sown-start, sown-step, sown-full, sown-end}
+use Rattle.closing.proofs.seed.Statement.{statement}
+use Rattle.closing.proofs.seed.Tie as tie
+
+abbrev Inv-loop : tie.InvT-loop
+Inv-loop left-a lengths work₀ a₀ k₀ work a k = Sown left-a lengths work₀ a₀ k work a
+
+abbrev μ-loop : tie.MeasureT-loop
+μ-loop left-a lengths work₀ a₀ k₀ work a k = List.length lengths - k
+
+loop-holds : tie.Need-loop-holds Inv-loop μ-loop
+loop-holds c = sown-start (c .before .before .before .pre .1)
+
+mul-seed-match : tie.Need-mul-seed-match Inv-loop μ-loop
+mul-seed-match c = search needs
+
+shared-slice-read-seed-match : tie.Need-shared-slice-read-seed-match Inv-loop μ-loop
+shared-slice-read-seed-match c =
+    let ends = c .before .before .before .before .before .before .before .pre .0 in
+    omega (arith, ends .same-length)
+
+mul-seed-match-2 : tie.Need-mul-seed-match-2 Inv-loop μ-loop
+mul-seed-match-2 c = search needs
+
+shared-slice-read-seed-match-2 : tie.Need-shared-slice-read-seed-match-2 Inv-loop μ-loop
+shared-slice-read-seed-match-2 c = search needs
+
+seed-match-requires : tie.Need-seed-match-requires Inv-loop μ-loop
+seed-match-requires c κs =
+    let at-loop = c .before .before .before .before in
+    let ends = at-loop .before .before .before .before .pre .0 in
+    (at-loop .loop .inv .stored .good, ends .fits (at-loop .loop .k) (c .before .before .before .loop-test .taken))
+
+enum-known-s : tie.Need-enum-known-s Inv-loop μ-loop
+enum-known-s c = search needs
+
+enum-told : tie.Need-enum-told Inv-loop μ-loop
+enum-told c = search needs
+
+same-length : tie.Need-same-length Inv-loop μ-loop
+same-length c =
+    let at-call = c .before .before .before .before in
+    at-call .seed-match .kept .0 ∙ at-call .before .before .before .before .before .loop .inv .lengths
+
+returns : tie.Need-returns Inv-loop μ-loop
+returns c =
+    let at-call = c .before .before .before .before in
+    let at-loop = at-call .before .before .before .before .before in
+    let full = rw (c .enum-told .given .1) at (at-call .seed-match .ensures) in
+    let test = at-call .before .before .before .before .loop-test in
+    sown-full (at-loop .loop .inv) (test .taken) (at-loop .before .before .before .before .pre .1) full
+
+add-k : tie.Need-add-k Inv-loop μ-loop
+add-k c = search needs
+
+loop-less : tie.Need-loop-less Inv-loop μ-loop
+loop-less c = search needs
+
+loop-again : tie.Need-loop-again Inv-loop μ-loop
+loop-again c =
+    let at-call = c .before .before .before .before .before in
+    let at-loop = at-call .before .before .before .before .before in
+    let added = rw (c .before .s .given .1) at (at-call .seed-match .ensures) in
+    let test = at-call .before .before .before .before .loop-test in
+    sown-step (at-loop .loop .inv) (test .taken) (at-call .seed-match .kept .0) added
+
+same-length-2 : tie.Need-same-length-2 Inv-loop μ-loop
+same-length-2 c = c .before .loop .inv .lengths
+
+returns-2 : tie.Need-returns-2 Inv-loop μ-loop
+returns-2 c = sown-end (c .before .loop .inv) (c .loop-test .left)
+
+pub seed-spec : {M : Type 1} → statement M
+seed-spec =
+    tie.close
+    (tie.spec
+    Inv-loop
+    μ-loop
+    loop-holds
+    mul-seed-match
+    shared-slice-read-seed-match
+    mul-seed-match-2
+    shared-slice-read-seed-match-2
+    seed-match-requires
+    enum-known-s
+    enum-told
+    same-length
+    returns
+    add-k
+    loop-less
+    loop-again
+    same-length-2
+    returns-2)

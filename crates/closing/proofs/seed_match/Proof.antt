@@ -1,0 +1,59 @@
+-- `seed_match` meets its contract: the two ends are added, or the set and one end more overflow it. Assumes nothing.
+use borrow.Author.Needs.{needs}
+use Rattle.closing.proofs.Seeds.{two-added, one-full}
+use Rattle.closing.proofs.seed_match.Statement.{statement}
+use Rattle.closing.proofs.seed_match.Tie as tie
+
+add-requires : tie.Need-add-requires
+add-requires c κs = search needs
+
+enum-known-s : tie.Need-enum-known-s
+enum-known-s c = search needs
+
+add-add : tie.Need-add-add
+add-add c = search needs
+
+add-requires-2 : tie.Need-add-requires-2
+add-requires-2 c κs =
+    let at-add = c .before .before .before .before .before .before in
+    let added = rw (c .before .before .s .given .1) at (at-add .add .ensures) in
+    added .stored .good
+
+enum-told : tie.Need-enum-told
+enum-told c = search needs
+
+same-length : tie.Need-same-length
+same-length c = search needs
+
+returns : tie.Need-returns
+returns c =
+    let at-add = c .before .before .before .before .before .before .before .before .before in
+    let at-start = at-add .before .before .before in
+    let added = rw (c .before .before .before .before .before .s .given .1) at (at-add .add .ensures) in
+    let second = c .before .before .add2 in
+    two-added (at-start .args .work .now) (at-start .args .set) (second .last .0) (at-start .args .left)
+    (at-start .args .length) (at-start .pre .0) added (second .result) (second .ensures)
+
+same-length-2 : tie.Need-same-length-2
+same-length-2 c = search needs
+
+returns-2 : tie.Need-returns-2
+returns-2 c =
+    let at-add = c .before .before .before .before in
+    let at-start = at-add .before .before .before in
+    let full = rw (c .enum-told .given .1) at (at-add .add .ensures) in
+    one-full (at-start .args .length) (at-start .pre .0) (full .0)
+
+pub seed-match-spec : {M : Type 1} → statement M
+seed-match-spec =
+    tie.close
+    (tie.spec
+    add-requires
+    enum-known-s
+    add-add
+    add-requires-2
+    enum-told
+    same-length
+    returns
+    same-length-2
+    returns-2)

@@ -1,0 +1,123 @@
+// All cuts: the ends of the matches, carried until neither side gains one.
+use cut_set::Added;
+use cut_set::CutSet;
+use stepping::Closing;
+use stepping::Cuts;
+use stepping::a_step;
+use stepping::b_step;
+ghost use Prim.Native.Nat.{_+_, _*_, _^_, _≤_, _<_};
+ghost use lib.ListN.{length};
+ghost use Rattle.refinement.specs.declared.Side.{Side};
+ghost use Rattle.cut_set.specs.Store.{Good};
+ghost use Rattle.refining.specs.Columns.{Fit, Ends, matchesOf};
+ghost use Rattle.stepping.specs.Engine.{Open};
+ghost use Rattle.closing.specs.AllCuts.{EndAt, EndOf, Seeding, Closure};
+
+// The cuts of A, or that every resolved refinement has more pieces than the capacity.
+pub enum Closed {
+    CutsOfA(CutSet),
+    TooMany,
+}
+
+// How many calls of the steps may stand on the stack at once.
+const BUDGET: u32 = 64;
+
+// Adds the two A ends of every match. Those of B are found by carrying them.
+fn seed(left_a: &[u32], lengths: &[u32], work: &mut [u32], set: CutSet) -> Added
+    requires { ⌜ Ends (now «left_a») (now lengths) ⌝ }
+    requires { ⌜ Good (now work) set ⌝ }
+    ensures { λ r. ⌜
+        Seeding (EndOf (now («left_a» .entry)) (now (lengths .entry)) (length (now (lengths .entry))))
+        (now (work .entry)) set (now (work .exit)) r ⌝ }
+{
+    let mut a = set;
+    let mut k = 0;
+    while k < lengths.len() {
+        match seed_match(work, a, left_a[k], lengths[k]) {
+            Added::Held(s) => a = s,
+            Added::Full => return Added::Full,
+        }
+        k += 1;
+    }
+    Added::Held(a)
+}
+
+fn seed_match(work: &mut [u32], set: CutSet, left: u32, length: u32) -> Added
+    requires { ⌜ Good (now work) set ⌝ }
+    requires { ⌜ left + length < 2 ^ 32 ⌝ }
+    ensures { λ r. ⌜ Seeding (EndAt left length) (now (work .entry)) set (now (work .exit)) r ⌝ }
+{
+    match cut_set::add(work, set, left) {
+        Added::Held(s) => cut_set::add(work, s, left + length),
+        Added::Full => Added::Full,
+    }
+}
+
+// Goes on with the step that is due until nothing new is left.
+fn drive(
+    left_a: &[u32],
+    left_b: &[u32],
+    lengths: &[u32],
+    reversed: &[bool],
+    work: &mut [u32],
+    cuts: Cuts,
+    capacity: usize,
+) -> Closed
+    requires { ⌜ Fit (now «left_a») (now «left_b») (now lengths) (now reversed) ⌝ }
+    requires { ⌜ Open (now «left_a») (now «left_b») (now lengths) (now reversed) capacity (now work) cuts Side.A ⌝ }
+    ensures { λ r. ⌜
+        Closure
+        (matchesOf (now («left_a» .entry)) (now («left_b» .entry)) (now (lengths .entry)) (now (reversed .entry)))
+        capacity (now (work .exit)) r ⌝ }
+{
+    let mut closing = Closing::MoreA(cuts);
+    loop {
+        let now = closing;
+        match now {
+            Closing::Done(c) => {
+                let a = c.a;
+                return Closed::CutsOfA(a);
+            }
+            Closing::TooMany => return Closed::TooMany,
+            Closing::MoreA(c) => {
+                closing = a_step(left_a, left_b, lengths, reversed, work, c, capacity, BUDGET);
+            }
+            Closing::MoreB(c) => {
+                closing = b_step(left_a, left_b, lengths, reversed, work, c, capacity, BUDGET);
+            }
+        }
+    }
+}
+
+// The cuts of A in the first half of 4 * capacity places of the work buffer; those of B have the second half.
+pub fn close(
+    left_a: &[u32],
+    left_b: &[u32],
+    lengths: &[u32],
+    reversed: &[bool],
+    work: &mut [u32],
+    capacity: usize,
+) -> Closed
+    requires { ⌜ Fit (now «left_a») (now «left_b») (now lengths) (now reversed) ⌝ }
+    requires { ⌜ 4 * capacity ≤ length (now work) ⌝ }
+    requires { ⌜ length (now lengths) ≤ 4294967296 ⌝ }
+    ensures { λ r. ⌜
+        Closure
+        (matchesOf (now («left_a» .entry)) (now («left_b» .entry)) (now (lengths .entry)) (now (reversed .entry)))
+        capacity (now (work .exit)) r ⌝ }
+{
+    let a = cut_set::empty(work, 0, 2 * capacity);
+    let b = cut_set::empty(work, 2 * capacity, 4 * capacity);
+    match seed(left_a, lengths, work, a) {
+        Added::Full => Closed::TooMany,
+        Added::Held(seeded) => {
+            let cuts = Cuts {
+                a: seeded,
+                b: b,
+                hits_a: 0,
+                hits_b: 0,
+            };
+            drive(left_a, left_b, lengths, reversed, work, cuts, capacity)
+        }
+    }
+}

@@ -1,0 +1,105 @@
+-- What is put is a text, if its words and lines are put one behind the other.
+--     put-none             nothing is put
+--     put-three, put-five, put-eight     lines of so many words
+--     put-refused          the line of a refusal
+--     put-parts            the text of a table
+--     row-lines-more       the lines of the first rows, with one more
+--     class-lines-more     and of the first classes
+-- Assumes nothing.
+use Prim.Native.Nat.{ℕ, suc, _+_, _<_}
+use mathlib.Core.Path.{_≡_, refl, sym, ap, _∙_}
+use mathlib.Core.List.{List, [], _∷_, _++_, append-assoc, append-nil}
+use native.Mathlib.Omega.{arith}
+use native.Mathlib.Nat.{add-zero}
+use native.Mathlib.Numerals.{add-one}
+use lib.ListN.{length, getD, take}
+use lib.Seq.{take-suc, length-take-le}
+use Rattle.script.specs.Refusals.{numberOf, placeOf}
+use Rattle.script.specs.declared.refusal.Refusal.{Refusal}
+use Rattle.rows.specs.Rows.{rowAt}
+use Rattle.table.specs.Summing.{summaryOfRows}
+use Rattle.rows.specs.declared.Row.{Row}
+use Rattle.table.specs.declared.summing.Summary.{Summary}
+use Rattle.rows.proofs.TableRows.{take-more}
+use Rattle.text.specs.Decimal.{decimal}
+use Rattle.text.specs.Putting.{Put}
+use Rattle.text.proofs.Stores.{put-then, put-same}
+use Rattle.reporting.specs.Lines.{refused, line, refusalText, lengthsLine, summaryLine, rowLine, rowLines}
+use Rattle.reporting.specs.Lines.{classLine, classLines, tableText}
+
+pub put-none : (t : List ℕ) (at : ℕ) → Put [] t at t at
+put-none t at = record { place = omega arith; stored = refl }
+
+-- ---- lines
+
+pub put-three : (w a b t₀ t₁ t₂ : List ℕ) (k₀ k₁ k₂ : ℕ) → Put ((w ++ 32 ∷ []) ++ (a ++ 32 ∷ [])) t₀ k₀ t₁ k₁
+    → Put (b ++ 10 ∷ []) t₁ k₁ t₂ k₂
+    → Put (line (w ∷ a ∷ b ∷ [])) t₀ k₀ t₂ k₂
+put-three w a b t₀ t₁ t₂ k₀ k₁ k₂ p q = put-same (simp append-assoc) (put-then p q)
+
+pub put-refused :
+    (r : Refusal) {n p k₀ k₁ k₂ : ℕ} {t₀ t₁ t₂ : List ℕ} → n ≡ numberOf r → p ≡ placeOf r
+    → Put ((refused ++ 32 ∷ []) ++ (decimal n ++ 32 ∷ [])) t₀ k₀ t₁ k₁
+    → Put (decimal p ++ 10 ∷ []) t₁ k₁ t₂ k₂
+    → Put (refusalText r) t₀ k₀ t₂ k₂
+put-refused r {n} {p} number place x y =
+    rw (← number, ← place) (put-three refused (decimal n) (decimal p) _ _ _ _ _ _ x y)
+
+pub put-five :
+    {t₀ t₁ t₂ t₃ t₄ t₅ : List ℕ} {k₀ k₁ k₂ k₃ k₄ k₅ : ℕ} (a b c d e : List ℕ) → Put (a ++ 32 ∷ []) t₀ k₀ t₁ k₁
+    → Put (b ++ 32 ∷ []) t₁ k₁ t₂ k₂
+    → Put (c ++ 32 ∷ []) t₂ k₂ t₃ k₃
+    → Put (d ++ 32 ∷ []) t₃ k₃ t₄ k₄
+    → Put (e ++ 10 ∷ []) t₄ k₄ t₅ k₅
+    → Put (line (a ∷ b ∷ c ∷ d ∷ e ∷ [])) t₀ k₀ t₅ k₅
+put-five a b c d e p q r s u = put-same (simp append-assoc) (put-then (put-then (put-then (put-then p q) r) s) u)
+
+pub put-eight :
+    (v w x y a b c d t₀ t₁ t₂ t₃ t₄ : List ℕ) (k₀ k₁ k₂ k₃ k₄ : ℕ)
+    → Put ((v ++ 32 ∷ []) ++ (a ++ 32 ∷ [])) t₀ k₀ t₁ k₁
+    → Put ((w ++ 32 ∷ []) ++ (b ++ 32 ∷ [])) t₁ k₁ t₂ k₂
+    → Put ((x ++ 32 ∷ []) ++ (c ++ 32 ∷ [])) t₂ k₂ t₃ k₃
+    → Put ((y ++ 32 ∷ []) ++ (d ++ 10 ∷ [])) t₃ k₃ t₄ k₄
+    → Put (line (v ∷ a ∷ w ∷ b ∷ x ∷ c ∷ y ∷ d ∷ [])) t₀ k₀ t₄ k₄
+put-eight v w x y a b c d t₀ t₁ t₂ t₃ t₄ k₀ k₁ k₂ k₃ k₄ p q r s =
+    put-same (simp append-assoc) (put-then (put-then (put-then p q) r) s)
+
+pub put-parts :
+    (p q count : ℕ) (rs : List Row) {s : Summary} {t₀ t₁ t₂ t₃ t₄ : List ℕ} {k₁ k₂ k₃ k₄ : ℕ} → s ≡ summaryOfRows rs
+    → Put (lengthsLine p q) t₀ 0 t₁ k₁
+    → Put (summaryLine count s) t₁ k₁ t₂ k₂
+    → Put (rowLines rs) t₂ k₂ t₃ k₃
+    → Put (classLines 0 (s .classes)) t₃ k₃ t₄ k₄
+    → Put (tableText p q count rs) t₀ 0 t₄ k₄
+put-parts p q count rs e a b c d =
+    let text : Summary → List ℕ =
+    λ s. lengthsLine p q ++ summaryLine count s ++ rowLines rs ++ classLines 0 (s .classes) in
+    put-same (ap text e) (put-then (put-then (put-then a b) c) d)
+
+-- ---- one line more
+
+row-lines-last : (rs : List Row) (r : Row) → rowLines (rs ++ r ∷ []) ≡ rowLines rs ++ rowLine r
+unfolding rowLines
+row-lines-last [] r = append-nil (rowLine r)
+row-lines-last (x ∷ rs) r = rw (row-lines-last rs r) (sym (append-assoc (rowLine x) (rowLines rs) (rowLine r)))
+
+pub row-lines-more : (rs : List Row) (k : ℕ) {r : Row} → k < length rs → r ≡ rowAt rs k
+    → rowLines (take k rs) ++ rowLine r ≡ rowLines (take (k + 1) rs)
+row-lines-more rs k h e = rw (e, take-more rs k h) (sym (row-lines-last (take k rs) (rowAt rs k)))
+
+class-lines-last : (c : ℕ) (ns : List ℕ) (n : ℕ)
+    → classLines c (ns ++ n ∷ []) ≡ classLines c ns ++ classLine (c + length ns) n
+unfolding classLines
+class-lines-last c [] n = simp (append-nil, add-zero)
+class-lines-last c (x ∷ ns) n =
+    rw (class-lines-last (suc c) ns n)
+    (sym (append-assoc (classLine c x) (classLines (suc c) ns) (classLine (suc c + length ns) n))
+    ∙ ap (λ (k : ℕ). classLine c x ++ classLines (suc c) ns ++ classLine k n) (omega arith))
+
+pub class-lines-more : (ns : List ℕ) (k : ℕ) → k < length ns
+    → classLines 0 (take k ns) ++ classLine k (getD ns k 0) ≡ classLines 0 (take (k + 1) ns)
+class-lines-more ns k h =
+    let here : 0 + length (take k ns) ≡ k = omega (arith, length-take-le k ns (omega arith)) in
+    rw (add-one, take-suc ns k 0)
+    (sym (class-lines-last 0 (take k ns) (getD ns k 0)
+    ∙ ap (λ (j : ℕ). classLines 0 (take k ns) ++ classLine j (getD ns k 0)) here))

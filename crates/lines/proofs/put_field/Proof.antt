@@ -1,0 +1,27 @@
+-- `put_field` meets its contract: the byte stands behind the number's digits. Assumes nothing.
+use native.Mathlib.Omega.{arith}
+use borrow.Author.Needs.{needs}
+use Rattle.text.proofs.Digits.{decimal-short}
+use Rattle.text.proofs.Stores.{put-then}
+use Rattle.lines.proofs.put_field.Statement.{statement}
+use Rattle.lines.proofs.put_field.Tie as tie
+
+put-number-requires : tie.Need-put-number-requires
+put-number-requires c κs = search needs
+
+put-byte-requires : tie.Need-put-byte-requires
+put-byte-requires c κs =
+    let digits = c .before .before .before in
+    omega (arith, decimal-short (digits .before .before .before .args .number))
+
+same-length : tie.Need-same-length
+same-length c = search needs
+
+returns : tie.Need-returns
+returns c =
+    let digits = c .before .before .before .before .before .before in
+    let start = digits .before .before .before in
+    (search (needs, put-then), omega (arith, decimal-short (start .args .number)))
+
+pub put-field-spec : {M : Type 1} → statement M
+put-field-spec = tie.close (tie.spec put-number-requires put-byte-requires same-length returns)

@@ -1,0 +1,159 @@
+// The lines of the text. Each is put into a lent buffer from a place on, and the place behind it is returned; what does
+// not fit is passed over and only counted.
+use refusals::number_of;
+use refusals::place_of;
+use rows::Row;
+use rows::row_at;
+use rows::row_count;
+use script::Refusal;
+use table::Summary;
+use text::put_byte;
+use text::put_bytes;
+use text::put_number;
+ghost use mathlib.Core.Path.{_≡_};
+ghost use mathlib.Core.List.{[], _∷_, _++_};
+ghost use Prim.Native.Nat.{_+_, _*_, _≤_};
+ghost use lib.ListN.{length};
+ghost use Rattle.rows.specs.Rows.{rowsOf};
+ghost use Rattle.table.specs.Summing.{summaryOf};
+ghost use Rattle.text.specs.Decimal.{decimal};
+ghost use Rattle.text.specs.Putting.{Put};
+ghost use Rattle.reporting.specs.Lines.{refusalText, sign, lengthsLine, summaryLine, rowLine, rowLines, classLine};
+ghost use Rattle.reporting.specs.Lines.{classLines, tableText};
+ghost use Rattle.reporting.specs.Reporting.{lentRows, longestText};
+
+// A number in decimal, and a byte behind it.
+fn put_field(text: &mut [u8], at: usize, number: u64, after: u8) -> usize
+    requires { ⌜ at + 21 ≤ longestText ⌝ }
+    ensures { λ r. ⌜ Put (decimal number ++ after ∷ []) (now (text .entry)) at (now (text .exit)) r ⌝ }
+    ensures { λ r. ⌜ r ≤ at + 21 ⌝ }
+{
+    let next = put_number(text, at, number);
+    put_byte(text, next, after)
+}
+
+// A word, a number in decimal, and a byte behind it.
+fn put_entry(text: &mut [u8], at: usize, word: &[u8], number: u64, after: u8) -> usize
+    requires { ⌜ at + length (now word) + 21 ≤ longestText ⌝ }
+    ensures { λ r. ⌜
+        Put (now (word .entry) ++ (decimal number ++ after ∷ [])) (now (text .entry)) at (now (text .exit)) r ⌝ }
+    ensures { λ r. ⌜ r ≤ at + length (now (word .entry)) + 21 ⌝ }
+{
+    let next = put_bytes(text, at, word);
+    put_field(text, next, number, after)
+}
+
+// The one line of a refusal.
+pub fn put_refusal(text: &mut [u8], refusal: Refusal) -> usize
+    ensures { λ r. ⌜ Put (refusalText refusal) (now (text .entry)) 0 (now (text .exit)) r ⌝ }
+{
+    let next = put_entry(text, 0, b"refused ", number_of(refusal) as u64, b' ');
+    put_field(text, next, place_of(refusal) as u64, b'\n')
+}
+
+// The first line of a table.
+fn put_lengths(text: &mut [u8], p: u32, q: u32) -> usize
+    ensures { λ r. ⌜ Put (lengthsLine p q) (now (text .entry)) 0 (now (text .exit)) r ⌝ }
+    ensures { λ r. ⌜ r ≤ 50 ⌝ }
+{
+    let next = put_entry(text, 0, b"lengths ", p as u64, b' ');
+    put_field(text, next, q as u64, b'\n')
+}
+
+// The second line.
+fn put_summary(text: &mut [u8], at: usize, count: usize, summary: Summary) -> usize
+    requires { ⌜ at + 116 ≤ longestText ⌝ }
+    ensures { λ r. ⌜ Put (summaryLine count summary) (now (text .entry)) at (now (text .exit)) r ⌝ }
+    ensures { λ r. ⌜ r ≤ at + 116 ⌝ }
+{
+    let matches = put_entry(text, at, b"matches ", count as u64, b' ');
+    let pieces = put_entry(text, matches, b"pieces ", summary.pieces as u64, b' ');
+    let distinct = put_entry(text, pieces, b"distinct ", summary.distinct as u64, b' ');
+    put_entry(text, distinct, b"letters ", summary.letters, b'\n')
+}
+
+// The last word of a row's line.
+fn put_sign(text: &mut [u8], at: usize, direction: u32) -> usize
+    requires { ⌜ at + 2 ≤ longestText ⌝ }
+    ensures { λ r. ⌜ Put (sign direction ++ 10 ∷ []) (now (text .entry)) at (now (text .exit)) r ⌝ }
+{
+    if direction == 0 {
+        return put_bytes(text, at, b"+\n");
+    }
+    put_bytes(text, at, b"-\n")
+}
+
+// The line of a row.
+fn put_row(text: &mut [u8], at: usize, row: Row) -> usize
+    requires { ⌜ at + 86 ≤ longestText ⌝ }
+    ensures { λ r. ⌜ Put (rowLine row) (now (text .entry)) at (now (text .exit)) r ⌝ }
+{
+    let number = put_field(text, at, row.number as u64, b' ');
+    let left_a = put_field(text, number, row.left_a as u64, b' ');
+    let left_b = put_field(text, left_a, row.left_b as u64, b' ');
+    let length = put_field(text, left_b, row.length as u64, b' ');
+    put_sign(text, length, row.direction)
+}
+
+// The lines of all rows of a table.
+fn put_rows(text: &mut [u8], at: usize, table: &[u32]) -> usize
+    requires { ⌜ at + 86 * length (rowsOf (now table)) ≤ longestText ⌝ }
+    ensures { λ r. ⌜ Put (rowLines (rowsOf (now (table .entry)))) (now (text .entry)) at (now (text .exit)) r ⌝ }
+    ensures { λ r. ⌜ r ≤ at + 86 * length (rowsOf (now (table .entry))) ⌝ }
+{
+    let rows = row_count(table);
+    let mut next = at;
+    let mut k: usize = 0;
+    while k < rows {
+        next = put_row(text, next, row_at(table, k));
+        k += 1;
+    }
+    next
+}
+
+// The line of a class, if it has pieces.
+fn put_class(text: &mut [u8], at: usize, class: usize, count: usize) -> usize
+    requires { ⌜ at + 48 ≤ longestText ⌝ }
+    ensures { λ r. ⌜ Put (classLine class count) (now (text .entry)) at (now (text .exit)) r ⌝ }
+{
+    if count == 0 {
+        return at;
+    }
+    let next = put_entry(text, at, b"class ", class as u64, b' ');
+    put_field(text, next, count as u64, b'\n')
+}
+
+// The lines of all classes.
+fn put_classes(text: &mut [u8], at: usize, counts: &[usize]) -> usize
+    requires { ⌜ at + 48 * length (now counts) ≤ longestText ⌝ }
+    ensures { λ r. ⌜ Put (classLines 0 (now (counts .entry))) (now (text .entry)) at (now (text .exit)) r ⌝ }
+{
+    let mut next = at;
+    let mut class: usize = 0;
+    while class < counts.len() {
+        next = put_class(text, next, class, counts[class]);
+        class += 1;
+    }
+    next
+}
+
+// The whole text of a table. The summary is handed over, because one run puts the text twice.
+pub fn put_table(
+    text: &mut [u8],
+    p: u32,
+    q: u32,
+    count: usize,
+    table: &[u32],
+    summary: Summary,
+) -> usize
+    requires { ⌜ summary ≡ summaryOf (now table) ⌝ }
+    requires { ⌜ length (rowsOf (now table)) ≤ lentRows ⌝ }
+    ensures { λ r. ⌜
+        Put (tableText p q count (rowsOf (now (table .entry)))) (now (text .entry)) 0 (now (text .exit)) r ⌝ }
+{
+    let lengths = put_lengths(text, p, q);
+    let head = put_summary(text, lengths, count, summary);
+    let rows = put_rows(text, head, table);
+    let classes = summary.classes;
+    put_classes(text, rows, &classes[..])
+}

@@ -1,0 +1,77 @@
+use Prim.Native.Nat.{_+_, _-_, _≤_}
+use mathlib.Core.Bool.{not}
+use mathlib.Core.Path.{_≡_, ap}
+use native.Mathlib.Omega.{arith}
+use lib.ListN.{length, drop}
+use borrow.Author.Needs.{needs}
+use borrow.Author.Tests.{eq-eqb, ne-eqb}
+use Rattle.table.proofs.Runs.{leading-more, leading-stop, leading-none}
+use Rattle.rows.specs.Rows.{rowsOf}
+use Rattle.table.specs.Finding.{numberedElse, before}
+use Rattle.match_rows.proofs.rows_before.Statement.{statement}
+use Rattle.match_rows.proofs.rows_before.Tie as tie
+
+abbrev Inv-loop : tie.InvT-loop
+Inv-loop table number rows k₀ k =
+    (k ≤ length (rowsOf table)) × (before number (rowsOf table) ≡ k + before number (drop k (rowsOf table)))
+
+abbrev μ-loop : tie.MeasureT-loop
+μ-loop table number rows k₀ k = rows - k
+
+row-count-requires : tie.Need-row-count-requires Inv-loop μ-loop
+row-count-requires c κs = search needs
+
+loop-holds : tie.Need-loop-holds Inv-loop μ-loop
+loop-holds c = search needs
+
+row-at-requires : tie.Need-row-at-requires Inv-loop μ-loop
+row-at-requires c κs = search needs
+
+returns : tie.Need-returns Inv-loop μ-loop
+returns c =
+    let row = c .before .before in
+    let now = row .before .before in
+    let at = now .before .before .before .args in
+    let rs = rowsOf (at .table .now) in
+    let stop = ap not (eq-eqb (row .row-at .result .number) (at .number) (c .if1 .taken)) in
+    omega (arith, leading-stop (numberedElse (at .number)) rs (now .loop .k) (omega arith) (row .row-at .ensures) stop)
+
+add-k : tie.Need-add-k Inv-loop μ-loop
+add-k c = search needs
+
+loop-less : tie.Need-loop-less Inv-loop μ-loop
+loop-less c = search needs
+
+loop-again : tie.Need-loop-again Inv-loop μ-loop
+loop-again c =
+    let row = c .before .before in
+    let now = row .before .before in
+    let at = now .before .before .before .args in
+    let rs = rowsOf (at .table .now) in
+    let else = numberedElse (at .number) in
+    let more = ap not (ne-eqb (row .row-at .result .number) (at .number) (c .if1 .left)) in (
+      omega arith,
+      omega (arith, leading-more else rs (now .loop .k) (omega arith) (row .row-at .ensures) more),
+    )
+
+returns-2 : tie.Need-returns-2 Inv-loop μ-loop
+returns-2 c =
+    let now = c .before in
+    let at = now .before .before .before .args in
+    let rs = rowsOf (at .table .now) in
+    omega (arith, leading-none (numberedElse (at .number)) rs (now .loop .k) (omega arith))
+
+pub rows-before-spec : {M : Type 1} → statement M
+rows-before-spec =
+    tie.close
+    (tie.spec
+    Inv-loop
+    μ-loop
+    row-count-requires
+    loop-holds
+    row-at-requires
+    returns
+    add-k
+    loop-less
+    loop-again
+    returns-2)

@@ -1,0 +1,181 @@
+-- What the reader's loop keeps: the commands passed are good, and the columns hold their matches.
+--     rest-drop           a part of a slice from an offset to the end is the remainder
+--     Columns             the columns hold these matches, and blanks behind them
+--     columns-start       none at the start
+--     columns-taken       one more match, stored at the count
+--     next-reach          the match that a step takes leads one good command further
+-- Assumes nothing.
+use Prim.Native.Nat.{ℕ, suc, _+_, _-_, _<_}
+use mathlib.Core.Path.{_≡_, refl, sym, ap, subst, _∙_}
+use mathlib.Core.Bool.{Bool, false}
+use mathlib.Core.List.{List, [], _∷_, _++_, map, map-append}
+use native.Mathlib.Omega.{arith}
+use native.Mathlib.Decide.{decLe}
+use native.Mathlib.Nat.{lt-of-not-le}
+use lib.ListN.{length, take, drop, set, replicate, length-drop, length-append, length-map}
+use lib.Seq.{take-all, set-at, append-snoc}
+use Rattle.script.specs.Limits.{mostMatches}
+use Rattle.script.specs.Commands.{numberAt, commandOf}
+use Rattle.script.specs.Steps.{openingOf, stepOf}
+use Rattle.script.specs.Reading.{refused, column, readScript, scriptOf}
+use Rattle.script.specs.Outcomes.{MatchAt, LengthsAt, Reach, opened, taken}
+use Rattle.script.specs.declared.refusal.Refusal.{Refusal}
+use Rattle.script.specs.declared.command.Match.{Match}
+use Rattle.script.specs.declared.command.Command.{Command}
+use Rattle.script.specs.declared.step.Opening.{Opening}
+use Rattle.script.specs.declared.step.Step.{Step}
+use Rattle.script.specs.declared.Verdict.{Verdict}
+use Rattle.script.proofs.Seen.{Seen, seen}
+use Rattle.script.proofs.Outcome.{reach-place, reach-ends, opening-at}
+use Rattle.script.proofs.Judged.{Judged, judged, short-room, short-full, Opens, opens}
+
+pub rest-drop : (s : List ℕ) (at : ℕ) → take (length s - at) (drop at s) ≡ drop at s
+rest-drop s at = take-all (length s - at) (drop at s) (omega (arith, length-drop at s))
+
+-- ---- the columns
+
+column-taken : {X : Type 0} (blank : X) (field : Match → X) (ms : List Match) (m : Match) → length ms < mostMatches
+    → set (column blank field ms) (length ms) (field m) ≡ column blank field (ms ++ m ∷ [])
+column-taken blank field ms m room =
+    let left : ℕ = mostMatches - length (ms ++ m ∷ []) in
+    let one-less : mostMatches - length ms ≡ suc left = omega (arith, length-append ms (m ∷ [])) in
+    rw (one-less, map-append)
+    (set-at (map field ms) blank (replicate left blank) (field m) (length ms) (length-map ms field)
+    ∙ sym (append-snoc (map field ms) (field m) (replicate left blank)))
+
+pub record Columns (ms : List Match) (count : ℕ) (left-a left-b letters : List ℕ) (reversed : List Bool) : Type 0 where
+  pub counted : length ms ≡ count
+  pub left-a-held : left-a ≡ column 0 (λ m. m .«left_a») ms
+  pub left-b-held : left-b ≡ column 0 (λ m. m .«left_b») ms
+  pub letters-held : letters ≡ column 0 (λ m. m .length) ms
+  pub reversed-held : reversed ≡ column false (λ m. m .reversed) ms
+
+pub columns-taken : {ms : List Match} {count : ℕ} {left-a left-b letters : List ℕ} {reversed : List Bool}
+    → Columns ms count left-a left-b letters reversed → (m : Match) → length ms < mostMatches
+    → Columns (ms ++ m ∷ []) (count + 1)
+    (set left-a count (m .«left_a»)) (set left-b count (m .«left_b»))
+    (set letters count (m .length)) (set reversed count (m .reversed))
+columns-taken {ms} {count} h m room =
+    record {
+      counted = length-append ms (m ∷ []) ∙ ap (λ (n : ℕ). n + 1) (h .counted);
+      left-a-held = rw (h .left-a-held, ← h .counted) (column-taken 0 (λ m. m .«left_a») ms m room);
+      left-b-held = rw (h .left-b-held, ← h .counted) (column-taken 0 (λ m. m .«left_b») ms m room);
+      letters-held = rw (h .letters-held, ← h .counted) (column-taken 0 (λ m. m .length) ms m room);
+      reversed-held = rw (h .reversed-held, ← h .counted) (column-taken false (λ m. m .reversed) ms m room);
+    }
+
+-- ---- the commands passed
+
+-- what holds of the match that a step takes, if it takes one
+abbrev Next : (Match → Type 0) → Step → Type 0
+Next P (Step.Refuse r) = Unit
+Next P Step.Finish = Unit
+Next P (Step.Take m) = P m
+
+match-next : {s : List ℕ} {p q at : ℕ} {ms : List Match} {m : Match} {t : Step} → Reach s p q at ms → MatchAt s at m
+    → Judged p q (length ms) at m t → Next (λ n. Reach s p q (at + 13) (ms ++ n ∷ [])) t
+match-next r d (Judged.too-many _) = tt
+match-next r d (Judged.empty _ _) = tt
+match-next r d (Judged.beyond-a _ _ _) = tt
+match-next r d (Judged.beyond-b _ _ _ _) = tt
+match-next r d (Judged.good room w) = taken r room d w
+
+step-next : {s : List ℕ} {p q at : ℕ} {ms : List Match} {c : Command} → Reach s p q at ms → Seen s at c
+    → Next (λ n. Reach s p q (at + 13) (ms ++ n ∷ [])) (stepOf p q (length ms) at c)
+step-next r (Seen.missing _) = tt
+step-next r (Seen.unknown _ _ _ _ _) = tt
+step-next r (Seen.lengths _ _) = tt
+step-next r (Seen.lengths-short _ _) = tt
+step-next {p} {q} {at} {ms} r (Seen.pairing {m} d) = match-next r d (judged p q (length ms) at m)
+step-next {ms} r (Seen.pairing-short _ _) =
+    elim (decLe mostMatches (length ms)) [
+      | yes full ↦ rw (short-full full) tt
+      | no room ↦ rw (short-room (lt-of-not-le room)) tt
+    ]
+step-next r (Seen.end _ _) = tt
+step-next r (Seen.end-then-more _ _) = tt
+
+pub next-reach : {s : List ℕ} {p q at : ℕ} {ms : List Match} {m : Match} → Reach s p q at ms
+    → stepOf p q (length ms) at (commandOf (drop at s)) ≡ Step.Take m → Reach s p q (at + 13) (ms ++ m ∷ [])
+next-reach {s} {p} {q} {at} {ms} r e =
+    subst (Next (λ n. Reach s p q (at + 13) (ms ++ n ∷ []))) e (step-next r (seen s at))
+
+-- ---- the first command
+
+-- what holds of the lengths that open a script, if they do
+abbrev Begins : (ℕ → ℕ → Type 0) → Opening → Type 0
+Begins P (Opening.Refuse r) = Unit
+Begins P (Opening.Open p q) = P p q
+
+lengths-begin : {s : List ℕ} {p q : ℕ} {o : Opening} → LengthsAt s p q → Opens p q o
+    → Begins (λ p q. Reach s p q 9 []) o
+lengths-begin l (Opens.open-them a b) = opened l a b
+lengths-begin l (Opens.out-of-range _) = tt
+
+opening-begins : {s : List ℕ} {c : Command} → Seen s 0 c → Begins (λ p q. Reach s p q 9 []) (openingOf c)
+opening-begins (Seen.missing _) = tt
+opening-begins (Seen.unknown _ _ _ _ _) = tt
+opening-begins {s} (Seen.lengths b w) =
+    lengths-begin (record { code = b; whole = w; first = refl; second = refl }) (opens (numberAt s 1) (numberAt s 5))
+opening-begins (Seen.lengths-short _ _) = tt
+opening-begins (Seen.pairing _) = tt
+opening-begins (Seen.pairing-short _ _) = tt
+opening-begins (Seen.end _ _) = tt
+opening-begins (Seen.end-then-more _ _) = tt
+
+pub opening-reach : {s : List ℕ} {p q : ℕ} → openingOf (commandOf s) ≡ Opening.Open p q → Reach s p q 9 []
+opening-reach {s} e = subst (Begins (λ p q. Reach s p q 9 [])) e (opening-begins (seen s 0))
+
+pub opening-refused : (s : List ℕ) {r : Refusal} → openingOf (commandOf s) ≡ Opening.Refuse r → readScript s ≡ refused r
+opening-refused s e = opening-at s (seen s 0) e
+
+-- ---- both together, between two commands
+
+pub record Progress (s : List ℕ) (p q : ℕ) (left-a left-b letters : List ℕ) (reversed : List Bool)
+    (count at : ℕ) : Type 0 where
+  pub matches : List Match
+  pub reach : Reach s p q at matches
+  pub columns : Columns matches count left-a left-b letters reversed
+
+module _ {s : List ℕ} {p q : ℕ} {left-a left-b letters : List ℕ} {reversed : List Bool} {count at : ℕ}
+    (h : Progress s p q left-a left-b letters reversed count at) where
+  -- the loop's two calls compute the step at the offset
+  pub comes : {c : Command} {t t′ : Step} → c ≡ commandOf (take (length s - at) (drop at s))
+      → t ≡ stepOf p q count at c → t ≡ t′
+      → stepOf p q (length (h .matches)) at (commandOf (drop at s)) ≡ t′
+  comes ec et e = rw (h .columns .counted, ← rest-drop s at, ← ec) (sym et ∙ e)
+
+  pub progress-refused : {r : Refusal} → stepOf p q (length (h .matches)) at (commandOf (drop at s)) ≡ Step.Refuse r
+      → readScript s ≡ refused r
+  progress-refused e = reach-ends (h .reach) (seen s at) e
+
+  pub progress-finished : stepOf p q (length (h .matches)) at (commandOf (drop at s)) ≡ Step.Finish
+      → record {
+        verdict = Verdict.Admitted p q count;
+        «left_a» = left-a;
+        «left_b» = left-b;
+        length = letters;
+        reversed = reversed;
+      }
+      ≡ scriptOf (readScript s)
+  progress-finished e =
+      let held = h .columns in
+      rw (
+        reach-ends (h .reach) (seen s at) e,
+        ← held .counted,
+        held .left-a-held,
+        held .left-b-held,
+        held .letters-held,
+        held .reversed-held,
+      )
+
+  pub progress-taken : {m : Match} → stepOf p q (length (h .matches)) at (commandOf (drop at s)) ≡ Step.Take m
+      → Progress s p q (set left-a count (m .«left_a»)) (set left-b count (m .«left_b»))
+      (set letters count (m .length)) (set reversed count (m .reversed)) (count + 1) (at + 13)
+  progress-taken {m} e =
+      record {
+        matches = h .matches ++ m ∷ [];
+        reach = next-reach (h .reach) e;
+        columns = columns-taken (h .columns) m
+            (omega (arith, reach-place (next-reach (h .reach) e) .1, length-append (h .matches) (m ∷ [])));
+      }

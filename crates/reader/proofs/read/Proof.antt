@@ -1,0 +1,56 @@
+-- `read` meets its contract: the first command decides, or opens the loop. The demand follows from the equation.
+-- Assumes nothing.
+use borrow.Author.Needs.{needs}
+use mathlib.Core.Path.{sym, ap, _∙_}
+use Rattle.script.specs.Steps.{openingOf}
+use Rattle.script.specs.Reading.{scriptOf}
+use Rattle.reader.proofs.Progress.{opening-reach, opening-refused}
+use Rattle.script.proofs.Demands.{reading-contract}
+use Rattle.reader.proofs.read.Statement.{statement}
+use Rattle.reader.proofs.read.Tie as tie
+
+read-command-requires : tie.Need-read-command-requires
+read-command-requires c κs = search needs
+
+judge-opening-requires : tie.Need-judge-opening-requires
+judge-opening-requires c κs = search needs
+
+enum-known-refusal : tie.Need-enum-known-refusal
+enum-known-refusal c = search needs
+
+refused-requires : tie.Need-refused-requires
+refused-requires c κs = search needs
+
+enum-known-p : tie.Need-enum-known-p
+enum-known-p c = search needs
+
+read-matches-requires : tie.Need-read-matches-requires
+read-matches-requires c κs =
+    let called = c .before .before .before in
+    opening-reach (ap openingOf (sym (called .before .read-command .ensures)) ∙ sym (called .judge-opening .ensures)
+    ∙ c .before .p .given .1)
+
+returns : tie.Need-returns
+returns c =
+    let called = c .before .before .before .before in
+    let bytes = called .before .before .before .args .script .now in
+    let opening = ap openingOf (sym (called .before .read-command .ensures)) ∙ sym (called .judge-opening .ensures) in
+    reading-contract bytes
+    (c .refused .ensures ∙ ap scriptOf
+    (sym (opening-refused bytes (opening ∙ c .before .before .refusal .given .1))))
+
+returns-2 : tie.Need-returns-2
+returns-2 c = reading-contract _ (c .read-matches .ensures)
+
+pub read-spec : {M : Type 1} → statement M
+read-spec =
+    tie.close
+    (tie.spec
+    read-command-requires
+    judge-opening-requires
+    enum-known-refusal
+    refused-requires
+    enum-known-p
+    read-matches-requires
+    returns
+    returns-2)

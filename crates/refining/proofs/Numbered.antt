@@ -1,0 +1,148 @@
+-- The matches of an admitted script as the theory has them, and as the columns hold them that the reader returns.
+--     admitted-of        a script that is read as admitted is Admitted
+--     admitted-unique    its matches are no others
+--     admitted-matches   each has a letter, and their numbers rise
+--     numbered-range     numbers from n on, as many as there are matches
+--     columns-numbered   columns of their fields hold them
+--     columns-fit        and are Fit
+--     held-admitted, held-fit     both, of the columns that the reader returns
+-- Assumes nothing.
+use Prim.Native.Nat.{ℕ, zero, suc, _+_, _≤_, _<_}
+use mathlib.Core.Path.{_≡_, refl, sym, ap, ap₂, subst, _∙_}
+use mathlib.Core.Bool.{Bool, false}
+use mathlib.Core.Logic.{⊎-elim}
+use mathlib.Core.List.{List, [], _∷_, map, List·Memᴰ·cases-cons, List·Memᴰ·not-nil}
+use mathlib.Core.List.{List·Memᴰ·head as here, List·Memᴰ·tail as there}
+use native.Mathlib.Omega.{arith}
+use lib.ListN.{length, getD, take, length-map, List·getD-map}
+use Rattle.script.specs.Reading.{admitted, readScript}
+use Rattle.script.specs.Outcomes.{InRange, Within, Outcome}
+use Rattle.script.specs.declared.command.Match.{Match as ScriptMatch}
+use Rattle.script.specs.declared.Script.{Script}
+use Rattle.script.proofs.Outcome.{reach-within, read-outcome, outcome-admitted}
+use Rattle.script.proofs.Admitted.{Holds}
+use Rattle.refinement.specs.Order.{_∈_, Rising}
+use Rattle.refinement.specs.Match.{Match}
+use Rattle.refinement.specs.Refinement.{Matches}
+use Rattle.refining.specs.Columns.{Fit, upFrom, matchAt, matchesOf}
+use Rattle.refining.specs.Refining.{withNumber, numbered}
+use Rattle.refining.specs.Demands.{Admitted, reads}
+
+-- ---- the theory's list
+
+pub numbered-range :
+    {m : Match} (n : ℕ) (ms : List ScriptMatch) → m ∈ numbered n ms
+    → (n ≤ m .number) × (m .number < n + length (numbered n ms))
+numbered-range n [] i = absurd (List·Memᴰ·not-nil i)
+numbered-range n (x ∷ ms) i =
+    ⊎-elim (λ e. omega (arith, ap (λ (z : Match). z .number) e)) (λ j. omega (arith, numbered-range (suc n) ms j))
+    (List·Memᴰ·cases-cons i)
+
+numbered-rises : (n : ℕ) (ms : List ScriptMatch) → Rising (λ m m′. m .number < m′ .number) (numbered n ms)
+numbered-rises n [] = tt
+numbered-rises n (x ∷ ms) = (λ m i. numbered-range (suc n) ms i .0, numbered-rises (suc n) ms)
+
+numbered-lettered : {m : Match} (n : ℕ) (ms : List ScriptMatch) → ((x : ScriptMatch) → x ∈ ms → 1 ≤ x .length)
+    → m ∈ numbered n ms → 1 ≤ m .length
+numbered-lettered n [] h i = absurd (List·Memᴰ·not-nil i)
+numbered-lettered n (x ∷ ms) h i =
+    ⊎-elim (λ e. omega (arith, ap (λ (z : Match). z .length) e, h x (here refl)))
+    (λ j. numbered-lettered (suc n) ms (λ y k. h y (there k)) j) (List·Memᴰ·cases-cons i)
+
+-- ---- admitted scripts
+
+module _ {script : List ℕ} where
+  pub admitted-of :
+      {p q : ℕ} {ms : List ScriptMatch} → readScript script ≡ admitted p q ms → Admitted script (numbered 1 ms)
+  admitted-of e = reads (read-outcome e)
+
+  pub admitted-unique : {ms ms′ : List Match} → Admitted script ms → Admitted script ms′ → ms ≡ ms′
+  admitted-unique (reads {ms = xs} o) (reads {ms = ys} o′) =
+      let e : xs ≡ ys = cc (outcome-admitted o, outcome-admitted o′) in
+      ap (numbered 1) e
+
+  pub admitted-matches : {ms : List Match} → Admitted script ms → Matches ms
+  admitted-matches (reads {ms = ms} (Outcome.is-admitted r b e)) =
+      record {
+        lettered = λ m i. numbered-lettered 1 ms (λ x k. reach-within r k .some) i;
+        numbered = numbered-rises 1 ms;
+      }
+
+-- ---- columns
+
+blank : ScriptMatch
+blank = record { «left_a» = 0; «left_b» = 0; length = 0; reversed = false }
+
+-- if f yields the matches one by one with their numbers, it yields their numbered list
+numbered-map :
+    (f : ℕ → Match) (n : ℕ) (ms : List ScriptMatch)
+    → ((k i : ℕ) → i ≡ n + k → k < length ms → f i ≡ withNumber (suc i) (getD ms k blank))
+    → map f (upFrom n (length ms)) ≡ numbered (suc n) ms
+unfolding upFrom
+numbered-map f n [] h = refl
+numbered-map f n (m ∷ ms) h =
+    ap₂ _∷_ (h 0 n (omega arith) (omega arith))
+    (numbered-map f (suc n) ms (λ k i e below. h (suc k) i (omega arith) (omega arith)))
+
+getD-∈ : {X : Type 0} (xs : List X) (k : ℕ) (d : X) → k < length xs → getD xs k d ∈ xs
+getD-∈ [] k d h = absurd (omega arith)
+getD-∈ (x ∷ xs) zero d h = here refl
+getD-∈ (x ∷ xs) (suc k) d h = there (getD-∈ xs k d (omega arith))
+
+module _ {a b d : List ℕ} {r : List Bool} (ms : List ScriptMatch) (left-a : a ≡ map (λ m. m .«left_a») ms)
+    (left-b : b ≡ map (λ m. m .«left_b») ms) (letters : d ≡ map (λ m. m .length) ms)
+    (reversed : r ≡ map (λ m. m .reversed) ms) where
+  field-at : {X : Type 0} (field : ScriptMatch → X) {column : List X} → column ≡ map field ms → (k : ℕ)
+      → getD column k (field blank) ≡ field (getD ms k blank)
+  field-at field e k = ap (λ l. getD l k (field blank)) e ∙ List·getD-map field ms k blank
+
+  length-of :
+      {X : Type 0} (field : ScriptMatch → X) {column : List X} → column ≡ map field ms → length column ≡ length ms
+  length-of field e = ap length e ∙ length-map ms field
+
+  pub columns-numbered : matchesOf a b d r ≡ numbered 1 ms
+  unfolding matchesOf blank
+  columns-numbered =
+      ap (λ (n : ℕ). map (matchAt a b d r) (upFrom 0 n)) (length-of (λ m. m .length) letters)
+      ∙ numbered-map (matchAt a b d r) 0 ms (λ k i e below.
+      let here : i ≡ k = omega arith in
+      rw (
+        here,
+        field-at (λ m. m .«left_a») left-a k,
+        field-at (λ m. m .«left_b») left-b k,
+        field-at (λ m. m .length) letters k,
+        field-at (λ m. m .reversed) reversed k,
+      ))
+
+  pub columns-fit : {p q : ℕ} → InRange p → InRange q → ((m : ScriptMatch) → m ∈ ms → Within p q m) → Fit a b d r
+  unfolding blank
+  columns-fit {p} {q} rp rq within =
+      let count = length-of (λ m. m .length) letters in
+      let letters-at = field-at (λ m. m .length) letters in
+      let at : (k : ℕ) → k < length d → Within p q (getD ms k blank) =
+      λ k below. within (getD ms k blank) (getD-∈ ms k blank (omega (arith, count))) in
+      record {
+        from-length = length-of (λ m. m .«left_a») left-a ∙ sym count;
+        to-length = length-of (λ m. m .«left_b») left-b ∙ sym count;
+        way-length = length-of (λ m. m .reversed) reversed ∙ sym count;
+        lettered = λ k below. omega (arith, at k below .some, letters-at k);
+        from-fits = λ k below.
+            omega (arith, at k below .in-a, rp .few, letters-at k, field-at (λ m. m .«left_a») left-a k);
+        to-fits = λ k below.
+            omega (arith, at k below .in-b, rq .few, letters-at k, field-at (λ m. m .«left_b») left-b k);
+      }
+
+module _ {script : List ℕ} {s : Script} {p q count : ℕ} (held : Holds script s p q count) where
+  pub held-admitted :
+      Admitted script
+      (matchesOf (take count (s .«left_a»)) (take count (s .«left_b»)) (take count (s .length))
+      (take count (s .reversed)))
+  held-admitted =
+      rw (columns-numbered (held .matches) (held .left-a) (held .left-b) (held .letters) (held .reversed))
+      (admitted-of (held .read))
+
+  pub held-fit :
+      Fit (take count (s .«left_a»)) (take count (s .«left_b»)) (take count (s .length)) (take count (s .reversed))
+  held-fit =
+      columns-fit (held .matches) (held .left-a) (held .left-b) (held .letters) (held .reversed) (held .p-range)
+      (held .q-range) (λ m i. held .within i)

@@ -1,0 +1,89 @@
+-- The numbers of a table name its rows: no two refinements of a script stand in the same numbers, so that the rows of
+-- demand 2 and those of demand 3 are the same.
+--     length-numbers   rows are five numbers each
+--     stand-unique     the refinement that stands at the start of a table
+-- Assumes nothing.
+use Prim.Native.Nat.{ℕ, suc, _*_}
+use mathlib.Core.Path.{_≡_, refl, sym, ap, ap₂, _∙_}
+use mathlib.Core.Bool.{Bool, true, false}
+use mathlib.Core.Logic.{⊎-elim}
+use mathlib.Core.List.{List, [], _∷_, List·Memᴰ·cases-cons, List·Memᴰ·not-nil}
+use mathlib.Core.List.{List·Memᴰ·head as here, List·Memᴰ·tail as there}
+use native.Mathlib.Omega.{arith}
+use lib.ListN.{length}
+use Rattle.script.specs.declared.command.Match.{Match as ScriptMatch}
+use Rattle.refinement.specs.declared.Side.the-variants.{A, B}
+use Rattle.refinement.specs.Order.{_∈_}
+use Rattle.refinement.specs.Match.{Match}
+use Rattle.refinement.specs.Refinement.{Refines}
+use Rattle.refining.specs.Rows.{direction, numbersOf}
+use Rattle.refining.specs.Refining.{numbered}
+use Rattle.refining.specs.Demands.{Admitted, reads, Stand}
+
+pub length-numbers : (rs : List Match) → length (numbersOf rs) ≡ 5 * length rs
+unfolding numbersOf
+length-numbers [] = refl
+length-numbers (r ∷ rs) = omega (arith, length-numbers rs)
+
+-- a match, or a piece of one, between A and B
+record BetweenAB (m : Match) : Type 0 where
+  on-a : m .trackA ≡ 0
+  on-b : m .trackB ≡ 1
+
+numbered-ab : {m : Match} (n : ℕ) (ms : List ScriptMatch) → m ∈ numbered n ms → BetweenAB m
+numbered-ab n [] i = absurd (List·Memᴰ·not-nil i)
+numbered-ab n (x ∷ ms) i =
+    ⊎-elim (λ e. record { on-a = ap (λ (z : Match). z .trackA) e; on-b = ap (λ (z : Match). z .trackB) e })
+    (λ j. numbered-ab (suc n) ms j) (List·Memᴰ·cases-cons i)
+
+admitted-ab : {script : List ℕ} {ms : List Match} {m : Match} → Admitted script ms → m ∈ ms → BetweenAB m
+admitted-ab (reads {ms = xs} o) i = numbered-ab 1 xs i
+
+rows-ab :
+    {script : List ℕ} {ms rs : List Match} → Admitted script ms → Refines ms rs → (r : Match) → r ∈ rs → BetweenAB r
+rows-ab a R r i =
+    let p = R .pieces r i in
+    let m = admitted-ab a (p .1) in
+    record { on-a = p .2 .same-track A ∙ m .on-a; on-b = p .2 .same-track B ∙ m .on-b }
+
+direction-inj : (b b′ : Bool) → direction b ≡ direction b′ → b ≡ b′
+direction-inj false false e = refl
+direction-inj false true e = absurd (omega arith)
+direction-inj true false e = absurd (omega arith)
+direction-inj true true e = refl
+
+numbers-inj :
+    (rs rs′ : List Match) → ((r : Match) → r ∈ rs → BetweenAB r) → ((r : Match) → r ∈ rs′ → BetweenAB r)
+    → numbersOf rs ≡ numbersOf rs′ → rs ≡ rs′
+unfolding numbersOf
+numbers-inj [] [] h h′ e = refl
+numbers-inj [] (r ∷ rs) h h′ e = let z : _≡_ {A = ℕ} 0 1 = cc in absurd (omega arith)
+numbers-inj (r ∷ rs) [] h h′ e = let z : _≡_ {A = ℕ} 0 1 = cc in absurd (omega arith)
+numbers-inj (r ∷ rs) (r′ ∷ rs′) h h′ e =
+    let t = h r (here refl) in
+    let t′ = h′ r′ (here refl) in
+    let number : r .number ≡ r′ .number = cc in
+    let leftA : r .leftA ≡ r′ .leftA = cc in
+    let leftB : r .leftB ≡ r′ .leftB = cc in
+    let letters : r .length ≡ r′ .length = cc in
+    let way : direction (r .reversed) ≡ direction (r′ .reversed) = cc in
+    let reversed = direction-inj (r .reversed) (r′ .reversed) way in
+    let onA = t .on-a ∙ sym (t′ .on-a) in
+    let onB = t .on-b ∙ sym (t′ .on-b) in
+    let later : numbersOf rs ≡ numbersOf rs′ = cc in
+    let same : r ≡ r′ = λ i. record {
+      number = number i;
+      trackA = onA i;
+      leftA = leftA i;
+      trackB = onB i;
+      leftB = leftB i;
+      length = letters i;
+      reversed = reversed i;
+    } in
+    ap₂ _∷_ same (numbers-inj rs rs′ (λ x k. h x (there k)) (λ x k. h′ x (there k)) later)
+
+pub stand-unique :
+    {script table : List ℕ} {ms rs rs′ : List Match} {n : ℕ} → Admitted script ms → Refines ms rs → Refines ms rs′
+    → Stand rs n table → Stand rs′ n table → rs ≡ rs′
+stand-unique {rs = rs} {rs′ = rs′} a R R′ s s′ =
+    numbers-inj rs rs′ (rows-ab a R) (rows-ab a R′) (sym (s .numbers) ∙ s′ .numbers)

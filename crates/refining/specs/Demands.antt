@@ -1,0 +1,141 @@
+-- Demands 1, 2 and 3 on one refining call: on the bytes of the script, the lent table and work buffer before the call,
+-- its answer, and the table and work buffer after it (table′, work′). TO READ: contracts mean what stands here.
+--     answerOf                   the answer in 01's words: a value, or a refusal's number and place
+--     Admitted script ms         the bytes are an admitted script, and ms are its matches, numbered from 1
+--     Fits ms capacity           some resolved refinement of ms has no more rows than the capacity
+--     EveryExceeds ms capacity   every one has more
+--     RefiningOutcome            what may come of a call, by its condition: 01's table of refusals, and a value
+--     Stand rs n table           the table's first n rows are rs
+--     Demand1, Demand2, Demand3  the demands; each field is one sentence
+-- A refinement is a list of rows in any order and of any length; the list [] beside its matches are the marks of
+-- request #106, of which there are none before it. `proofs/Demands` shows that `refiningOf` meets the demands.
+-- Assumes nothing.
+use Prim.Native.Nat.{ℕ, _*_, _≤_, _<_}
+use mathlib.Core.Path.{_≡_}
+use mathlib.Core.Logic.{_↔_, _≢_}
+use mathlib.Core.List.{List, []}
+use lib.ListN.{length, take, drop}
+use Rattle.script.specs.Refusals.{numberOf, placeOf}
+pub use Rattle.script.specs.Answers.{Answer, value, refusal}
+use Rattle.script.specs.Answers.{contents}
+use Rattle.script.specs.Outcomes.{Outcome}
+use Rattle.script.specs.declared.command.Match.{Match as ScriptMatch}
+use Rattle.refinement.specs.Order.{Rising}
+use Rattle.refinement.specs.Match.{Match}
+use Rattle.refinement.specs.Refinement.{ResolvedRefinement, Before, Least}
+use Rattle.refinement.specs.Paper.{Definition1, Definition2}
+use Rattle.refining.specs.Rows.{numbersOf}
+use Rattle.refining.specs.Refining.{numbered, capacityOf, workNeeded, zeroed}
+use Rattle.refining.specs.declared.answers.Refined.{Refined}
+
+-- "Success returns the count of rows"; "A refusal returns its number and a place."
+abbrev pub answerOf : Refined → Answer ℕ
+answerOf (Refined.Rows n) = value n
+answerOf (Refined.Refused r) = refusal (numberOf r) (placeOf r)
+
+-- "A script is admitted if its bytes meet no condition of refusals 1 to 10"; "Matches are numbered from 1 in script
+-- order."
+pub data Admitted (script : List ℕ) : List Match → Type 0 where
+  reads : {p q : ℕ} {ms : List ScriptMatch} → Outcome script (value (contents p q ms)) → Admitted script (numbered 1 ms)
+
+-- "A lent table has room for as many pieces as its capacity."
+pub record Fits (ms : List Match) (capacity : ℕ) : Type 0 where
+  pub rows : List Match
+  pub resolved : ResolvedRefinement ms [] rows
+  pub room : length rows ≤ capacity
+
+-- "every resolved refinement exceeds the capacity"; "every refinement, whether or not it would fit a lent table"
+abbrev pub EveryExceeds : List Match → ℕ → Type 0
+EveryExceeds ms capacity = (rs : List Match) → ResolvedRefinement ms [] rs → capacity < length rs
+
+-- ---- what may come of a call: "Refining: the script, 11, 12."
+
+pub data RefiningOutcome (script table work : List ℕ) : Answer ℕ → Type 0 where
+  -- 1 to 10: the script's own refusal
+  script-refused :
+      {number place : ℕ} → Outcome script (refusal number place)
+      → RefiningOutcome script table work (refusal number place)
+  -- 11: under four numbers per row of capacity
+  work-too-short :
+      {ms : List Match} → Admitted script ms → length work < workNeeded table
+      → RefiningOutcome script table work (refusal 11 0)
+  -- 12: every resolved refinement exceeds the capacity
+  too-many-pieces :
+      {ms : List Match} → Admitted script ms → workNeeded table ≤ length work → EveryExceeds ms (capacityOf table)
+      → RefiningOutcome script table work (refusal 12 0)
+  -- no refusal: the count of rows of a least resolved refinement, for which there is room
+  least-rows :
+      {ms rs : List Match} → Admitted script ms → workNeeded table ≤ length work → ResolvedRefinement ms [] rs
+      → Least ms [] rs → length rs ≤ capacityOf table → RefiningOutcome script table work (value (length rs))
+
+-- ---- demand 1: each refusal under its own condition alone, and what it leaves
+
+pub record Demand1 (script table work : List ℕ) (answer : Answer ℕ) (table′ work′ : List ℕ) : Type 0 where
+  -- the answer is an outcome whose condition is met ..
+  pub stated : RefiningOutcome script table work answer
+  -- .. and any outcome whose condition is met is the answer
+  pub alone : (a : Answer ℕ) → RefiningOutcome script table work a → a ≡ answer
+  -- "Apart from the work buffer under 12 .. a refused call leaves each lent number unaltered."
+  pub refused-table : (number place : ℕ) → answer ≡ refusal number place → table′ ≡ table
+  pub refused-work : (number place : ℕ) → answer ≡ refusal number place → number ≢ 12 → work′ ≡ work
+  -- "The work buffer is all zero after success and after refusal 12."
+  pub crowded-work : (place : ℕ) → answer ≡ refusal 12 place → work′ ≡ zeroed work
+  pub success-work : (n : ℕ) → answer ≡ value n → work′ ≡ zeroed work
+  -- "Numbers past the last row keep their old values."
+  pub past-rows : (n : ℕ) → answer ≡ value n → drop (5 * n) table′ ≡ drop (5 * n) table
+  -- a lent buffer stays as long as it was
+  pub table-length : length table′ ≡ length table
+  pub work-length : length work′ ≡ length work
+
+-- ---- demand 2: a resolved refinement for each admitted script that has room
+
+-- "the table produced is that many rows from the lent table's start"; "A row is five 32-bit numbers"
+pub record Stand (rs : List Match) (n : ℕ) (table : List ℕ) : Type 0 where
+  pub count : n ≡ length rs
+  pub numbers : take (5 * n) table ≡ numbersOf rs
+
+-- the first n rows of the table are a resolved refinement, in the table's order
+pub record Pieces (ms : List Match) (n : ℕ) (table : List ℕ) : Type 0 where
+  pub rows : List Match
+  pub stand : Stand rows n table
+  -- "Rows rise by match number, then by left-A."
+  pub in-order : Rising Before rows
+  -- by 01's words, and by the source's Definitions 1 and 2
+  pub resolved : ResolvedRefinement ms [] rows
+  pub refines-paper : Definition1 ms rows
+  pub resolved-paper : Definition2 rows
+
+pub record Demand2 (script table work : List ℕ) (answer : Answer ℕ) (table′ : List ℕ) : Type 0 where
+  -- an admitted script with enough work, of which some resolved refinement fits, gets a value
+  pub gets :
+      (ms : List Match) → Admitted script ms → workNeeded table ≤ length work → Fits ms (capacityOf table)
+      → (n : ℕ) × (answer ≡ value n)
+  -- no other script does, and none with less work
+  pub no-other-script : (n : ℕ) → answer ≡ value n → (ms : List Match) × Admitted script ms
+  pub no-less-work : (n : ℕ) → answer ≡ value n → workNeeded table ≤ length work
+  -- after a value, the table's first rows are a resolved refinement of the script's matches
+  pub pieces : (n : ℕ) → answer ≡ value n → (ms : List Match) → Admitted script ms → Pieces ms n table′
+
+-- ---- demand 3: the least one, and 12 only where there is no room for any
+
+-- the first n rows of the table are a resolved refinement, and least among all: no other has fewer rows, or lacks a cut
+-- of theirs, and one with as many rows is equal to them. They are the rows of demand 2 (law stand-unique).
+pub record LeastPieces (ms : List Match) (n : ℕ) (table : List ℕ) : Type 0 where
+  pub rows : List Match
+  pub stand : Stand rows n table
+  pub resolved : ResolvedRefinement ms [] rows
+  pub least : Least ms [] rows
+
+pub record Demand3 (script table work : List ℕ) (answer : Answer ℕ) (table′ : List ℕ) : Type 0 where
+  -- there is a resolved refinement of every admitted script
+  pub some : (ms : List Match) → Admitted script ms → (rs : List Match) × ResolvedRefinement ms [] rs
+  -- past the script and 11: the answer is 12 if and only if every resolved refinement has more rows than the capacity
+  pub refuses :
+      (ms : List Match) → Admitted script ms → workNeeded table ≤ length work
+      → (answer ≡ refusal 12 0) ↔ EveryExceeds ms (capacityOf table)
+  -- if it is not 12, it is a value: of the two things one is done
+  pub or-value :
+      (ms : List Match) → Admitted script ms → workNeeded table ≤ length work → answer ≢ refusal 12 0
+      → (count : ℕ) × (answer ≡ value count)
+  -- and then the table holds the least one
+  pub otherwise : (n : ℕ) → answer ≡ value n → (ms : List Match) → Admitted script ms → LeastPieces ms n table′

@@ -1,0 +1,67 @@
+-- What the refining call does, on every script and any two lent buffers. TO READ: contracts mean what stands here.
+--     withNumber n m                a match of a script as one of the theory, with the number n
+--     numbered n ms                 the matches of a script as those of the theory, numbered from n on
+--     capacityOf table              how many rows the lent table has room for
+--     workNeeded table              how many numbers the work buffer needs
+--     zeroed work                   the work buffer, all zero
+--     Refining                      the reply, and what the table and the work buffer hold after the call
+--     refiningOf script table work  all three, by what the script and the two buffers hold before it
+-- 01, "The table and its buffers" and "Refused scripts and calls". Assumes nothing.
+use Prim.Native.Nat.{ℕ, suc, _*_, _/_}
+use mathlib.Core.Bool.{cond}
+use mathlib.Core.List.{List, [], _∷_, _++_}
+use lib.ListN.{length, drop, replicate}
+use lib.Dec.{ltb}
+use Rattle.script.specs.Reading.{Reading, admitted, refused, readScript}
+use Rattle.script.specs.declared.command.Match.{Match as ScriptMatch}
+use Rattle.script.specs.declared.refusal.Refusal.the-variants.{WorkTooShort, TooManyPieces}
+use Rattle.refinement.specs.Match.{Match, matchAB}
+use Rattle.refinement.specs.Least.{leastTable}
+use Rattle.refining.specs.Rows.{numbersOf}
+use Rattle.refining.specs.declared.answers.Refined.{Refined}
+use Rattle.refining.specs.declared.answers.Refined.the-variants.{Rows, Refused}
+
+abbrev pub withNumber : ℕ → ScriptMatch → Match
+withNumber n m = matchAB n (m .«left_a») (m .«left_b») (m .length) (m .reversed)
+
+-- "Matches are numbered from 1 in script order."
+abbrev pub numbered : ℕ → List ScriptMatch → List Match
+numbered n [] = []
+numbered n (m ∷ ms) = withNumber n m ∷ numbered (suc n) ms
+
+-- "The table's capacity is its length divided by five, rounded down."
+abbrev pub capacityOf : List ℕ → ℕ
+capacityOf table = length table / 5
+
+-- "The work buffer needs four numbers for each row of the capacity"
+abbrev pub workNeeded : List ℕ → ℕ
+workNeeded table = 4 * capacityOf table
+
+-- as many numbers as the buffer has, each 0
+abbrev pub zeroed : List ℕ → List ℕ
+zeroed work = replicate (length work) 0
+
+pub record Refining : Type 0 where
+  pub reply : Refined
+  pub table : List ℕ
+  pub work : List ℕ
+
+-- the matches of an admitted script: 11, then 12, then the rows of the least table. "Numbers past the last row keep
+-- their old values. The work buffer is all zero after success and after refusal 12."
+unfoldable pub refiningOfMatches : List Match → List ℕ → List ℕ → Refining
+refiningOfMatches ms table work =
+    let least = leastTable ms [] in
+    let rows = numbersOf least in
+    let over = rows ++ drop (length rows) table in
+    let short : Refining = record { reply = Refused WorkTooShort; table = table; work = work } in
+    let crowded : Refining = record { reply = Refused TooManyPieces; table = table; work = zeroed work } in
+    let written : Refining = record { reply = Rows (length least); table = over; work = zeroed work } in
+    cond (ltb (length work) (workNeeded table)) short (cond (ltb (capacityOf table) (length least)) crowded written)
+
+-- "Refining: the script, 11, 12."; "a refused call leaves each lent number unaltered"
+abbrev pub refiningOfReading : Reading → List ℕ → List ℕ → Refining
+refiningOfReading (refused r) table work = record { reply = Refused r; table = table; work = work }
+refiningOfReading (admitted p q ms) table work = refiningOfMatches (numbered 1 ms) table work
+
+unfoldable pub refiningOf : List ℕ → List ℕ → List ℕ → Refining
+refiningOf script table work = refiningOfReading (readScript script) table work

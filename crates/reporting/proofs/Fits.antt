@@ -1,0 +1,56 @@
+-- The program's text buffer is long enough.
+--     report-fits      no report is longer than longestText ..
+--     report-printed   .. so that the call prints it whole into such a buffer
+-- A table has at most 3,000 rows, because refining writes no more rows than the lent table has room for.
+-- Assumes nothing.
+use Prim.Native.Nat.{ℕ, _*_, _≤_}
+use mathlib.Core.Path.{_≡_, refl}
+use mathlib.Core.List.{List, [], _++_, map}
+use native.Mathlib.Omega.{arith}
+use native.Mathlib.Decide.{decLe}
+use lib.ListN.{length, drop, length-map, length-replicate}
+use borrow.Author.Tests.{le-ltb}
+use Rattle.script.specs.Reading.{Reading, admitted, refused, readScript}
+use Rattle.script.specs.declared.refusal.Refusal.the-variants.{TooManyPieces}
+use Rattle.refinement.specs.Match.{Match}
+use Rattle.refinement.specs.Least.{leastTable}
+use Rattle.rows.specs.Rows.{rowWidth}
+use Rattle.refining.specs.Refining.{capacityOf, numbered, refiningOfMatches}
+use Rattle.reporting.specs.Reporting.{lentRows, lentTable, lentWork, reportOfRefining, reportOfReading, reportOf}
+use Rattle.reporting.specs.Reporting.{reportingOf, longestText}
+use Rattle.reporting.specs.declared.Reported.{Reported}
+use Rattle.reporting.proofs.Bounds.{refusal-text-short, table-text-short}
+use Rattle.reporting.proofs.LeastRows.{rowOfPiece, report-crowded, report-rows}
+
+matches-fit : (p q count : ℕ) (ms : List Match) (table work : List ℕ) → length table ≡ rowWidth * lentRows
+    → length work ≡ 4 * lentRows → length (reportOfRefining p q count (refiningOfMatches ms table work)) ≤ longestText
+matches-fit p q count ms table work rows numbers =
+    let least = leastTable ms [] in
+    let text = table-text-short p q count (map rowOfPiece least) in
+    elim (decLe (length least) (capacityOf table)) [
+      | yes room ↦ rw (report-rows p q count ms table work (omega arith) room)
+          (omega (arith, length-map least rowOfPiece))
+      | no many ↦ rw (report-crowded p q count ms table work (omega arith) (omega arith))
+          (omega (arith, refusal-text-short TooManyPieces))
+    ]
+
+pub report-fits : (s : List ℕ) → length (reportOf s) ≤ longestText
+unfolding reportOf
+report-fits s = go (readScript s)
+  where
+    go : (r : Reading) → length (reportOfReading r) ≤ longestText
+    go (refused r) = omega (arith, refusal-text-short r)
+    go (admitted p q ms) =
+        matches-fit p q (length ms) (numbered 1 ms) lentTable lentWork
+        (length-replicate {A = ℕ} (rowWidth * lentRows) 0) (length-replicate {A = ℕ} (4 * lentRows) 0)
+
+pub report-printed :
+    (script text : List ℕ) → longestText ≤ length text
+    → reportingOf script text
+    ≡ record {
+      reply = Reported.Printed (length (reportOf script));
+      text = reportOf script ++ drop (length (reportOf script)) text;
+    }
+report-printed script text room =
+    let printed = length (reportOf script) in
+    rw (le-ltb (length text) printed (omega (arith, report-fits script))) refl

@@ -1,0 +1,45 @@
+-- How much the program lends, and that what it held before changes nothing that is printed.
+--     lent-rows       "a table of 3,000 rows": 15,000 numbers, and 12,000 of work
+--     report-lent     tables of as many rows and work buffers of enough numbers give one report ..
+--     report-of-lent  .. so that the program may lend any of 3,000 rows
+-- Assumes nothing.
+use Prim.Native.Nat.{ℕ, _*_, _≤_}
+use mathlib.Core.Path.{_≡_, sym, _∙_}
+use mathlib.Core.List.{List, []}
+use native.Mathlib.Omega.{arith}
+use native.Mathlib.Decide.{decLe}
+use lib.ListN.{length, length-replicate}
+use Rattle.script.specs.Reading.{admitted, readScript}
+use Rattle.script.specs.declared.command.Match.{Match as ScriptMatch}
+use Rattle.refinement.specs.Match.{Match}
+use Rattle.refinement.specs.Least.{leastTable}
+use Rattle.rows.specs.Rows.{rowWidth}
+use Rattle.refining.specs.Refining.{capacityOf, workNeeded, numbered, refiningOfMatches, refiningOf}
+use Rattle.reporting.specs.Reporting.{lentRows, lentTable, lentWork, reportOfRefining, reportOf}
+use Rattle.reporting.proofs.LeastRows.{report-crowded, report-rows}
+
+pub lent-rows : (length lentTable ≡ 15000) × (length lentWork ≡ 12000)
+lent-rows = (length-replicate {A = ℕ} (rowWidth * lentRows) 0, length-replicate {A = ℕ} (4 * lentRows) 0)
+
+pub report-lent : (p q count : ℕ) (ms : List Match) (table table′ work work′ : List ℕ)
+    → capacityOf table ≡ capacityOf table′ → workNeeded table ≤ length work → workNeeded table′ ≤ length work′
+    → reportOfRefining p q count (refiningOfMatches ms table work)
+    ≡ reportOfRefining p q count (refiningOfMatches ms table′ work′)
+report-lent p q count ms table table′ work work′ same enough enough′ =
+    elim (decLe (length (leastTable ms [])) (capacityOf table)) [
+      | yes room ↦
+          report-rows p q count ms table work enough room
+          ∙ sym (report-rows p q count ms table′ work′ enough′ (omega arith))
+      | no many ↦
+          report-crowded p q count ms table work enough (omega arith)
+          ∙ sym (report-crowded p q count ms table′ work′ enough′ (omega arith))
+    ]
+
+pub report-of-lent : (s table work : List ℕ) {p q : ℕ} {ms : List ScriptMatch} → readScript s ≡ admitted p q ms
+    → capacityOf table ≡ lentRows → 4 * lentRows ≤ length work
+    → reportOfRefining p q (length ms) (refiningOf s table work) ≡ reportOf s
+unfolding reportOf refiningOf
+report-of-lent s table work {p} {q} {ms} read rows numbers =
+    rw read
+    (report-lent p q (length ms) (numbered 1 ms) table lentTable work lentWork (omega (arith, lent-rows .0))
+    (omega arith) (omega (arith, lent-rows)))

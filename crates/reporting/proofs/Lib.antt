@@ -1,0 +1,10 @@
+pub mod Bounds
+pub mod LeastRows
+pub mod Letters
+pub mod Fits
+pub mod Lent
+pub mod Prefix
+pub mod ReadBack
+pub mod SameReports
+pub mod Examples
+pub mod Shown

@@ -1,0 +1,65 @@
+-- What the program prints, and what the call that makes its text does. TO READ: contracts mean what stands here.
+--     lentTable, lentWork      what the program lends for refining
+--     reportOf script          what the program prints for an input
+--     Reporting                the reply of the call, and what the text buffer holds after it
+--     reportingOf script text  both, by what the script and the text buffer hold before it
+--     longestText              so many bytes are room for every report; that they are is a law
+-- 01, "One run, complete". Assumes nothing.
+use Prim.Native.Nat.{ℕ, _*_}
+use mathlib.Core.Bool.{cond}
+use mathlib.Core.List.{List, _++_}
+use lib.ListN.{length, take, drop, replicate}
+use lib.Dec.{ltb}
+use Rattle.script.specs.Reading.{Reading, admitted, refused, readScript}
+use Rattle.rows.specs.Rows.{rowWidth, rowsOf}
+use Rattle.refining.specs.Refining.{Refining, numbered, refiningOfMatches}
+use Rattle.refining.specs.declared.answers.Refined.{Refined}
+use Rattle.reporting.specs.Lines.{refusalText, tableText}
+use Rattle.reporting.specs.declared.Reported.{Reported}
+
+-- "with a table of 3,000 rows"
+abbrev pub lentRows : ℕ
+lentRows = 3000
+
+abbrev pub lentTable : List ℕ
+lentTable = replicate (rowWidth * lentRows) 0
+
+-- "The work buffer needs four numbers for each row of the capacity"
+abbrev pub lentWork : List ℕ
+lentWork = replicate (4 * lentRows) 0
+
+-- the table's text, of the rows that refining counts; or the refusal's
+abbrev pub reportOfReply : ℕ → ℕ → ℕ → List ℕ → Refined → List ℕ
+reportOfReply p q count table (Refined.Rows n) = tableText p q count (rowsOf (take (rowWidth * n) table))
+reportOfReply p q count table (Refined.Refused r) = refusalText r
+
+abbrev pub reportOfRefining : ℕ → ℕ → ℕ → Refining → List ℕ
+reportOfRefining p q count x = reportOfReply p q count (x .table) (x .reply)
+
+abbrev pub reportOfReading : Reading → List ℕ
+reportOfReading (refused r) = refusalText r
+reportOfReading (admitted p q ms) =
+    reportOfRefining p q (length ms) (refiningOfMatches (numbered 1 ms) lentTable lentWork)
+
+-- "The program prints the table and its summary."
+unfoldable pub reportOf : List ℕ → List ℕ
+reportOf script = reportOfReading (readScript script)
+
+pub record Reporting : Type 0 where
+  pub reply : Reported
+  pub text : List ℕ
+
+-- a text that fits stands at the buffer's start, and the bytes behind it are kept; one that does not is not begun
+abbrev pub reportingOfText : List ℕ → List ℕ → Reporting
+reportingOfText printed text =
+    let short : Reporting = record { reply = Reported.TextTooShort (length printed); text = text } in
+    let over = printed ++ drop (length printed) text in
+    let whole : Reporting = record { reply = Reported.Printed (length printed); text = over } in
+    cond (ltb (length text) (length printed)) short whole
+
+abbrev pub reportingOf : List ℕ → List ℕ → Reporting
+reportingOf script text = reportingOfText (reportOf script) text
+
+-- 3,000 rows of at most 86 bytes, thirty classes and the first two lines take less
+abbrev pub longestText : ℕ
+longestText = 262144

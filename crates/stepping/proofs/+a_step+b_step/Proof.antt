@@ -1,0 +1,248 @@
+-- The proof of the cycle of calls {a_step, b_step}. Each one's measure is the number of unused places. Both go through
+-- the one law of a turn, for A and for B. Assumes nothing.
+use Prim.Native.Nat.{ℕ, _<_}
+use mathlib.Core.Path.{refl}
+use native.Mathlib.Omega.{arith}
+use borrow.Author.Needs.{needs}
+use borrow.Fn.Kinds.{In}
+use borrow.Fn.PlainCycle.{Measures, is, falls, and}
+use Rattle.refinement.specs.declared.Side.the-variants.{A, B}
+use Rattle.stepping.specs.Engine.{unused}
+use Rattle.stepping.proofs.Indexed.{fit-other}
+use Rattle.stepping.proofs.Stepping.{after, too-many, turn-ready, turned-open, turned-less, finished, stepped-on}
+use Rattle.stepping.proofs.a_step.Reads as a-step
+use Rattle.stepping.proofs.a_step.Kinds as a-step-kinds
+use Rattle.stepping.proofs.+a_step+b_step.Lts-a_step as a-step-lts
+use Rattle.stepping.proofs.b_step.Reads as b-step
+use Rattle.stepping.proofs.b_step.Kinds as b-step-kinds
+use Rattle.stepping.proofs.+a_step+b_step.Lts-b_step as b-step-lts
+use Rattle.carrying_cuts.proofs.take_turn.Reads as take-turn-reads
+use Rattle.stepping.proofs.+a_step+b_step.{statement}
+use Rattle.stepping.proofs.+a_step+b_step.Tie.{close}
+
+abbrev μ-a-step : Measures 5 a-step-kinds.ps ℕ
+μ-a-step κs a = unused (a .1 .1 .1 .1 .1 .0)
+
+abbrev μ-b-step : Measures 5 b-step-kinds.ps ℕ
+μ-b-step κs a = unused (a .1 .1 .1 .1 .1 .0)
+
+-- what `a_step` is given at the measure t, and what a call of it asks below t
+abbrev a-step-at : ℕ → In 5 a-step-kinds.ps
+a-step-at t = and 5 a-step-kinds.ps (is 5 a-step-kinds.ps μ-a-step t) a-step.Pre
+
+abbrev a-step-below : ℕ → In 5 a-step-kinds.ps
+a-step-below t = and 5 a-step-kinds.ps (falls 5 a-step-kinds.ps _<_ μ-a-step t) a-step.Pre
+
+-- what `b_step` is given at the measure t, and what a call of it asks below t
+abbrev b-step-at : ℕ → In 5 b-step-kinds.ps
+b-step-at t = and 5 b-step-kinds.ps (is 5 b-step-kinds.ps μ-b-step t) b-step.Pre
+
+abbrev b-step-below : ℕ → In 5 b-step-kinds.ps
+b-step-below t = and 5 b-step-kinds.ps (falls 5 b-step-kinds.ps _<_ μ-b-step t) b-step.Pre
+
+-- what the calls in each step ask and give, where it is at the measure t
+abbrev a-step-calls : ℕ → a-step-lts.Claims
+a-step-calls t = (take-turn-reads.Asked, take-turn-reads.Learnt, b-step-below t, b-step.Post)
+
+abbrev b-step-calls : ℕ → b-step-lts.Claims
+b-step-calls t = (take-turn-reads.Asked, take-turn-reads.Learnt, a-step-below t, a-step.Post)
+
+a-step-add-most : (t : ℕ) → a-step-lts.Need-add-most (a-step-calls t) (a-step-at t) a-step.Post
+a-step-add-most t c = search needs
+
+a-step-take-turn-requires : (t : ℕ) → a-step-lts.Need-take-turn-requires (a-step-calls t) (a-step-at t) a-step.Post
+a-step-take-turn-requires t c κs =
+    let pre = c .before .before .before .before .before .before .before .before .pre .1 in
+    (pre .0, (turn-ready A (pre .1), pre .1 .few A))
+
+a-step-enum-told : (t : ℕ) → a-step-lts.Need-enum-told (a-step-calls t) (a-step-at t) a-step.Post
+a-step-enum-told t c = search needs
+
+a-step-enum-known-hits : (t : ℕ) → a-step-lts.Need-enum-known-hits (a-step-calls t) (a-step-at t) a-step.Post
+a-step-enum-known-hits t c = search needs
+
+a-step-same-length : (t : ℕ) → a-step-lts.Need-same-length (a-step-calls t) (a-step-at t) a-step.Post
+a-step-same-length t c = search needs
+
+a-step-returns : (t : ℕ) → a-step-lts.Need-returns (a-step-calls t) (a-step-at t) a-step.Post
+a-step-returns t c =
+    let at-call = c .before .before .before .before .before .before .before in
+    let at-start = at-call .before .before .before .before .before .before .before .before .before in
+    let was = at-start .pre .1 .1 in
+    let told = c .before .before .before .hits .given in
+    let next = after A (at-start .args .cuts) (told .0 .1 .0) (told .0 .1 .1 .0) (told .0 .0) in
+    let turned = rw (told .1) at (at-call .take-turn .ensures) in
+    finished B (turned-open was next turned refl) (c .if1 .taken)
+
+a-step-same-length-2 : (t : ℕ) → a-step-lts.Need-same-length-2 (a-step-calls t) (a-step-at t) a-step.Post
+a-step-same-length-2 t c = search needs
+
+a-step-returns-2 : (t : ℕ) → a-step-lts.Need-returns-2 (a-step-calls t) (a-step-at t) a-step.Post
+a-step-returns-2 t c =
+    let at-call = c .before .before .before .before .before .before .before .before in
+    let at-start = at-call .before .before .before .before .before .before .before .before .before in
+    let was = at-start .pre .1 .1 in
+    let told = c .before .before .before .before .hits .given in
+    let next = after A (at-start .args .cuts) (told .0 .1 .0) (told .0 .1 .1 .0) (told .0 .0) in
+    let turned = rw (told .1) at (at-call .take-turn .ensures) in
+    (turned-open was next turned refl, turned-less was next turned (c .before .if1 .left))
+
+a-step-sub-b-step : (t : ℕ) → a-step-lts.Need-sub-b-step (a-step-calls t) (a-step-at t) a-step.Post
+a-step-sub-b-step t c = search needs
+
+a-step-b-step-requires : (t : ℕ) → a-step-lts.Need-b-step-requires (a-step-calls t) (a-step-at t) a-step.Post
+a-step-b-step-requires t c κs =
+    let at-call = c .before .before .before .before .before .before .before .before .before in
+    let at-start = at-call .before .before .before .before .before .before .before .before .before in
+    let was = at-start .pre .1 .1 in
+    let told = c .before .before .before .before .before .hits .given in
+    let next = after A (at-start .args .cuts) (told .0 .1 .0) (told .0 .1 .1 .0) (told .0 .0) in
+    let turned = rw (told .1) at (at-call .take-turn .ensures) in (
+      omega (arith, at-start .pre .0, turned-less was next turned (c .before .before .if1 .left)),
+      (at-start .pre .1 .0, turned-open was next turned refl),
+    )
+
+a-step-same-length-3 : (t : ℕ) → a-step-lts.Need-same-length-3 (a-step-calls t) (a-step-at t) a-step.Post
+a-step-same-length-3 t c = search needs
+
+a-step-returns-3 : (t : ℕ) → a-step-lts.Need-returns-3 (a-step-calls t) (a-step-at t) a-step.Post
+a-step-returns-3 t c =
+    let at-call = c .before .before .before .before in
+    let pre = at-call .before .before .before .before .before .before .before .before .before .pre .1 in
+    too-many (pre .1) (pre .0) (rw (c .enum-told .given .1) at (at-call .take-turn .ensures))
+
+a-step-same-length-4 : (t : ℕ) → a-step-lts.Need-same-length-4 (a-step-calls t) (a-step-at t) a-step.Post
+a-step-same-length-4 t c = search needs
+
+a-step-returns-4 : (t : ℕ) → a-step-lts.Need-returns-4 (a-step-calls t) (a-step-at t) a-step.Post
+a-step-returns-4 t c =
+    let at-call = c .before .before .before .before .before .before .before .before .before .before .before .before in
+    let at-start = at-call .before .before .before .before .before .before .before .before .before in
+    let was = at-start .pre .1 .1 in
+    let told = c .before .before .before .before .before .before .before .before .hits .given in
+    let next = after A (at-start .args .cuts) (told .0 .1 .0) (told .0 .1 .1 .0) (told .0 .0) in
+    let turned = rw (told .1) at (at-call .take-turn .ensures) in
+    let args = at-start .args in
+    let step = c .before .before .b-step in
+    let more = c .before .before .before .before .before .if1 .left in
+    stepped-on (args .left-a .now) (args .left-b .now) (args .lengths .now) (args .reversed .now) (args .capacity) _
+    (args .cuts) next (turned-less was next turned more) (step .result) (step .ensures)
+
+b-step-add-most : (t : ℕ) → b-step-lts.Need-add-most (b-step-calls t) (b-step-at t) b-step.Post
+b-step-add-most t c = search needs
+
+b-step-take-turn-requires : (t : ℕ) → b-step-lts.Need-take-turn-requires (b-step-calls t) (b-step-at t) b-step.Post
+b-step-take-turn-requires t c κs =
+    let pre = c .before .before .before .before .before .before .before .before .pre .1 in
+    (fit-other (pre .0), (turn-ready B (pre .1), pre .1 .few B))
+
+b-step-enum-told : (t : ℕ) → b-step-lts.Need-enum-told (b-step-calls t) (b-step-at t) b-step.Post
+b-step-enum-told t c = search needs
+
+b-step-enum-known-hits : (t : ℕ) → b-step-lts.Need-enum-known-hits (b-step-calls t) (b-step-at t) b-step.Post
+b-step-enum-known-hits t c = search needs
+
+b-step-same-length : (t : ℕ) → b-step-lts.Need-same-length (b-step-calls t) (b-step-at t) b-step.Post
+b-step-same-length t c = search needs
+
+b-step-returns : (t : ℕ) → b-step-lts.Need-returns (b-step-calls t) (b-step-at t) b-step.Post
+b-step-returns t c =
+    let at-call = c .before .before .before .before .before .before .before in
+    let at-start = at-call .before .before .before .before .before .before .before .before .before in
+    let was = at-start .pre .1 .1 in
+    let told = c .before .before .before .hits .given in
+    let next = after B (at-start .args .cuts) (told .0 .1 .0) (told .0 .1 .1 .0) (told .0 .0) in
+    let turned = rw (told .1) at (at-call .take-turn .ensures) in
+    finished A (turned-open was next turned refl) (c .if1 .taken)
+
+b-step-same-length-2 : (t : ℕ) → b-step-lts.Need-same-length-2 (b-step-calls t) (b-step-at t) b-step.Post
+b-step-same-length-2 t c = search needs
+
+b-step-returns-2 : (t : ℕ) → b-step-lts.Need-returns-2 (b-step-calls t) (b-step-at t) b-step.Post
+b-step-returns-2 t c =
+    let at-call = c .before .before .before .before .before .before .before .before in
+    let at-start = at-call .before .before .before .before .before .before .before .before .before in
+    let was = at-start .pre .1 .1 in
+    let told = c .before .before .before .before .hits .given in
+    let next = after B (at-start .args .cuts) (told .0 .1 .0) (told .0 .1 .1 .0) (told .0 .0) in
+    let turned = rw (told .1) at (at-call .take-turn .ensures) in
+    (turned-open was next turned refl, turned-less was next turned (c .before .if1 .left))
+
+b-step-sub-a-step : (t : ℕ) → b-step-lts.Need-sub-a-step (b-step-calls t) (b-step-at t) b-step.Post
+b-step-sub-a-step t c = search needs
+
+b-step-a-step-requires : (t : ℕ) → b-step-lts.Need-a-step-requires (b-step-calls t) (b-step-at t) b-step.Post
+b-step-a-step-requires t c κs =
+    let at-call = c .before .before .before .before .before .before .before .before .before in
+    let at-start = at-call .before .before .before .before .before .before .before .before .before in
+    let was = at-start .pre .1 .1 in
+    let told = c .before .before .before .before .before .hits .given in
+    let next = after B (at-start .args .cuts) (told .0 .1 .0) (told .0 .1 .1 .0) (told .0 .0) in
+    let turned = rw (told .1) at (at-call .take-turn .ensures) in (
+      omega (arith, at-start .pre .0, turned-less was next turned (c .before .before .if1 .left)),
+      (at-start .pre .1 .0, turned-open was next turned refl),
+    )
+
+b-step-same-length-3 : (t : ℕ) → b-step-lts.Need-same-length-3 (b-step-calls t) (b-step-at t) b-step.Post
+b-step-same-length-3 t c = search needs
+
+b-step-returns-3 : (t : ℕ) → b-step-lts.Need-returns-3 (b-step-calls t) (b-step-at t) b-step.Post
+b-step-returns-3 t c =
+    let at-call = c .before .before .before .before in
+    let pre = at-call .before .before .before .before .before .before .before .before .before .pre .1 in
+    too-many (pre .1) (pre .0) (rw (c .enum-told .given .1) at (at-call .take-turn .ensures))
+
+b-step-same-length-4 : (t : ℕ) → b-step-lts.Need-same-length-4 (b-step-calls t) (b-step-at t) b-step.Post
+b-step-same-length-4 t c = search needs
+
+b-step-returns-4 : (t : ℕ) → b-step-lts.Need-returns-4 (b-step-calls t) (b-step-at t) b-step.Post
+b-step-returns-4 t c =
+    let at-call = c .before .before .before .before .before .before .before .before .before .before .before .before in
+    let at-start = at-call .before .before .before .before .before .before .before .before .before in
+    let was = at-start .pre .1 .1 in
+    let told = c .before .before .before .before .before .before .before .before .hits .given in
+    let next = after B (at-start .args .cuts) (told .0 .1 .0) (told .0 .1 .1 .0) (told .0 .0) in
+    let turned = rw (told .1) at (at-call .take-turn .ensures) in
+    let args = at-start .args in
+    let step = c .before .before .a-step in
+    let more = c .before .before .before .before .before .if1 .left in
+    stepped-on (args .left-a .now) (args .left-b .now) (args .lengths .now) (args .reversed .now) (args .capacity) _
+    (args .cuts) next (turned-less was next turned more) (step .result) (step .ensures)
+
+pub +a-step+b-step-spec : {M : Type 1} → statement M
++a-step+b-step-spec =
+    close μ-a-step μ-b-step
+    (λ t.
+    a-step-lts.spec (a-step-calls t) (a-step-at t)
+    a-step.Post
+    (a-step-add-most t)
+    (a-step-take-turn-requires t)
+    (a-step-enum-told t)
+    (a-step-enum-known-hits t)
+    (a-step-same-length t)
+    (a-step-returns t)
+    (a-step-same-length-2 t)
+    (a-step-returns-2 t)
+    (a-step-sub-b-step t)
+    (a-step-b-step-requires t)
+    (a-step-same-length-3 t)
+    (a-step-returns-3 t)
+    (a-step-same-length-4 t)
+    (a-step-returns-4 t))
+    (λ t.
+    b-step-lts.spec (b-step-calls t) (b-step-at t)
+    b-step.Post
+    (b-step-add-most t)
+    (b-step-take-turn-requires t)
+    (b-step-enum-told t)
+    (b-step-enum-known-hits t)
+    (b-step-same-length t)
+    (b-step-returns t)
+    (b-step-same-length-2 t)
+    (b-step-returns-2 t)
+    (b-step-sub-a-step t)
+    (b-step-a-step-requires t)
+    (b-step-same-length-3 t)
+    (b-step-returns-3 t)
+    (b-step-same-length-4 t)
+    (b-step-returns-4 t))

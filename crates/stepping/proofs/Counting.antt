@@ -1,0 +1,160 @@
+-- How the hits of cuts and the number of cuts bound the rows of every resolved refinement from below.
+--     hits-none, hits-append   the hits of no cut, and of two lists of cuts
+--     hits-most            distinct cuts of a side: their hits are at most rows plus matches
+--     hits-whole           all cuts of a side: their hits are the rows of the least table plus matches
+--     overflow-exceeds     more distinct cuts of a side than twice the capacity: too many for it
+--     hits-exceed          more hits of distinct cuts than capacity plus matches: too many for it
+-- Assumes nothing.
+use Prim.Native.Nat.{ℕ, zero, suc, _+_, _*_, _≤_, _<_}
+use mathlib.Core.Path.{_≡_, refl, sym, ap, subst, _∙_}
+use mathlib.Core.Logic.{_↔_, ite}
+use mathlib.Core.Bool.{Bool, true, false, true≢false, cond}
+use mathlib.Core.List.{List, [], _∷_, _++_, map, filter}
+use native.Mathlib.Omega.{arith}
+use lib.ListN.{length, getD}
+use Rattle.refinement.specs.declared.Side.{Side}
+use Rattle.refinement.specs.declared.Side.the-variants.{A, B}
+use Rattle.refinement.specs.Order.{_∈_, Distinct}
+use Rattle.refinement.specs.Match.{Match, left, place, Spans, spanned}
+use Rattle.refinement.specs.Cut.{Cut}
+use Rattle.refinement.specs.Refinement.{CutOf, ResolvedRefinement}
+use Rattle.refinement.specs.Least.{spans?, leastTable}
+use Rattle.refinement.proofs.Lists.{∈-filter, ∈-unfilter, rising-filter}
+use Rattle.refinement.proofs.Geometry.{spanned-iff}
+use Rattle.refinement.proofs.Resolved.{has-cut}
+use Rattle.refinement.proofs.Count.{total, two-per-row, hits-bound, hits-all}
+use Rattle.refinement.proofs.Theorem.{table-resolved, table-cuts}
+use Rattle.refining.specs.Columns.{Fit, upFrom, matchAt, matchesOf}
+use Rattle.carrying_match.specs.OneMatch.{hitsOn, Overflow}
+use Rattle.carrying_cuts.specs.Worker.{hitsOver}
+use Rattle.stepping.specs.Engine.{at, leftsOn}
+use Rattle.refining.specs.Demands.{EveryExceeds}
+use Rattle.stepping.proofs.Indexed.{matches-length, matches-good, placed, alone}
+
+pub hits-none : (f d : List ℕ) (n : ℕ) → hitsOver f d n [] ≡ 0
+hits-none f d zero = refl
+hits-none f d (suc k) = omega (arith, hits-none f d k)
+
+on-append : (i d : ℕ) (xs ys : List ℕ) → hitsOn i d (xs ++ ys) ≡ hitsOn i d xs + hitsOn i d ys
+on-append i d [] ys = omega arith
+on-append i d (x ∷ xs) ys = omega (arith, on-append i d xs ys)
+
+pub hits-append :
+    (f d : List ℕ) (n : ℕ) (xs ys : List ℕ) → hitsOver f d n (xs ++ ys) ≡ hitsOver f d n xs + hitsOver f d n ys
+hits-append f d zero xs ys = refl
+hits-append f d (suc k) xs ys = omega (arith, hits-append f d k xs ys, on-append (getD f k 0) (getD d k 0) xs ys)
+
+-- the hits of one match, as the theory counts them
+hits-filter : (m : Match) (u : Side) (xs : List ℕ) → hitsOn (left m u) (m .length) xs ≡ length (filter (spans? m u) xs)
+hits-filter m u [] = refl
+hits-filter m u (x ∷ xs) =
+    go (spans? m u x) (spanned (left m u) (m .length) x) refl (hits-filter m u xs)
+  where
+    go :
+        (q : Dec (Spans m u x)) (s : Bool) → spanned (left m u) (m .length) x ≡ s
+        → hitsOn (left m u) (m .length) xs ≡ length (filter (spans? m u) xs)
+        → cond s 1 0 + hitsOn (left m u) (m .length) xs
+        ≡ length (ite {C = List ℕ} q (x ∷ filter (spans? m u) xs) (filter (spans? m u) xs))
+    go (yes t) true e h = omega arith
+    go (yes t) false e h = absurd (true≢false (sym (spanned-iff m u x .1 t) ∙ e))
+    go (no n) true e h = absurd (n (spanned-iff m u x .0 e))
+    go (no n) false e h = omega arith
+
+module _ (a b d : List ℕ) (r : List Bool) where
+  hits-at :
+      (u : Side) (xs : List ℕ) (k : ℕ)
+      → hitsOn (getD (leftsOn u a b) k 0) (getD d k 0) xs ≡ length (filter (spans? (matchAt a b d r k) u) xs)
+  hits-at A xs k = hits-filter (matchAt a b d r k) A xs
+  hits-at B xs k = hits-filter (matchAt a b d r k) B xs
+
+  hits-from :
+      (u : Side) (xs : List ℕ) (n count : ℕ)
+      → hitsOver (leftsOn u a b) d (n + count) xs
+      ≡ hitsOver (leftsOn u a b) d n xs
+      + total (λ m. length (filter (spans? m u) xs)) (map (matchAt a b d r) (upFrom n count))
+  unfolding upFrom
+  hits-from u xs n zero = omega (arith, ap (λ j. hitsOver (leftsOn u a b) d j xs) same)
+    where
+      same : n + 0 ≡ n
+      same = omega arith
+  hits-from u xs n (suc count) =
+      omega (arith, ap (λ j. hitsOver (leftsOn u a b) d j xs) same, hits-from u xs (suc n) count, hits-at u xs n)
+    where
+      same : n + suc count ≡ suc n + count
+      same = omega arith
+
+  hits-total :
+      (u : Side) (xs : List ℕ)
+      → hitsOver (leftsOn u a b) d (length d) xs ≡ total (λ m. length (filter (spans? m u) xs)) (matchesOf a b d r)
+  unfolding matchesOf
+  hits-total u xs = omega (arith, ap (λ j. hitsOver (leftsOn u a b) d j xs) same, hits-from u xs 0 (length d))
+    where
+      same : 0 + length d ≡ length d
+      same = omega arith
+
+  module _ (fit : Fit a b d r) where
+    pub hits-most :
+        {rs : List Match} → ResolvedRefinement (matchesOf a b d r) [] rs → (u : Side) (xs : List ℕ) → Distinct xs
+        → ((x : ℕ) → x ∈ xs → Cut (matchesOf a b d r) [] (at u x))
+        → hitsOver (leftsOn u a b) d (length d) xs ≤ length rs + length d
+    hits-most {rs} R u xs once cuts =
+        let M = matches-good a b d r fit in
+        omega (
+          arith,
+          hits-total u xs,
+          matches-length a b d r,
+          hits-bound M R u (λ m. filter (spans? m u) xs) (λ m i. rising-filter (spans? m u) _ xs once)
+              (λ m i x j.
+              let t = ∈-unfilter (spans? m u) xs j in
+              (t .1, subst (CutOf rs) (sym (placed a b d r i u x)) (has-cut M R (cuts x (t .0))))),
+        )
+
+    pub hits-whole :
+        (u : Side) (xs : List ℕ) → Distinct xs → ((x : ℕ) → (x ∈ xs) ↔ Cut (matchesOf a b d r) [] (at u x))
+        → hitsOver (leftsOn u a b) d (length d) xs ≡ length (leastTable (matchesOf a b d r) []) + length d
+    hits-whole u xs once cuts =
+        let ms = matchesOf a b d r in
+        let M = matches-good a b d r fit in
+        omega (
+          arith,
+          hits-total u xs,
+          matches-length a b d r,
+          hits-all M (table-resolved ms [] M) u (λ m. filter (spans? m u) xs)
+              (λ m i. rising-filter (spans? m u) _ xs once)
+              (λ m i x. (
+                λ j.
+                    let t = ∈-unfilter (spans? m u) xs j in (
+                      t .1,
+                      table-cuts ms [] M (place m u x) .1
+                          (subst (Cut ms []) (sym (placed a b d r i u x)) (cuts x .0 (t .0))),
+                    ),
+                λ t.
+                    ∈-filter (spans? m u)
+                    (cuts x .1 (subst (Cut ms []) (placed a b d r i u x) (table-cuts ms [] M (place m u x) .0 (t .1))))
+                    (t .0),
+              )),
+        )
+
+    pub hits-exceed :
+        {cap : ℕ} (u : Side) (xs : List ℕ) → Distinct xs
+        → ((x : ℕ) → x ∈ xs → Cut (matchesOf a b d r) [] (at u x))
+        → cap + length d < hitsOver (leftsOn u a b) d (length d) xs → EveryExceeds (matchesOf a b d r) cap
+    hits-exceed u xs once cuts more rs R = omega (arith, hits-most R u xs once cuts)
+
+    pub overflow-exceeds :
+        {cap places : ℕ} {Q : ℕ → Type 0} (u : Side) → places ≡ 2 * cap → Overflow Q places
+        → ((x : ℕ) → Q x → Cut (matchesOf a b d r) [] (at u x)) → EveryExceeds (matchesOf a b d r) cap
+    overflow-exceeds {cap} A e o cuts rs R =
+        omega (
+          arith,
+          o .more,
+          two-per-row (R .refines) 0 (alone a b d r 0) (o .numbers) (o .distinct)
+              (λ x i. has-cut (matches-good a b d r fit) R (cuts x (o .all x i))),
+        )
+    overflow-exceeds {cap} B e o cuts rs R =
+        omega (
+          arith,
+          o .more,
+          two-per-row (R .refines) 1 (alone a b d r 1) (o .numbers) (o .distinct)
+              (λ x i. has-cut (matches-good a b d r fit) R (cuts x (o .all x i))),
+        )

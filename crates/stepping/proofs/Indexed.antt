@@ -1,0 +1,112 @@
+-- The matches of the columns, found by their index.
+--     upFrom-∈, ∈-upFrom, rising-upFrom, length-upFrom     the numbers from n on
+--     ∈-matches, matches-∈     a match of the columns is the one at an index
+--     matches-length           there are as many as lengths
+--     matches-good             they are Matches: lettered, and numbered in order
+--     placed                   a position on a side of a match is one of that side's sequence
+--     alone                    no match joins a sequence to itself
+--     index-spans, index-carry the test and the formula of the code at an index are Spans and carry of its match
+--     fit-other                the columns fit with the sides exchanged
+-- Assumes nothing.
+use Prim.Native.Nat.{ℕ, zero, suc, _+_, _≤_, _<_}
+use mathlib.Core.Path.{_≡_, refl, sym, ap, subst, _∙_}
+use mathlib.Core.Logic.{_↔_, ⊎-elim}
+use mathlib.Core.Bool.{Bool, true, false}
+use mathlib.Core.List.{List, _∷_, List·Memᴰ·cases-cons, List·Memᴰ·not-nil, Memᴰ·map, Memᴰ·of-map}
+use mathlib.Core.List.{List·Memᴰ·head as here, List·Memᴰ·tail as there}
+use native.Mathlib.Omega.{arith}
+use native.Mathlib.Decide.{ℕ-discrete}
+use lib.ListN.{length, getD, length-map}
+use Rattle.refinement.specs.declared.Side.{Side}
+use Rattle.refinement.specs.declared.Side.the-variants.{A, B}
+use Rattle.refinement.specs.Order.{_∈_, Rising}
+use Rattle.refinement.specs.Match.{Match, other, track, place, Spans, spanned, carryOver, carry}
+use Rattle.refinement.specs.Refinement.{Matches}
+use Rattle.refinement.proofs.Geometry.{spanned-iff}
+use Rattle.refinement.proofs.Lists.{rising-map}
+use Rattle.refining.specs.Columns.{Fit, upFrom, matchAt, matchesOf}
+use Rattle.stepping.specs.Engine.{at, leftsOn}
+
+pub upFrom-∈ : (n count : ℕ) {k : ℕ} → k ∈ upFrom n count → (n ≤ k) × (k < n + count)
+unfolding upFrom
+upFrom-∈ n zero i = absurd (List·Memᴰ·not-nil i)
+upFrom-∈ n (suc count) i =
+    ⊎-elim (λ e. omega arith) (λ j. let t = upFrom-∈ (suc n) count j in omega arith) (List·Memᴰ·cases-cons i)
+
+pub ∈-upFrom : (n count : ℕ) {k : ℕ} → n ≤ k → k < n + count → k ∈ upFrom n count
+unfolding upFrom
+∈-upFrom n zero l h = absurd (omega arith)
+∈-upFrom n (suc count) {k} l h = go (ℕ-discrete k n) (λ o. ∈-upFrom (suc n) count o (omega arith))
+  where
+    go : Dec (k ≡ n) → (n < k → k ∈ upFrom (suc n) count) → k ∈ (n ∷ upFrom (suc n) count)
+    go (yes e) rest = here e
+    go (no f) rest = there (rest (omega arith))
+
+pub rising-upFrom : (n count : ℕ) → Rising _<_ (upFrom n count)
+unfolding upFrom
+rising-upFrom n zero = tt
+rising-upFrom n (suc count) = (λ k i. omega (arith, upFrom-∈ (suc n) count i), rising-upFrom (suc n) count)
+
+pub length-upFrom : (n count : ℕ) → length (upFrom n count) ≡ count
+unfolding upFrom
+length-upFrom n zero = refl
+length-upFrom n (suc count) = ap suc (length-upFrom (suc n) count)
+
+pub fit-other : {a b d : List ℕ} {r : List Bool} → Fit a b d r → Fit b a d r
+fit-other f = record {
+  from-length = f .to-length;
+  to-length = f .from-length;
+  way-length = f .way-length;
+  lettered = f .lettered;
+  from-fits = f .to-fits;
+  to-fits = f .from-fits;
+}
+
+module _ (a b d : List ℕ) (r : List Bool) where
+  pub ∈-matches : {k : ℕ} → k < length d → matchAt a b d r k ∈ matchesOf a b d r
+  unfolding matchesOf
+  ∈-matches h = Memᴰ·map (matchAt a b d r) (∈-upFrom 0 (length d) (omega arith) (omega arith))
+
+  pub matches-∈ : {m : Match} → m ∈ matchesOf a b d r → (k : ℕ) × (k < length d) × (matchAt a b d r k ≡ m)
+  unfolding matchesOf
+  matches-∈ i =
+      let t = Memᴰ·of-map (matchAt a b d r) (upFrom 0 (length d)) i in
+      (t .0, omega (arith, upFrom-∈ 0 (length d) (t .1)), t .2)
+
+  pub matches-length : length (matchesOf a b d r) ≡ length d
+  unfolding matchesOf
+  matches-length = length-map (upFrom 0 (length d)) (matchAt a b d r) ∙ length-upFrom 0 (length d)
+
+  pub matches-good : Fit a b d r → Matches (matchesOf a b d r)
+  unfolding matchesOf
+  matches-good f = record {
+    lettered = λ m i.
+        let t = matches-∈ i in subst (λ (z : Match). 1 ≤ z .length) (t .2) (f .lettered (t .0) (t .1));
+    numbered =
+        rising-map _<_ (λ m m′. m .number < m′ .number) (matchAt a b d r) (upFrom 0 (length d))
+        (λ j k _ _ l. omega arith) (rising-upFrom 0 (length d));
+  }
+
+  pub placed : {m : Match} → m ∈ matchesOf a b d r → (u : Side) (h : ℕ) → place m u h ≡ at u h
+  placed i A h = ap (λ (z : Match). place z A h) (sym (matches-∈ i .2))
+  placed i B h = ap (λ (z : Match). place z B h) (sym (matches-∈ i .2))
+
+  pub alone : (t : ℕ) (m : Match) → m ∈ matchesOf a b d r → ¬ ((track m A ≡ t) × (track m B ≡ t))
+  alone t m i e =
+      let p = matches-∈ i .2 in
+      let f : 0 ≡ track m A = ap (λ (z : Match). track z A) p in
+      let g : 1 ≡ track m B = ap (λ (z : Match). track z B) p in
+      omega (arith, e .0, e .1)
+
+  pub index-spans :
+      (u : Side) (k x : ℕ)
+      → (spanned (getD (leftsOn u a b) k 0) (getD d k 0) x ≡ true) ↔ Spans (matchAt a b d r k) u x
+  index-spans A k x = spanned-iff (matchAt a b d r k) A x
+  index-spans B k x = spanned-iff (matchAt a b d r k) B x
+
+  pub index-carry :
+      (u : Side) (k x : ℕ)
+      → carryOver (getD r k false) (getD (leftsOn u a b) k 0) (getD (leftsOn (other u) a b) k 0) (getD d k 0) x
+      ≡ carry (matchAt a b d r k) u x
+  index-carry A k x = refl
+  index-carry B k x = refl

@@ -1,0 +1,4 @@
+pub mod Indexed
+pub mod Counting
+pub mod Members
+pub mod Stepping

@@ -1,0 +1,141 @@
+// The A step and the B step, which call each other on the newly found cuts.
+use carrying_cuts::Turn;
+use carrying_cuts::take_turn;
+use cut_set::CutSet;
+ghost use Rattle.refinement.specs.declared.Side.{Side};
+ghost use Rattle.refining.specs.Columns.{Fit};
+ghost use Rattle.stepping.specs.Engine.{Open, Stepped};
+
+// The cuts of both sides, and the pairs of a carried cut and a match that spans it.
+pub struct Cuts {
+    pub a: CutSet,
+    pub b: CutSet,
+    pub hits_a: usize,
+    pub hits_b: usize,
+}
+
+// Nothing new is left; or the budget of calls is used up, and the step named is next; or no table lent has room.
+pub enum Closing {
+    Done(Cuts),
+    MoreA(Cuts),
+    MoreB(Cuts),
+    TooMany,
+}
+
+// "A new cut on A is carried over to B by every match that spans it". The budget bounds the stack.
+pub fn a_step(
+    left_a: &[u32],
+    left_b: &[u32],
+    lengths: &[u32],
+    reversed: &[bool],
+    work: &mut [u32],
+    cuts: Cuts,
+    capacity: usize,
+    budget: u32,
+) -> Closing
+    requires { ⌜ Fit (now «left_a») (now «left_b») (now lengths) (now reversed) ⌝ }
+    requires { ⌜ Open (now «left_a») (now «left_b») (now lengths) (now reversed) capacity (now work) cuts Side.A ⌝ }
+    ensures { λ r. ⌜
+        Stepped (now («left_a» .entry)) (now («left_b» .entry)) (now (lengths .entry)) (now (reversed .entry))
+        capacity cuts (now (work .exit)) r ⌝ }
+{
+    let a = cuts.a;
+    let b = cuts.b;
+    let most = capacity + lengths.len();
+    match take_turn(
+        left_a,
+        left_b,
+        lengths,
+        reversed,
+        work,
+        a,
+        b,
+        cuts.hits_a,
+        most,
+    ) {
+        Turn::TooMany => Closing::TooMany,
+        Turn::Carried { hits, from, to } => {
+            let next = Cuts {
+                a: from,
+                b: to,
+                hits_a: hits,
+                hits_b: cuts.hits_b,
+            };
+            if to.done == to.used {
+                return Closing::Done(next);
+            }
+            if budget == 0 {
+                return Closing::MoreB(next);
+            }
+            b_step(
+                left_a,
+                left_b,
+                lengths,
+                reversed,
+                work,
+                next,
+                capacity,
+                budget - 1,
+            )
+        }
+    }
+}
+
+// "and each new cut on B is carried over to A in the same way, until neither side gains one"
+pub fn b_step(
+    left_a: &[u32],
+    left_b: &[u32],
+    lengths: &[u32],
+    reversed: &[bool],
+    work: &mut [u32],
+    cuts: Cuts,
+    capacity: usize,
+    budget: u32,
+) -> Closing
+    requires { ⌜ Fit (now «left_a») (now «left_b») (now lengths) (now reversed) ⌝ }
+    requires { ⌜ Open (now «left_a») (now «left_b») (now lengths) (now reversed) capacity (now work) cuts Side.B ⌝ }
+    ensures { λ r. ⌜
+        Stepped (now («left_a» .entry)) (now («left_b» .entry)) (now (lengths .entry)) (now (reversed .entry))
+        capacity cuts (now (work .exit)) r ⌝ }
+{
+    let a = cuts.a;
+    let b = cuts.b;
+    let most = capacity + lengths.len();
+    match take_turn(
+        left_b,
+        left_a,
+        lengths,
+        reversed,
+        work,
+        b,
+        a,
+        cuts.hits_b,
+        most,
+    ) {
+        Turn::TooMany => Closing::TooMany,
+        Turn::Carried { hits, from, to } => {
+            let next = Cuts {
+                a: to,
+                b: from,
+                hits_a: cuts.hits_a,
+                hits_b: hits,
+            };
+            if to.done == to.used {
+                return Closing::Done(next);
+            }
+            if budget == 0 {
+                return Closing::MoreA(next);
+            }
+            a_step(
+                left_a,
+                left_b,
+                lengths,
+                reversed,
+                work,
+                next,
+                capacity,
+                budget - 1,
+            )
+        }
+    }
+}

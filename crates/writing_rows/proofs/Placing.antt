@@ -1,0 +1,254 @@
+-- Rows in the table: five numbers each, written one after the other.
+--     spans-low           the match spans the end of a piece that is carried to its left end on B
+--     five-stores         the five stores of a piece write its row
+--     Remaining, remaining-..   the loop over the cuts of one match: what remains to be written; a turn keeps it
+--     Done, done-..       the loop over the matches: what is written; a turn keeps it
+-- Assumes nothing.
+use Prim.Native.Nat.{ℕ, zero, suc, _+_, _-_, _*_, _^_, _≤_, _<_, min}
+use mathlib.Core.Path.{_≡_, refl, sym, ap, _∙_}
+use mathlib.Core.Bool.{Bool, true, false, cond}
+use mathlib.Core.List.{List, [], _∷_, _++_}
+use native.Mathlib.Omega.{arith}
+use lib.ListN.{length, getD, set, length-append}
+use lib.Seq.{slice, slice-cons, slice-empty, sets, length-sets}
+use borrow.Author.Tests.{le-leb}
+use Rattle.refinement.specs.Match.{Match, matchAB, spanned, carryOver}
+use Rattle.refinement.specs.Least.{pieceOf, piecesBetween}
+use Rattle.refinement.proofs.Geometry.{spanned-from}
+use Rattle.runs.specs.Runs.{Bound}
+use Rattle.refining.specs.Columns.{Fit, matchAt}
+use Rattle.refining.specs.Rows.{within, rowsOver, direction, rowNumbers, numbersOf}
+use Rattle.refining.proofs.Standing.{length-numbers}
+use Rattle.writing_rows.specs.Writing.{Stretch, Cutting, Placed, Writable, Written}
+use Rattle.writing_rows.proofs.Within.{cutting, within-bounds, stretch}
+
+-- Rows as numbers.
+sets-append : (vs ws xs : List ℕ) (at : ℕ) → sets xs at (vs ++ ws) ≡ sets (sets xs at vs) (at + length vs) ws
+sets-append [] ws xs at = let e : at ≡ at + 0 = omega arith in ap (λ n. sets xs n ws) e
+sets-append (v ∷ vs) ws xs at =
+    let e : suc at + length vs ≡ at + suc (length vs) = omega arith in
+    sets-append vs ws (set xs at v) (suc at) ∙ ap (λ n. sets (sets (set xs at v) (suc at) vs) n ws) e
+
+numbers-append : (rs qs : List Match) → numbersOf (rs ++ qs) ≡ numbersOf rs ++ numbersOf qs
+unfolding numbersOf
+numbers-append [] qs = refl
+numbers-append (r ∷ rs) qs = ap (λ ns. rowNumbers r ++ ns) (numbers-append rs qs)
+
+sets-rows :
+    (rs qs : List Match) (xs : List ℕ)
+    → sets (sets xs 0 (numbersOf rs)) (5 * length rs) (numbersOf qs) ≡ sets xs 0 (numbersOf (rs ++ qs))
+sets-rows rs qs xs =
+    let e : 0 + length (numbersOf rs) ≡ 5 * length rs = omega (arith, length-numbers rs) in
+    sym
+    (ap (sets xs 0) (numbers-append rs qs) ∙ sets-append (numbersOf rs) (numbersOf qs) xs 0
+    ∙ ap (λ n. sets (sets xs 0 (numbersOf rs)) n (numbersOf qs)) e)
+
+-- One piece.
+pub spans-low : (b : Bool) {i k d x y : ℕ} → Stretch i k d x y → spanned i d (cond b y x) ≡ true
+spans-low false {i} {d = d} {x = x} s = sym (spanned-from i d x (s .from)) ∙ le-leb x (i + d) (omega arith)
+spans-low true {i} {d = d} {y = y} s = sym (spanned-from i d y (omega arith)) ∙ le-leb y (i + d) (s .to)
+
+low-end :
+    (b : Bool) {i k d x y : ℕ} → Stretch i k d x y
+    → carryOver b i k d (cond b y x) ≡ min (carryOver b i k d x) (carryOver b i k d y)
+low-end false s = omega arith
+low-end true s = omega arith
+
+way : (b : Bool) → cond b 1 0 ≡ direction b
+way false = refl
+way true = refl
+
+pub five-stores :
+    (xs : List ℕ) (at n : ℕ) (b : Bool) {i k d x y low image turn : ℕ} → Stretch i k d x y → low ≡ cond b y x
+    → image ≡ carryOver b i k d low → turn ≡ cond b 1 0
+    → set (set (set (set (set xs at n) (at + 1) x) (at + 2) image) (at + 3) (y - x)) (at + 4) turn
+    ≡ sets xs at (rowNumbers (pieceOf (matchAB n i k d b) x y))
+unfolding pieceOf
+five-stores xs at n b {i} {k} {d} {x} {y} s is-low is-image is-turn =
+    let e₁ : at + 1 ≡ suc at = omega arith in
+    let e₂ : at + 2 ≡ suc (suc at) = omega arith in
+    let e₃ : at + 3 ≡ suc (suc (suc at)) = omega arith in
+    let e₄ : at + 4 ≡ suc (suc (suc (suc at))) = omega arith in
+    let to = is-image ∙ ap (carryOver b i k d) is-low ∙ low-end b s in
+    let turned = is-turn ∙ way b in
+    λ j. set (set (set (set (set xs at n) (e₁ j) x) (e₂ j) (to j)) (e₃ j) (y - x)) (e₄ j) (turned j)
+
+-- One match: the rows between its cuts from `at` to `last`.
+abbrev rowsFrom : Match → List ℕ → ℕ → ℕ → List Match
+rowsFrom m work last at = piecesBetween m (slice at (suc last) work)
+
+-- the rows from the row `next` on are those between the cuts from `at` on, with what is written before them
+pub record Remaining (m : Match) (work : List ℕ) (first last row : ℕ) (before table : List ℕ)
+    (at next : ℕ) : Type 0 where
+  pub cuts : Cutting work first last (m .leftA) (m .length)
+  pub fits : m .leftB + m .length < 2 ^ 32
+  pub room : 5 * (row + length (rowsFrom m work last first)) ≤ length before
+  pub from : first ≤ at
+  pub to : at ≤ last
+  pub count : row + length (rowsFrom m work last first) ≡ next + length (rowsFrom m work last at)
+  pub long : length table ≡ length before
+  pub is :
+      sets before (5 * row) (numbersOf (rowsFrom m work last first))
+      ≡ sets table (5 * next) (numbersOf (rowsFrom m work last at))
+
+pub remaining-start :
+    {m : Match} {work : List ℕ} {first last row : ℕ} {before : List ℕ} → Cutting work first last (m .leftA) (m .length)
+    → m .leftB + m .length < 2 ^ 32 → 5 * (row + length (rowsFrom m work last first)) ≤ length before
+    → Remaining m work first last row before before first row
+remaining-start cuts fits room = record {
+  cuts = cuts;
+  fits = fits;
+  room = room;
+  from = omega arith;
+  to = cuts .order;
+  count = refl;
+  long = refl;
+  is = refl;
+}
+
+module _ {m : Match} {work : List ℕ} {first last row : ℕ} {before table : List ℕ} {at next : ℕ}
+    (left : Remaining m work first last row before table at next) where
+  rows-step :
+      at < last
+      → rowsFrom m work last at ≡ pieceOf m (getD work at 0) (getD work (suc at) 0) ∷ rowsFrom m work last (suc at)
+  unfolding piecesBetween
+  rows-step l =
+      let x = getD work at 0 in
+      let y = getD work (suc at) 0 in
+      let inside = left .cuts .run .within in
+      let e = slice-cons (suc at) (suc last) work 0 (omega arith) inside in
+      ap (piecesBetween m) (slice-cons at (suc last) work 0 (omega arith) inside ∙ ap (λ zs. x ∷ zs) e)
+      ∙ ap (λ zs. pieceOf m x y ∷ piecesBetween m zs) (sym e)
+
+  rows-end : last ≤ at → rowsFrom m work last at ≡ []
+  unfolding piecesBetween
+  rows-end l =
+      let e : at ≡ last = omega (arith, left .to) in
+      ap (rowsFrom m work last) e
+      ∙ ap (piecesBetween m)
+      (slice-cons last (suc last) work 0 (omega arith) (left .cuts .run .within)
+      ∙ ap (λ zs. getD work last 0 ∷ zs) (slice-empty (suc last) work))
+
+  pub remaining-stretch :
+      at < last → Stretch (m .leftA) (m .leftB) (m .length) (getD work at 0) (getD work (at + 1) 0)
+  remaining-stretch = stretch (m .leftB) at (left .cuts) (left .fits) (left .from)
+
+  pub remaining-room : at < last → 5 * next + 5 ≤ length table
+  remaining-room l = omega (arith, left .room, left .count, left .long, ap length (rows-step l))
+
+  pub remaining-step :
+      at < last → {after : List ℕ}
+      → after ≡ sets table (5 * next) (rowNumbers (pieceOf m (getD work at 0) (getD work (at + 1) 0)))
+      → Remaining m work first last row before after (at + 1) (next + 1)
+  unfolding numbersOf
+  remaining-step l {after} is =
+      let e : at + 1 ≡ suc at = omega arith in
+      let n : suc (suc (suc (suc (suc (5 * next))))) ≡ 5 * (next + 1) = omega arith in
+      let written = rowNumbers (pieceOf m (getD work at 0) (getD work (at + 1) 0)) in
+      record {
+        cuts = left .cuts;
+        fits = left .fits;
+        room = left .room;
+        from = omega (arith, left .from);
+        to = omega arith;
+        count = rw e (omega (arith, left .count, ap length (rows-step l)));
+        long = ap length is ∙ length-sets table (5 * next) written ∙ left .long;
+        is =
+            left .is ∙ ap (λ rs. sets table (5 * next) (numbersOf rs)) (rows-step l) ∙ rw (← e) (rw (is, ← n) refl);
+      }
+
+  pub remaining-end : last ≤ at → Placed (rowsFrom m work last first) row before table next
+  unfolding numbersOf
+  remaining-end l = record {
+    count = omega (arith, left .count, ap length (rows-end l));
+    table = sym (left .is ∙ ap (λ rs. sets table (5 * next) (numbersOf rs)) (rows-end l));
+  }
+
+-- All matches: the rows of the first k are written.
+pub record Done (a b d : List ℕ) (r : List Bool) (work : List ℕ) (lo hi : ℕ) (before table : List ℕ)
+    (row k : ℕ) : Type 0 where
+  pub fit : Fit a b d r
+  pub writable : Writable a b d r work lo hi before
+  pub to : k ≤ length d
+  pub count : row ≡ length (rowsOver a b d r (slice lo hi work) k)
+  pub is : table ≡ sets before 0 (numbersOf (rowsOver a b d r (slice lo hi work) k))
+
+rows-grow :
+    (a b d : List ℕ) (r : List Bool) (run : List ℕ) (n k : ℕ) → k + n ≡ length d
+    → length (rowsOver a b d r run k) ≤ length (rowsOver a b d r run (length d))
+unfolding rowsOver
+rows-grow a b d r run zero k e = let same : k ≡ length d = omega arith in rw same (omega arith)
+rows-grow a b d r run (suc n) k e =
+    let here = piecesBetween (matchAt a b d r k) (within (getD a k 0) (getD d k 0) run) in
+    omega (arith, rows-grow a b d r run n (suc k) (omega arith), length-append (rowsOver a b d r run k) here)
+
+module _ {a b d : List ℕ} {r : List Bool} {work : List ℕ} {lo hi : ℕ} {before : List ℕ} where
+  pub done-start : Fit a b d r → Writable a b d r work lo hi before → Done a b d r work lo hi before before 0 0
+  unfolding rowsOver numbersOf
+  done-start fit writable =
+      record { fit = fit; writable = writable; to = omega arith; count = refl; is = refl }
+
+  module _ {table : List ℕ} {row k : ℕ} (done : Done a b d r work lo hi before table row k) where
+    pub done-long : length table ≡ length before
+    done-long = ap length (done .is) ∙ length-sets before 0 (numbersOf (rowsOver a b d r (slice lo hi work) k))
+
+    pub done-end : length d ≤ k → Written a b d r (slice lo hi work) before table row
+    done-end l =
+        let run = slice lo hi work in
+        let e : k ≡ length d = omega (arith, done .to) in
+        record {
+          count = done .count ∙ ap (λ n. length (rowsOver a b d r run n)) e;
+          table = done .is ∙ ap (λ n. sets before 0 (numbersOf (rowsOver a b d r run n))) e;
+        }
+
+    -- the match at k, with the lower bounds of its ends
+    module _ (less : k < length d) {first last : ℕ} (left : Bound work lo hi (getD a k 0) first)
+        (right : Bound work lo hi (getD a k 0 + getD d k 0) last) where
+      pub done-cuts : Cutting work first last (getD a k 0) (getD d k 0)
+      done-cuts =
+          let w = done .writable in cutting (getD d k 0) (w .run) (w .left-in k less) (w .right-in k less) left right
+
+      -- its rows, numbered as the code does
+      abbrev here : List Match
+      here =
+          piecesBetween (matchAB (k + 1) (getD a k 0) (getD b k 0) (getD d k 0) (getD r k false))
+          (slice first (suc last) work)
+
+      rows-here : rowsOver a b d r (slice lo hi work) (k + 1) ≡ rowsOver a b d r (slice lo hi work) k ++ here
+      unfolding rowsOver
+      rows-here =
+          let w = done .writable in
+          let e : k + 1 ≡ suc k = omega arith in
+          let are = within-bounds (getD d k 0) (w .run) (w .left-in k less) (w .right-in k less) left right in
+          rw (e, are) refl
+
+      pub done-room : 5 * (row + length here) ≤ length table
+      done-room =
+          let run = slice lo hi work in
+          omega (
+            arith,
+            done-long,
+            done .count,
+            done .writable .room,
+            rows-grow a b d r run (length d - (k + 1)) (k + 1) (omega arith),
+            ap length rows-here,
+            length-append (rowsOver a b d r run k) here,
+          )
+
+      pub done-step :
+          {after : List ℕ} {next : ℕ} → Placed here row table after next
+          → Done a b d r work lo hi before after next (k + 1)
+      done-step placed =
+          let rows = rowsOver a b d r (slice lo hi work) k in
+          record {
+            fit = done .fit;
+            writable = done .writable;
+            to = omega arith;
+            count =
+                placed .count ∙ ap (λ n. n + length here) (done .count) ∙ sym (length-append rows here)
+                ∙ ap length (sym rows-here);
+            is =
+                placed .table ∙ ap (λ n. sets table (5 * n) (numbersOf here)) (done .count)
+                ∙ ap (λ t. sets t (5 * length rows) (numbersOf here)) (done .is)
+                ∙ sets-rows rows here before ∙ ap (λ rs. sets before 0 (numbersOf rs)) (sym rows-here);
+          }

@@ -1,0 +1,117 @@
+-- The loop over the matches keeps `Done`: the rows of the matches so far are written. The cuts that a match spans stand
+-- between the lower bounds of its ends. The measure is how many matches are left. Assumes nothing.
+use Prim.Native.Nat.{_-_}
+use native.Mathlib.Omega.{arith}
+use borrow.Author.Needs.{needs}
+use lib.ListN.{length}
+use Rattle.writing_rows.proofs.Placing.{Done, done-start, done-long, done-cuts, done-room, done-step, done-end}
+use Rattle.writing_rows.proofs.write_rows.Statement.{statement}
+use Rattle.writing_rows.proofs.write_rows.Tie as tie
+
+abbrev Inv-loop : tie.InvT-loop
+Inv-loop left-a left-b lengths reversed work lo hi table₀ row₀ k₀ table row k =
+    Done left-a left-b lengths reversed work lo hi table₀ table row k
+
+abbrev μ-loop : tie.MeasureT-loop
+μ-loop left-a left-b lengths reversed work lo hi table₀ row₀ k₀ table row k = length lengths - k
+
+loop-holds : tie.Need-loop-holds Inv-loop μ-loop
+loop-holds c =
+    let start = c .before .before .before .before .before .before in done-start (start .pre .0) (start .pre .1)
+
+mul-left : tie.Need-mul-left Inv-loop μ-loop
+mul-left c = search needs
+
+shared-slice-read-left : tie.Need-shared-slice-read-left Inv-loop μ-loop
+shared-slice-read-left c = search needs
+
+mul-letters : tie.Need-mul-letters Inv-loop μ-loop
+mul-letters c = search needs
+
+shared-slice-read-letters : tie.Need-shared-slice-read-letters Inv-loop μ-loop
+shared-slice-read-letters c = search needs
+
+lower-bound-requires : tie.Need-lower-bound-requires Inv-loop μ-loop
+lower-bound-requires c κs = search needs
+
+add-lower-bound : tie.Need-add-lower-bound Inv-loop μ-loop
+add-lower-bound c =
+    let in-loop = c .before .before .before in
+    let at-loop = in-loop .before in
+    omega (arith, at-loop .loop .inv .fit .from-fits (at-loop .loop .k) (in-loop .loop-test .taken))
+
+lower-bound-requires-2 : tie.Need-lower-bound-requires-2 Inv-loop μ-loop
+lower-bound-requires-2 c κs = search needs
+
+add-write-match : tie.Need-add-write-match Inv-loop μ-loop
+add-write-match c = search needs
+
+cast-write-match : tie.Need-cast-write-match Inv-loop μ-loop
+cast-write-match c = search needs
+
+mul-write-match : tie.Need-mul-write-match Inv-loop μ-loop
+mul-write-match c = search needs
+
+shared-slice-read-write-match : tie.Need-shared-slice-read-write-match Inv-loop μ-loop
+shared-slice-read-write-match c = search needs
+
+shared-slice-read-write-match-2 : tie.Need-shared-slice-read-write-match-2 Inv-loop μ-loop
+shared-slice-read-write-match-2 c = search needs
+
+write-match-requires : tie.Need-write-match-requires Inv-loop μ-loop
+write-match-requires c κs =
+    let called = c .before .before .before in
+    let in-loop = called .before .before .before .before in
+    let less = in-loop .loop-test .taken in
+    let inv = in-loop .before .loop .inv in
+    let left = called .before .lower-bound .ensures in
+    let right = called .lower-bound2 .ensures in (
+      done-cuts inv less left right,
+      (inv .fit .to-fits (in-loop .before .loop .k) less, done-room inv less left right),
+    )
+
+add-k : tie.Need-add-k Inv-loop μ-loop
+add-k c = search needs
+
+loop-less : tie.Need-loop-less Inv-loop μ-loop
+loop-less c = search needs
+
+loop-again : tie.Need-loop-again Inv-loop μ-loop
+loop-again c =
+    let written = c .before .before in
+    let called = written .before .before .before .before in
+    let in-loop = called .before .before .before .before in
+    done-step (in-loop .before .loop .inv) (in-loop .loop-test .taken) (called .before .lower-bound .ensures)
+    (called .lower-bound2 .ensures) (written .write-match .ensures)
+
+same-length : tie.Need-same-length Inv-loop μ-loop
+same-length c = done-long (c .before .loop .inv)
+
+returns : tie.Need-returns Inv-loop μ-loop
+returns c = done-end (c .before .loop .inv) (c .loop-test .left)
+
+pub write-rows-spec : {M : Type 1} → statement M
+write-rows-spec =
+    tie.close
+    (tie.spec
+    Inv-loop
+    μ-loop
+    loop-holds
+    mul-left
+    shared-slice-read-left
+    mul-letters
+    shared-slice-read-letters
+    lower-bound-requires
+    add-lower-bound
+    lower-bound-requires-2
+    add-write-match
+    cast-write-match
+    mul-write-match
+    shared-slice-read-write-match
+    shared-slice-read-write-match-2
+    write-match-requires
+    add-k
+    loop-less
+    loop-again
+    same-length
+    returns)

@@ -1,0 +1,45 @@
+-- What writing the rows needs and does.
+--     Stretch, Cutting      a piece lies on its match; the cuts of a match stand at some places of the run
+--     Placed                some rows stand in the table from a row on
+--     Writable, Written     the same for the rows of all matches
+-- Assumes nothing.
+use Prim.Native.Nat.{ℕ, suc, _+_, _*_, _^_, _≤_, _<_}
+use mathlib.Core.Path.{_≡_}
+use mathlib.Core.Bool.{Bool}
+use mathlib.Core.List.{List}
+use lib.ListN.{length, getD}
+use lib.Seq.{slice, sets}
+use Rattle.runs.specs.Runs.{In, Run}
+use Rattle.refinement.specs.Match.{Match}
+use Rattle.refining.specs.Rows.{rowsOver, numbersOf}
+
+-- x to y is some stretch on A of a match with left ends i and k and length d, which ends within 32 bits on B
+pub record Stretch (i k d x y : ℕ) : Type 0 where
+  pub from : i ≤ x
+  pub some : x < y
+  pub to : y ≤ i + d
+  pub fits : k + d < 2 ^ 32
+
+-- the numbers at first to last, last included, rise from i to i + d
+pub record Cutting (work : List ℕ) (first last i d : ℕ) : Type 0 where
+  pub order : first ≤ last
+  pub run : Run work first (suc last)
+  pub left-at : getD work first 0 ≡ i
+  pub right-at : getD work last 0 ≡ i + d
+
+-- the rows rs are written from the row `row` on, and n is the row after them
+pub record Placed (rs : List Match) (row : ℕ) (before after : List ℕ) (n : ℕ) : Type 0 where
+  pub count : n ≡ row + length rs
+  pub table : after ≡ sets before (5 * row) (numbersOf rs)
+
+-- the cuts of A rise at [lo, hi), both ends of each match are among them, and the rows have room in the table
+pub record Writable (a b d : List ℕ) (r : List Bool) (work : List ℕ) (lo hi : ℕ) (table : List ℕ) : Type 0 where
+  pub run : Run work lo hi
+  pub left-in : (k : ℕ) → k < length d → In work lo hi (getD a k 0)
+  pub right-in : (k : ℕ) → k < length d → In work lo hi (getD a k 0 + getD d k 0)
+  pub few : length d < 4294967296
+  pub room : 5 * length (rowsOver a b d r (slice lo hi work) (length d)) ≤ length table
+
+pub record Written (a b d : List ℕ) (r : List Bool) (run before after : List ℕ) (n : ℕ) : Type 0 where
+  pub count : n ≡ length (rowsOver a b d r run (length d))
+  pub table : after ≡ sets before 0 (numbersOf (rowsOver a b d r run (length d)))
