@@ -100,11 +100,12 @@ on B = 32 ∷ 66 ∷ 32 ∷ []
 abbrev pub touchingLine : ℕ → Side → List ℕ
 touchingLine n side = carriedLine (entry (touchingWord ++ blank) n ++ entry (on side) 4) touching n side 4
 
+abbrev pub sideLines : Side → List ℕ
+sideLines side = touchingLine 1 side ++ touchingLine 2 side
+
 -- "2 pieces; position 4 belongs to both"
 abbrev pub touchingLines : List ℕ
-touchingLines =
-    refinedLine touchingWord touching (replicate 32 0)
-    ++ touchingLine 1 A ++ touchingLine 2 A ++ touchingLine 1 B ++ touchingLine 2 B
+touchingLines = refinedLine touchingWord touching (replicate 32 0) ++ sideLines A ++ sideLines B
 
 -- "lengths "
 abbrev pub lengthsWord : List ℕ
