@@ -12,7 +12,7 @@ import tempfile
 from pathlib import Path
 
 CONVERTER = Path(__file__).resolve().with_name("mummer_to_script.py")
-SECONDS = 60
+SECONDS = 120
 
 ONE = (">one a record\nACGTTGCAACGGATTACAGATTACACCGT\nGGATCCATTTACG\n", ">two\nttttacgttgcaacggATTACAGATTACACCGTGG\n")
 SEVERAL = (
@@ -153,7 +153,7 @@ class Run:
 
     def run(self, words, given=b"", program=(str(CONVERTER),), stdout=subprocess.PIPE):
         self.runs += 1
-        command = [sys.executable, *program, *words]
+        command = [sys.executable, "-I", *program, *words]
         return subprocess.run(
             command, input=given, stdout=stdout, stderr=subprocess.PIPE, cwd=self.folder, timeout=SECONDS, check=False
         )
@@ -235,6 +235,7 @@ def errors(run):
     run.refuses("line 2: the letters of the match differ", (ONE[0].replace("TTACACC", "TTACGCC"), ONE[1]), OF_ONE)
     run.refuses("line 2: the letters of the match differ", ONE, OF_ONE.replace("  5        31", "  4        31"))
     run.refuses("line 2: the match could be longer", ONE, OF_ONE.replace("31", "30"))
+    run.refuses("line 2: the match could be longer", ONE, OF_ONE.replace("1         5        31", "2         6        30"))
     run.refuses("line 2: the match does not lie in its record", ONE, OF_ONE.replace("31", "32"))
     run.refuses("line 2: the match does not lie in its record", ONE, OF_ONE.replace("31", " 0"))
     run.refuses("line 2: the match does not lie in its record", ONE, OF_ONE.replace("  1  ", "  0  "))
@@ -274,6 +275,7 @@ def checks(run):
     refuses("no match at byte 9", ONE, good.replace(b"D", b"d"))
     refuses("match 1: the letters of the match differ", ONE, script_of(ONE, [("D", 0, 3, 31)]))
     refuses("match 2: the match could be longer", ONE, script_of(ONE, [IN_ONE[0], ("R", 1, 6, 9)]))
+    refuses("match 2: the match could be longer", ONE, script_of(ONE, [IN_ONE[0], ("R", 2, 5, 9)]))
     refuses("match 1: the match does not lie in its record", ONE, script_of(ONE, [("D", 20, 20, 4000000000)]))
     refuses("match 1: the match does not lie in its record", SEVERAL, script_of(SEVERAL, [("D", 16, 31, 13)]))
 
