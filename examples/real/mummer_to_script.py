@@ -33,8 +33,8 @@ LENGTHS, DIRECT, REVERSED, END = b"L", b"D", b"R", b"E"
 MOST_MATCHES, MOST_LETTERS = 2048, 1_000_000_000
 
 RECORD = re.compile(rb">(\S*)[^\n]*\n?([^>]*)")
-HEADER = re.compile(rb">\s?(\S*?)(\s+Reverse)?(?:\s+Len\s*=\s*(\d+))?\s*")
-MATCH = re.compile(rb"\s*(?:(\S+)\s+)?(\d+)\s+(\d+)\s+(\d+)\s*")
+HEADER = re.compile(rb">\s?(\S*?)(\s+Reverse)?(?:\s+Len\s*=\s*(\d{1,12}))?\s*")
+MATCH = re.compile(rb"\s*(?:(\S+)\s+)?(\d{1,12})\s+(\d{1,12})\s+(\d{1,12})\s*")
 
 # As mummer compares letters: in lower case, and in a reversed match by the complement, which is n for what has none.
 LOWER = bytes(range(256)).lower()
@@ -71,7 +71,7 @@ class Sequence:
         self.path = path
         with open(path, "rb") as file:
             data = file.read()
-        if data.lstrip()[:1] != b">":
+        if not re.match(rb"\s*>", data):
             raise Failure(f"{path}: not a FASTA file, which begins with a line '>NAME'")
         self.records = {}
         parts, left = [], 0
@@ -150,7 +150,7 @@ def count_of_matches(word):
 
 
 def convert(a, b, options):
-    matches = list(matches_of_mummer(sys.stdin.buffer, a, b))
+    matches = list(matches_of_mummer(standard_input(), a, b))
     if options.longest is not None:
         longest = heapq.nlargest(options.longest, range(len(matches)), key=lambda at: matches[at].length)
         matches = [matches[at] for at in sorted(longest)]
@@ -164,10 +164,14 @@ def convert(a, b, options):
     put(b"".join(script) + END)
 
 
+def standard_input():
+    return open(0, "rb", closefd=False)
+
+
 def put(data):
     """Writes all of it at once, so that none is left to fail after the last line of this program."""
     while data:
-        data = data[os.write(sys.stdout.fileno(), data) :]
+        data = data[os.write(1, data) :]
 
 
 def matches_of_mummer(lines, a, b):
@@ -246,7 +250,7 @@ def fault_of(match, on_a, on_b, a, b):
 
 def check(a, b, _):
     count = {DIRECT: 0, REVERSED: 0}
-    for number, match in enumerate(matches_of_script(sys.stdin.buffer.read(), a, b), 1):
+    for number, match in enumerate(matches_of_script(standard_input().read(), a, b), 1):
         fault = fault_of(match, a.record_at(match.left_a), b.record_at(match.left_b), a, b)
         if fault:
             raise Failure(f"match {number}: {fault}: convert it again, with the same two files")

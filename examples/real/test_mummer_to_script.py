@@ -245,6 +245,7 @@ def errors(run):
     run.refuses("line 1: not a line of mummer", ONE, "two\t35\t0\t31\t+\tone\t42\t0\t31\n")
     run.refuses("line 1: not a line of mummer", ONE, "> two and more\n")
     run.refuses("line 2: not a line of mummer", ONE, OF_ONE.replace("31", "-31"))
+    run.refuses("line 2: not a line of mummer", ONE, OF_ONE.replace("31", "3" * 5000))
     run.refuses("line 1: not a line of mummer", ONE, bytes(range(256)).replace(b"\n", b"") * 10)
     run.refuses("see whether it failed", ONE, "")
     run.refuses("two records are named 'left'", (SEVERAL[0].replace("right", "left"), SEVERAL[1]), OF_SEVERAL)
