@@ -153,7 +153,7 @@ class Run:
 
     def run(self, words, given=b"", program=(str(CONVERTER),), stdout=subprocess.PIPE):
         self.runs += 1
-        command = [sys.executable, "-I", *program, *words]
+        command = [sys.executable, "-IS", *program, *words]
         return subprocess.run(
             command, input=given, stdout=stdout, stderr=subprocess.PIPE, cwd=self.folder, timeout=SECONDS, check=False
         )
