@@ -1,7 +1,8 @@
 // A differential run: random calls on the set through its doors, and the same on two BTreeSets, one
 // of finished and one of newly found members. Every answer, every run that is handed back, the count
-// of unused places and all numbers outside the set's part are compared. The seed is fixed; the first
-// difference ends the run with status 1. An argument sets the count of sets tried.
+// of unused places and all numbers outside the set's part are compared. The seed is fixed. The last
+// line is 'cut_set: N calls, 0 differences', and the status 0, only if all were the same; the first
+// difference ends the run. An argument sets the count of sets tried.
 #[path = "doors.rs"]
 mod doors;
 
@@ -123,5 +124,5 @@ fn main() {
         compare(&mut random, number, room, 3 * room + 20);
         calls += 3 * room + 20;
     }
-    println!("cut_set: {sets} sets, {calls} additions and questions, no difference from BTreeSet");
+    println!("cut_set: {calls} calls, 0 differences");
 }

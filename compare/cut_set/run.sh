@@ -1,5 +1,6 @@
 #!/bin/sh
-# Builds the doors and the differential run, and runs it: status 0 where no answer differs.
+# Builds the doors and the differential run, and runs it. Its last line is 'cut_set: N calls, 0 differences', and its
+# status 0, only where no answer differs.
 set -e
 cd "$(dirname "$0")/../.."
 LC_ALL=C rt staticlib cut_set_doors > /dev/null

@@ -1,18 +1,21 @@
 //! Refines two long zigzags, to be run under a small stack: 100,000 and 1,000,000 rows, each cut carried from the last.
-//! Its last line is `zigzag: ..` with status 0 only if both tables have just the rows of single letters.
+//! Its last line is `zigzag: N rows, 0 differences`, and its status 0, only if both tables have just the rows of single
+//! letters.
 
 use compare::door::{self, Refining};
 use compare::groups::shapes::{script, zigzag};
 use std::process::ExitCode;
 
+const ROWS: [usize; 2] = [100_000, 1_000_000];
+
 fn main() -> ExitCode {
-    for rows in [100_000, 1_000_000] {
+    for rows in ROWS {
         if !is_refined(rows) {
             println!("zigzag: {rows} rows went wrong");
             return ExitCode::FAILURE;
         }
     }
-    println!("zigzag: 100000 and 1000000 rows refined");
+    println!("zigzag: {} rows, 0 differences", ROWS.iter().sum::<usize>());
     ExitCode::SUCCESS
 }
 

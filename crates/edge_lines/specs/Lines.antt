@@ -1,9 +1,9 @@
 -- The lines that are printed. TO READ: contracts mean what stands here.
---     readText, refinedText, carriedText    an answer of the library, as it stands at the end of a line
---     readLine, refinedLine, carriedLine    a heading, and what the library answers
---     workLine, touchingLine, longLine, manyLine    the lines of one sentence of 01
---     workLines .. manyLines                and all of them
---     edgeLines                             the whole text
+--     readText, refinedText, carriedText          an answer of the library, as it stands at the end of a line
+--     readLine, refinedLine, carriedLine          a heading, and behind it what the library answers
+--     workLine, touchingLine, longLine, manyLine  a line; its heading names what is handed to the library
+--     workLines, touchingLines, longLines, manyLines   the lines of one sentence of 01
+--     edgeLines                                   the whole text
 -- 01, "Small scripts at the edges": the lines without M. Assumes nothing.
 use Prim.Native.Nat.{ℕ}
 use mathlib.Core.List.{List, [], _∷_, _++_}
@@ -100,11 +100,12 @@ on B = 32 ∷ 66 ∷ 32 ∷ []
 abbrev pub touchingLine : ℕ → Side → List ℕ
 touchingLine n side = carriedLine (entry (touchingWord ++ blank) n ++ entry (on side) 4) touching n side 4
 
+abbrev pub sideLines : Side → List ℕ
+sideLines side = touchingLine 1 side ++ touchingLine 2 side
+
 -- "2 pieces; position 4 belongs to both"
 abbrev pub touchingLines : List ℕ
-touchingLines =
-    refinedLine touchingWord touching (replicate 32 0)
-    ++ touchingLine 1 A ++ touchingLine 2 A ++ touchingLine 1 B ++ touchingLine 2 B
+touchingLines = refinedLine touchingWord touching (replicate 32 0) ++ sideLines A ++ sideLines B
 
 -- "lengths "
 abbrev pub lengthsWord : List ℕ

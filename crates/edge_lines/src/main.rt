@@ -10,11 +10,12 @@ use refinement::Side;
 use text::put_byte;
 use text::put_bytes;
 ghost use mathlib.Core.Path.{_≡_};
+ghost use mathlib.Core.List.{_++_};
 ghost use Prim.Native.Nat.{_+_, _*_, _≤_};
 ghost use lib.ListN.{length};
 ghost use Rattle.text.specs.Putting.{Put};
 ghost use Rattle.edge_lines.specs.Scripts.{many};
-ghost use Rattle.edge_lines.specs.Lines.{workLines, touchingLines, longLines, manyLines, edgeLines};
+ghost use Rattle.edge_lines.specs.Lines.{carriedLine, workLines, touchingLines, longLines, manyLines, edgeLines};
 
 // "With 40 numbers of table, 32 of work pass and 31 give 11."
 fn put_work_lines(text: &mut [u8], at: usize) -> usize
@@ -29,6 +30,27 @@ fn put_work_lines(text: &mut [u8], at: usize) -> usize
     put_refined(text, next, b"work 31", run, &mut short)
 }
 
+// Position 4 carried over from one side, by match 1 and by match 2.
+fn put_carried_lines(
+    text: &mut [u8],
+    at: usize,
+    first: &[u8],
+    second: &[u8],
+    script: &[u8],
+    side: Side,
+) -> usize
+    requires { ⌜ (at ≤ 600) × (length (now first) ≤ 20) × (length (now second) ≤ 20) ⌝ }
+    ensures { λ r. ⌜
+        Put
+        (carriedLine (now (first .entry)) (now (script .entry)) 1 side 4
+        ++ carriedLine (now (second .entry)) (now (script .entry)) 2 side 4) (now (text .entry)) at (now (text .exit)) r
+        ⌝ }
+    ensures { λ r. ⌜ r ≤ at + 142 ⌝ }
+{
+    let next = put_carried(text, at, first, script, 1, side, 4);
+    put_carried(text, next, second, script, 2, side, 4)
+}
+
 // "Lengths 8 8, direct 0 0 4, direct 4 4 4: 2 pieces; position 4 belongs to both."
 fn put_touching_lines(text: &mut [u8], at: usize) -> usize
     requires { ⌜ at ≤ 200 ⌝ }
@@ -38,11 +60,23 @@ fn put_touching_lines(text: &mut [u8], at: usize) -> usize
     let touching =
         b"L\x08\0\0\0\x08\0\0\0D\0\0\0\0\0\0\0\0\x04\0\0\0D\x04\0\0\0\x04\0\0\0\x04\0\0\0E";
     let mut work = [0; 32];
-    let next = put_refined(text, at, b"touching", touching, &mut work);
-    let next = put_carried(text, next, b"touching 1 A 4", touching, 1, Side::A, 4);
-    let next = put_carried(text, next, b"touching 2 A 4", touching, 2, Side::A, 4);
-    let next = put_carried(text, next, b"touching 1 B 4", touching, 1, Side::B, 4);
-    put_carried(text, next, b"touching 2 B 4", touching, 2, Side::B, 4)
+    let rows = put_refined(text, at, b"touching", touching, &mut work);
+    let a = put_carried_lines(
+        text,
+        rows,
+        b"touching 1 A 4",
+        b"touching 2 A 4",
+        touching,
+        Side::A,
+    );
+    put_carried_lines(
+        text,
+        a,
+        b"touching 1 B 4",
+        b"touching 2 B 4",
+        touching,
+        Side::B,
+    )
 }
 
 // "Lengths 1000000000 1, end: passes. Lengths 1000000001 1: 5 at 0."

@@ -17,7 +17,7 @@ ghost use Rattle.io.specs.Counts.{Counts};
 ghost use Rattle.reporting.specs.Reporting.{reportOf, longestText};
 ghost use Rattle.notchergrey.specs.Counting.{inputRoom, countOf, Went};
 
-// So often a call that was interrupted, or found its descriptor busy, is made again: about a second.
+// So often a call that was interrupted, or found its descriptor busy, is made again: for a second or two.
 const TRIES: u32 = 1_000_000;
 
 // How many bytes a read or a write moved.

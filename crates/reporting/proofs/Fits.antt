@@ -1,15 +1,17 @@
--- The program's text buffer is long enough.
+-- When a text is printed; the program's buffer is long enough.
+--     report-whole     a report that is no longer than the buffer is printed whole, and the bytes behind it are kept
+--     report-short     for a longer one its length is told, and every byte is kept
 --     report-fits      no report is longer than longestText ..
 --     report-printed   .. so that the call prints it whole into such a buffer
 -- A table has at most 3,000 rows, because refining writes no more rows than the lent table has room for.
 -- Assumes nothing.
-use Prim.Native.Nat.{ℕ, _*_, _≤_}
+use Prim.Native.Nat.{ℕ, _*_, _≤_, _<_}
 use mathlib.Core.Path.{_≡_, refl}
 use mathlib.Core.List.{List, [], _++_, map}
 use native.Mathlib.Omega.{arith}
 use native.Mathlib.Decide.{decLe}
 use lib.ListN.{length, drop, length-map, length-replicate}
-use borrow.Author.Tests.{le-ltb}
+use borrow.Author.Tests.{lt-ltb, le-ltb}
 use Rattle.script.specs.Reading.{Reading, admitted, refused, readScript}
 use Rattle.script.specs.declared.refusal.Refusal.the-variants.{TooManyPieces}
 use Rattle.refinement.specs.Match.{Match}
@@ -44,6 +46,21 @@ report-fits s = go (readScript s)
         matches-fit p q (length ms) (numbered 1 ms) lentTable lentWork
         (length-replicate {A = ℕ} (rowWidth * lentRows) 0) (length-replicate {A = ℕ} (4 * lentRows) 0)
 
+-- a text that fills the buffer to its last byte has room
+pub report-whole :
+    (script text : List ℕ) → length (reportOf script) ≤ length text
+    → reportingOf script text
+    ≡ record {
+      reply = Reported.Printed (length (reportOf script));
+      text = reportOf script ++ drop (length (reportOf script)) text;
+    }
+report-whole script text room = rw (le-ltb (length text) (length (reportOf script)) room) refl
+
+pub report-short :
+    (script text : List ℕ) → length text < length (reportOf script)
+    → reportingOf script text ≡ record { reply = Reported.TextTooShort (length (reportOf script)); text = text }
+report-short script text short = rw (lt-ltb (length text) (length (reportOf script)) short) refl
+
 pub report-printed :
     (script text : List ℕ) → longestText ≤ length text
     → reportingOf script text
@@ -51,6 +68,4 @@ pub report-printed :
       reply = Reported.Printed (length (reportOf script));
       text = reportOf script ++ drop (length (reportOf script)) text;
     }
-report-printed script text room =
-    let printed = length (reportOf script) in
-    rw (le-ltb (length text) printed (omega (arith, report-fits script))) refl
+report-printed script text room = report-whole script text (omega (arith, report-fits script))

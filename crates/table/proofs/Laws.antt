@@ -22,7 +22,8 @@ use lib.Pow.{pow-mono}
 use lib.Seq.{getD-drop}
 use Rattle.rows.specs.Rows.{rowWidth, firstRows, rowsOf, numbersOf}
 use Rattle.table.specs.Distinct.{same, occurs, firstsAfter, firstOfEach}
-use Rattle.table.specs.Summing.{total, count, lettersOf, classCount, inClass, classesFrom, summaryOf, summaryOfRows}
+use Rattle.table.specs.Summing.{total, count, lettersOf, classCount, inClass, classesFrom}
+use Rattle.table.specs.Summing.{summaryOfRows, summaryOf}
 use Rattle.rows.specs.declared.Row.{Row}
 use Rattle.table.proofs.Counting.{count-inside, count-agrees, count-every, count-no-one, count-joined}
 use Rattle.rows.proofs.TableRows.{rows-length}

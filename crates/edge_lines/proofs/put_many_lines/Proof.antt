@@ -45,13 +45,13 @@ same-length c = search needs
 returns : tie.Need-returns
 unfolding placesWithin
 returns c =
-    let second = c .before .before in
-    let first = second .before .before .before .before .before .before in
+    let last = c .before .before in
+    let first = last .before .before .before .before .before .before in
     let more = first .before .before .before .before .before in
     let most = more .before .before .before in (
       put-then
           (put-same (ap (readLine (entry matchesWord 2048)) (most .put-many .ensures)) (first .put-read .ensures .0))
-          (put-same (ap (readLine (entry matchesWord 2049)) (more .put-many2 .ensures)) (second .put-read2 .ensures .0)),
+          (put-same (ap (readLine (entry matchesWord 2049)) (more .put-many2 .ensures)) (last .put-read2 .ensures .0)),
       omega (arith, first .put-read .ensures .1),
     )
 

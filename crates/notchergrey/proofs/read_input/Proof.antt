@@ -36,7 +36,7 @@ add-done c =
     omega (arith, rw (bound .more .given .1) at (called .read-more .ensures .1))
 
 loop-less : tie.Need-loop-less Inv-loop μ-loop
-loop-less c = search needs
+loop-less c = omega arith
 
 loop-again : tie.Need-loop-again Inv-loop μ-loop
 loop-again c =

@@ -16,19 +16,19 @@ abbrev μ-loop : tie.MeasureT-loop
 μ-loop script text done₀ tries₀ done tries = length text - done + tries
 
 loop-holds : tie.Need-loop-holds Inv-loop μ-loop
-loop-holds c = search needs
+loop-holds c = omega arith
 
 sub-loop : tie.Need-sub-loop Inv-loop μ-loop
-sub-loop c = search needs
+sub-loop c = omega arith
 
 sub-write-rest : tie.Need-sub-write-rest Inv-loop μ-loop
-sub-write-rest c = search needs
+sub-write-rest c = omega arith
 
 part-write-rest-start : tie.Need-part-write-rest-start Inv-loop μ-loop
-part-write-rest-start c = search needs
+part-write-rest-start c = omega arith
 
 part-write-rest-end : tie.Need-part-write-rest-end Inv-loop μ-loop
-part-write-rest-end c = search needs
+part-write-rest-end c = omega arith
 
 write-rest-requires : tie.Need-write-rest-requires Inv-loop μ-loop
 write-rest-requires c κs =
@@ -51,7 +51,7 @@ add-done c =
     omega (arith, rw (bound .more .given .1) at (called .write-rest .ensures))
 
 loop-less : tie.Need-loop-less Inv-loop μ-loop
-loop-less c = search needs
+loop-less c = omega arith
 
 loop-again : tie.Need-loop-again Inv-loop μ-loop
 loop-again c =
