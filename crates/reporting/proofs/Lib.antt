@@ -1,3 +1,4 @@
+pub mod Examples
 pub mod Bounds
 pub mod LeastRows
 pub mod Letters
@@ -6,4 +7,3 @@ pub mod Lent
 pub mod Prefix
 pub mod ReadBack
 pub mod SameReports
-pub mod Examples
