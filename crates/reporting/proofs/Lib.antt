@@ -1,3 +1,4 @@
+pub mod Examples
 pub mod Bounds
 pub mod LeastRows
 pub mod Letters
