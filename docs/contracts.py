@@ -12,13 +12,13 @@ from pathlib import Path
 
 # The calls that 01 names: the file below crates/ and the function.
 TOTAL = {
-    ("script/src/lib.rt", "read"),
-    ("script/src/find.rt", "find_match"),
+    ("reader/src/lib.rt", "read"),
+    ("reader/src/find.rt", "find_match"),
     ("refine/src/lib.rt", "refine"),
     ("refine/src/carrying.rt", "carry"),
-    ("table/src/finding.rt", "rows_of"),
-    ("table/src/finding.rt", "span_of"),
-    ("table/src/summing.rt", "sum_up"),
+    ("match_rows/src/lib.rt", "rows_of"),
+    ("match_rows/src/lib.rt", "span_of"),
+    ("summary/src/lib.rt", "sum_up"),
     ("report/src/lib.rt", "report"),
 }
 DOORS = "capi/src/"

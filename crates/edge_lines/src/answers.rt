@@ -1,11 +1,11 @@
 // Lines put into a lent text from a place on: a heading, and what the library answers. The place behind is returned.
+use refinement::Side;
 use refining::answers::Carried;
 use refining::answers::Refined;
-use refinement::Side;
-use script::Refusal;
-use script::Verdict;
 use refusals::number_of;
 use refusals::place_of;
+use script::Refusal;
+use script::Verdict;
 use text::put_byte;
 use text::put_bytes;
 use text::put_number;

@@ -7,5 +7,4 @@ pub mod Lent
 pub mod Prefix
 pub mod ReadBack
 pub mod SameReports
-pub mod Examples
 pub mod Shown
