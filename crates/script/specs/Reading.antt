@@ -8,7 +8,7 @@ use mathlib.Core.Bool.{false}
 use mathlib.Core.List.{List, [], _∷_, _++_, map}
 use lib.ListN.{length, drop, replicate}
 use Rattle.script.specs.Limits.{mostMatches}
-use Rattle.script.specs.Commands.{commandOf}
+use Rattle.script.specs.Commands.{lengthsWidth, matchWidth, commandOf}
 use Rattle.script.specs.Steps.{openingOf, stepOf}
 use Rattle.script.specs.declared.refusal.Refusal.{Refusal}
 use Rattle.script.specs.declared.refusal.Refusal.the-variants.{CutShort}
@@ -37,7 +37,7 @@ unfoldable pub readFrom : ℕ → ℕ → ℕ → ℕ → List Match → List �
 readFrom zero p q at ms s = refused (CutShort at)
 readFrom (suc bytes) p q at ms s =
     afterStep p q ms (stepOf p q (length ms) at (commandOf s))
-    (λ m. readFrom bytes p q (at + 13) (ms ++ m ∷ []) (drop 13 s))
+    (λ m. readFrom bytes p q (at + matchWidth) (ms ++ m ∷ []) (drop matchWidth s))
 
 abbrev pub afterOpening : Opening → (ℕ → ℕ → Reading) → Reading
 afterOpening (Opening.Refuse r) onward = refused r
@@ -45,7 +45,9 @@ afterOpening (Opening.Open p q) onward = onward p q
 
 -- the reading of a whole string of bytes
 unfoldable pub readScript : List ℕ → Reading
-readScript s = afterOpening (openingOf (commandOf s)) (λ p q. readFrom (length s) p q 9 [] (drop 9 s))
+readScript s =
+    afterOpening (openingOf (commandOf s))
+    (λ p q. readFrom (length s) p q lengthsWidth [] (drop lengthsWidth s))
 
 -- a column of the reply: one field of each match, and blanks past the last
 abbrev pub column : {X : Type 0} → X → (Match → X) → List Match → List X
