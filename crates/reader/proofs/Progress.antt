@@ -1,9 +1,12 @@
 -- What the reader's loop keeps: the commands passed are good, and the columns hold their matches.
 --     rest-drop           a part of a slice from an offset to the end is the remainder
 --     Columns             the columns hold these matches, and blanks behind them
---     columns-start       none at the start
 --     columns-taken       one more match, stored at the count
 --     next-reach          the match that a step takes leads one good command further
+--     opening-reach, opening-refused     what the first command comes to
+--     Progress            the invariant: both at once
+--     comes               the loop's two calls compute the step at the offset
+--     progress-refused, progress-finished, progress-taken     what each step makes of it
 -- Assumes nothing.
 use Prim.Native.Nat.{ℕ, suc, _+_, _-_, _<_}
 use mathlib.Core.Path.{_≡_, refl, sym, ap, subst, _∙_}

@@ -1,10 +1,10 @@
 -- 01's table of refusals, as the relation `Outcome` states it, and the computed reading agree in both directions, so
--- that
--- exactly one row applies to each string of bytes.
+-- that exactly one row applies to each string of bytes.
 --     reach-place         the offset behind n matches is 9 + 13 n, and there are at most 2,048 of them
 --     reach-inside        and lies within the script
 --     reach-range         p and q are in range
 --     reach-within        each of them lies within p and q
+--     behindLengths, behindMatch     what is read from there on
 --     reach-read          good commands passed, reading goes on behind them
 --     reach-ends          and comes to what the next command does
 --     outcome-alone       any outcome that applies is the computed reading, in 01's numbers and places
@@ -158,7 +158,8 @@ outcome-alone {s} (Outcome.second-lengths {at} r b) =
       | yes w ↦ ends-answer r (Seen.lengths b w) refl
       | no w ↦ ends-answer r (Seen.lengths-short b (lt-of-not-le w)) refl
     ]
-outcome-alone {s} (Outcome.length-out-of-range l n) = opening-answer s (lengths-seen l) (opens-step (Opens.out-of-range n))
+outcome-alone {s} (Outcome.length-out-of-range l n) =
+    opening-answer s (lengths-seen l) (opens-step (Opens.out-of-range n))
 outcome-alone {s} (Outcome.too-many-matches {at} {ms} r e b) =
     let full : mostMatches ≤ length ms = omega arith in
     elim (decLe (at + matchWidth) (length s)) [

@@ -1,6 +1,5 @@
 -- The first 26,635 bytes decide the outcome of every longer script: what the table of refusals asks of a script, it
--- asks
--- of these bytes alone.
+-- asks of these bytes alone.
 --     reach-take       good commands within the first n bytes are good commands of those n bytes
 --     prefix-decides   one byte more than the longest admitted script has decides
 -- Assumes nothing.

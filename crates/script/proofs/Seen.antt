@@ -34,7 +34,8 @@ pub data Seen (s : List ℕ) (at : ℕ) : Command → Type 0 where
   missing : length s ≤ at → Seen s at Missing
   unknown : at < length s → getD s at 0 ≢ 0x4C → getD s at 0 ≢ 0x44 → getD s at 0 ≢ 0x52 → getD s at 0 ≢ 0x45
       → Seen s at Unknown
-  lengths : Byte s at 0x4C → at + lengthsWidth ≤ length s → Seen s at (Lengths (numberAt s (at + 1)) (numberAt s (at + 5)))
+  lengths : Byte s at 0x4C → at + lengthsWidth ≤ length s
+      → Seen s at (Lengths (numberAt s (at + 1)) (numberAt s (at + 5)))
   lengths-short : Byte s at 0x4C → length s < at + lengthsWidth → Seen s at LengthsCutShort
   pairing : {m : Match} → MatchAt s at m → Seen s at (Pairing m)
   pairing-short : {way : Bool} → MatchByte s at way → length s < at + matchWidth → Seen s at MatchCutShort
@@ -58,7 +59,11 @@ module _ (s : List ℕ) (at : ℕ) where
   seen-lengths : Byte s at 0x4C → Seen s at (lengthsOf (drop at s))
   seen-lengths b =
       elim (decLe (at + lengthsWidth) (length s)) [
-        | yes w ↦ rw (le-ltb (length (drop at s)) lengthsWidth (omega (arith, left)), number-drop at 1 s, number-drop at 5 s)
+        | yes w ↦ rw (
+          le-ltb (length (drop at s)) lengthsWidth (omega (arith, left)),
+          number-drop at 1 s,
+          number-drop at 5 s,
+        )
             (lengths b w)
         | no w ↦ let short = lt-of-not-le w in
             rw (lt-ltb (length (drop at s)) lengthsWidth (omega (arith, left, short))) (lengths-short b short)

@@ -18,8 +18,7 @@ use Rattle.script.specs.declared.step.Step.{Step}
 use Rattle.script.specs.declared.Verdict.{Verdict}
 use Rattle.script.specs.declared.Script.{Script}
 
--- "A script is admitted if its bytes meet no condition of refusals 1 to 10"; "Matches are numbered from 1 in script
--- order."
+-- SCOPE, "Admitted" and "Numbering": by no fault in the bytes; the matches stand in the order of the script
 pub data Reading : Type 0 where
   admitted : (p q : ℕ) → List Match → Reading
   refused : Refusal → Reading
@@ -30,9 +29,8 @@ afterStep p q ms (Step.Refuse r) onward = refused r
 afterStep p q ms Step.Finish onward = admitted p q ms
 afterStep p q ms (Step.Take m) onward = onward m
 
--- "The reader works on the script's remainder, starting at the command after the last one read": the remainder s from
--- the
--- offset at, behind the matches ms. The first number is at least the bytes of s, and only makes the recursion end.
+-- SCOPE, "Remainder": s is what is left of the script from the offset at on, behind the matches ms. The first number is
+-- at least the bytes of s, and only makes the recursion end.
 unfoldable pub readFrom : ℕ → ℕ → ℕ → ℕ → List Match → List ℕ → Reading
 readFrom zero p q at ms s = refused (CutShort at)
 readFrom (suc bytes) p q at ms s =
