@@ -41,8 +41,8 @@ pub data Said (X : Type 0) : Type 0 where
   gives : X → Said X
   refuses : Refusal → Said X
 
--- "A refusal returns its number and a place." 0 is no refusal's number. What is not given is as it was: "a refused call
--- leaves each lent number unaltered", and "After success too, lent numbers .. that no rule .. names keep their values."
+-- SCOPE, "Place": a refusal gives its number and a place; 0 is no refusal's number. What is not given is as it was:
+-- SCOPE, "Kept when refused" and "Kept on success".
 abbrev pub door : {X : Type 0} → Said X → ℕ → X → Reply X
 door (gives x) place was = record { number = 0; place = place; given = x }
 door (refuses r) place was = record { number = numberOf r; place = placeOf r; given = was }
@@ -66,7 +66,7 @@ readDoor script place was = door (ofReading (readScript script)) place was
 
 -- ---- one match
 
--- "direction (0 direct, 1 reversed)"
+-- SCOPE, "Rows": 0 for direct, 1 for reversed
 abbrev pub bitOf : Bool → ℕ
 bitOf true = 1
 bitOf false = 0
@@ -85,13 +85,13 @@ ofFinding (Finding.Found m) =
     (record { left-a = m .«left_a»; left-b = m .«left_b»; letters = m .length; reversed = bitOf (m .reversed) })
 ofFinding (Finding.Refused r) = refuses r
 
--- notchergrey_match, by "Matches are numbered from 1"
+-- notchergrey_match; SCOPE, "Numbering": from 1
 abbrev pub matchDoor : List ℕ → ℕ → ℕ → OneMatch → Reply OneMatch
 matchDoor script number place was = door (ofFinding (findingOf (readScript script) number)) place was
 
 -- ---- refining
 
--- "Success returns the count of rows"
+-- SCOPE, "Success": the count of rows
 abbrev pub ofRefined : Refined → Said ℕ
 ofRefined (Refined.Rows n) = gives n
 ofRefined (Refined.Refused r) = refuses r
@@ -115,7 +115,7 @@ carryDoor side script number position place was = door (ofCarried (carryingOf sc
 abbrev pub carryFromA : List ℕ → ℕ → ℕ → ℕ → ℕ → Reply ℕ
 carryFromA script number position place was = carryDoor A script number position place was
 
--- notchergrey_carry_from_b: "Carrying from B to A is the inverse." (laws a-then-b, b-then-a)
+-- notchergrey_carry_from_b; SCOPE, "Carrying": the way back (laws a-then-b, b-then-a)
 abbrev pub carryFromB : List ℕ → ℕ → ℕ → ℕ → ℕ → Reply ℕ
 carryFromB script number position place was = carryDoor B script number position place was
 

@@ -1,5 +1,7 @@
 // One command at the start of a remainder of the script: what stands there, without what it means for the script.
 use script::command::Command;
+use script::command::LENGTHS_WIDTH;
+use script::command::MATCH_WIDTH;
 use script::command::Match;
 ghost use mathlib.Core.Path.{_≡_};
 ghost use Prim.Native.Nat.{_+_, _<_, _≤_};
@@ -25,7 +27,7 @@ fn number_at(rest: &[u8], at: usize) -> u32
 fn read_lengths(rest: &[u8]) -> Command
     ensures { λ r. ⌜ r ≡ lengthsOf (now (rest .entry)) ⌝ }
 {
-    if rest.len() < 9 {
+    if rest.len() < LENGTHS_WIDTH {
         return Command::LengthsCutShort;
     }
     Command::Lengths {
@@ -37,7 +39,7 @@ fn read_lengths(rest: &[u8]) -> Command
 fn read_match(rest: &[u8], reversed: bool) -> Command
     ensures { λ r. ⌜ r ≡ matchOf reversed (now (rest .entry)) ⌝ }
 {
-    if rest.len() < 13 {
+    if rest.len() < MATCH_WIDTH {
         return Command::MatchCutShort;
     }
     Command::Pairing(Match {

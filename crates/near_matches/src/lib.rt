@@ -47,8 +47,8 @@ fn pass_many(lefts: &[u32], lengths: &[u32], k: usize, lowest: u32, highest: u32
     at
 }
 
-// The next match from index k on that reaches into the stretch from lowest to highest. The others span no cut there,
-// and a step that found few cuts has hardly any but others: it pays to pass over them here.
+// The next match from index k on that reaches into the stretch from lowest to highest. One that does not reach there
+// spans no cut of it. Where a step found few cuts, most matches are such: it pays to pass over them here.
 pub fn next_near(lefts: &[u32], lengths: &[u32], k: usize, lowest: u32, highest: u32) -> usize
     requires { ⌜ Ends (now lefts) (now lengths) ⌝ }
     requires { ⌜ k ≤ length (now lengths) ⌝ }

@@ -60,8 +60,8 @@ fn read_more(bytes: &mut [u8], done: usize) -> Moved
     Moved::Bytes(io::count(got, &bytes[done..]))
 }
 
-// Reads until the buffer is full or the input ends. What came before a read that fails would be a shorter script, and
-// so is none.
+// Reads until the buffer is full or the input ends. What came before a read that fails is not answered, since it would
+// be taken for a shorter script.
 fn read_input(bytes: &mut [u8]) -> Moved
     requires { ⌜ inputRoom ≡ length (now bytes) ⌝ }
     ensures { λ r. ⌜ countOf r ≤ length (now (bytes .exit)) ⌝ }

@@ -1,9 +1,12 @@
 -- What the reader's loop keeps: the commands passed are good, and the columns hold their matches.
 --     rest-drop           a part of a slice from an offset to the end is the remainder
 --     Columns             the columns hold these matches, and blanks behind them
---     columns-start       none at the start
 --     columns-taken       one more match, stored at the count
 --     next-reach          the match that a step takes leads one good command further
+--     opening-reach, opening-refused     what the first command comes to
+--     Progress            the invariant: both at once
+--     comes               the loop's two calls compute the step at the offset
+--     progress-refused, progress-finished, progress-taken     what each step makes of it
 -- Assumes nothing.
 use Prim.Native.Nat.{ℕ, suc, _+_, _-_, _<_}
 use mathlib.Core.Path.{_≡_, refl, sym, ap, subst, _∙_}
@@ -15,7 +18,7 @@ use native.Mathlib.Nat.{lt-of-not-le}
 use lib.ListN.{length, take, drop, set, replicate, length-drop, length-append, length-map}
 use lib.Seq.{take-all, set-at, append-snoc}
 use Rattle.script.specs.Limits.{mostMatches}
-use Rattle.script.specs.Commands.{numberAt, commandOf}
+use Rattle.script.specs.Commands.{lengthsWidth, matchWidth, numberAt, commandOf}
 use Rattle.script.specs.Steps.{openingOf, stepOf}
 use Rattle.script.specs.Reading.{refused, column, readScript, scriptOf}
 use Rattle.script.specs.Outcomes.{MatchAt, LengthsAt, Reach, opened, taken}
@@ -73,7 +76,7 @@ Next P Step.Finish = Unit
 Next P (Step.Take m) = P m
 
 match-next : {s : List ℕ} {p q at : ℕ} {ms : List Match} {m : Match} {t : Step} → Reach s p q at ms → MatchAt s at m
-    → Judged p q (length ms) at m t → Next (λ n. Reach s p q (at + 13) (ms ++ n ∷ [])) t
+    → Judged p q (length ms) at m t → Next (λ n. Reach s p q (at + matchWidth) (ms ++ n ∷ [])) t
 match-next r d (Judged.too-many _) = tt
 match-next r d (Judged.empty _ _) = tt
 match-next r d (Judged.beyond-a _ _ _) = tt
@@ -81,7 +84,7 @@ match-next r d (Judged.beyond-b _ _ _ _) = tt
 match-next r d (Judged.good room w) = taken r room d w
 
 step-next : {s : List ℕ} {p q at : ℕ} {ms : List Match} {c : Command} → Reach s p q at ms → Seen s at c
-    → Next (λ n. Reach s p q (at + 13) (ms ++ n ∷ [])) (stepOf p q (length ms) at c)
+    → Next (λ n. Reach s p q (at + matchWidth) (ms ++ n ∷ [])) (stepOf p q (length ms) at c)
 step-next r (Seen.missing _) = tt
 step-next r (Seen.unknown _ _ _ _ _) = tt
 step-next r (Seen.lengths _ _) = tt
@@ -96,9 +99,9 @@ step-next r (Seen.end _ _) = tt
 step-next r (Seen.end-then-more _ _) = tt
 
 pub next-reach : {s : List ℕ} {p q at : ℕ} {ms : List Match} {m : Match} → Reach s p q at ms
-    → stepOf p q (length ms) at (commandOf (drop at s)) ≡ Step.Take m → Reach s p q (at + 13) (ms ++ m ∷ [])
+    → stepOf p q (length ms) at (commandOf (drop at s)) ≡ Step.Take m → Reach s p q (at + matchWidth) (ms ++ m ∷ [])
 next-reach {s} {p} {q} {at} {ms} r e =
-    subst (Next (λ n. Reach s p q (at + 13) (ms ++ n ∷ []))) e (step-next r (seen s at))
+    subst (Next (λ n. Reach s p q (at + matchWidth) (ms ++ n ∷ []))) e (step-next r (seen s at))
 
 -- ---- the first command
 
@@ -108,11 +111,11 @@ Begins P (Opening.Refuse r) = Unit
 Begins P (Opening.Open p q) = P p q
 
 lengths-begin : {s : List ℕ} {p q : ℕ} {o : Opening} → LengthsAt s p q → Opens p q o
-    → Begins (λ p q. Reach s p q 9 []) o
+    → Begins (λ p q. Reach s p q lengthsWidth []) o
 lengths-begin l (Opens.open-them a b) = opened l a b
 lengths-begin l (Opens.out-of-range _) = tt
 
-opening-begins : {s : List ℕ} {c : Command} → Seen s 0 c → Begins (λ p q. Reach s p q 9 []) (openingOf c)
+opening-begins : {s : List ℕ} {c : Command} → Seen s 0 c → Begins (λ p q. Reach s p q lengthsWidth []) (openingOf c)
 opening-begins (Seen.missing _) = tt
 opening-begins (Seen.unknown _ _ _ _ _) = tt
 opening-begins {s} (Seen.lengths b w) =
@@ -123,8 +126,8 @@ opening-begins (Seen.pairing-short _ _) = tt
 opening-begins (Seen.end _ _) = tt
 opening-begins (Seen.end-then-more _ _) = tt
 
-pub opening-reach : {s : List ℕ} {p q : ℕ} → openingOf (commandOf s) ≡ Opening.Open p q → Reach s p q 9 []
-opening-reach {s} e = subst (Begins (λ p q. Reach s p q 9 [])) e (opening-begins (seen s 0))
+pub opening-reach : {s : List ℕ} {p q : ℕ} → openingOf (commandOf s) ≡ Opening.Open p q → Reach s p q lengthsWidth []
+opening-reach {s} e = subst (Begins (λ p q. Reach s p q lengthsWidth [])) e (opening-begins (seen s 0))
 
 pub opening-refused : (s : List ℕ) {r : Refusal} → openingOf (commandOf s) ≡ Opening.Refuse r → readScript s ≡ refused r
 opening-refused s e = opening-at s (seen s 0) e
@@ -171,7 +174,7 @@ module _ {s : List ℕ} {p q : ℕ} {left-a left-b letters : List ℕ} {reversed
 
   pub progress-taken : {m : Match} → stepOf p q (length (h .matches)) at (commandOf (drop at s)) ≡ Step.Take m
       → Progress s p q (set left-a count (m .«left_a»)) (set left-b count (m .«left_b»))
-      (set letters count (m .length)) (set reversed count (m .reversed)) (count + 1) (at + 13)
+      (set letters count (m .length)) (set reversed count (m .reversed)) (count + 1) (at + matchWidth)
   progress-taken {m} e =
       record {
         matches = h .matches ++ m ∷ [];

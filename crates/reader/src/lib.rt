@@ -7,6 +7,8 @@ use judging::judge_opening;
 use script::Refusal;
 use script::Script;
 use script::Verdict;
+use script::command::LENGTHS_WIDTH;
+use script::command::MATCH_WIDTH;
 use script::limits::MOST_MATCHES;
 use script::step::Opening;
 use script::step::Step;
@@ -15,6 +17,7 @@ ghost use mathlib.Core.List.{[]};
 ghost use mathlib.Core.Bool.{false};
 ghost use lib.ListN.{replicate};
 ghost use Rattle.script.specs.Limits.{mostMatches};
+ghost use Rattle.script.specs.Commands.{lengthsWidth};
 ghost use Rattle.script.specs.Reading.{readScript, scriptOf, refused};
 ghost use Rattle.script.specs.Outcomes.{Reach};
 ghost use Rattle.script.specs.Demands.{ReadingDemand};
@@ -45,7 +48,7 @@ fn refused(refusal: Refusal) -> Script
 
 // The commands behind the lengths, one after the other.
 fn read_matches(script: &[u8], p: u32, q: u32) -> Script
-    requires { ⌜ Reach (now script) p q 9 [] ⌝ }
+    requires { ⌜ Reach (now script) p q lengthsWidth [] ⌝ }
     ensures { λ r. ⌜ r ≡ scriptOf (readScript (now (script .entry))) ⌝ }
 {
     let mut left_a = zeros();
@@ -53,7 +56,7 @@ fn read_matches(script: &[u8], p: u32, q: u32) -> Script
     let mut length = zeros();
     let mut reversed = unset();
     let mut count: usize = 0;
-    let mut at: usize = 9;
+    let mut at: usize = LENGTHS_WIDTH;
     loop {
         match judge(read_command(&script[at..]), p, q, count, at) {
             Step::Refuse(refusal) => return refused(refusal),
@@ -72,7 +75,7 @@ fn read_matches(script: &[u8], p: u32, q: u32) -> Script
                 length[count] = found.length;
                 reversed[count] = found.reversed;
                 count += 1;
-                at += 13;
+                at += MATCH_WIDTH;
             }
         }
     }

@@ -1,7 +1,7 @@
 -- The least set of cuts, as 01 finds it. TO READ: contracts mean what stands here.
 --     End m p           the place p is one of the four ends of m
 --     Cut ms marks p    p is an end of a match, a spanned mark, or carried from a cut by a match that spans it
--- 01, "Resolved refinement", last paragraph. Marks are those of request #106; there are none before it.
+-- 01, "Resolved refinement"; SCOPE, "Least cuts". Marks are those of request #106; there are none before it.
 -- Assumes nothing.
 use Prim.Native.Nat.{ℕ}
 use mathlib.Core.List.{List}
@@ -13,9 +13,8 @@ pub data End (m : Match) : Place → Type 0 where
   left-end : (s : Side) → End m (place m s (left m s))
   right-end : (s : Side) → End m (place m s (right m s))
 
--- 01: "begin with the ends of all matches. A new cut on A is carried over to B by every match that spans it, and each
--- new cut on B is carried over to A in the same way, until neither side gains one." #106: "A mark that some match spans
--- must be a cut".
+-- SCOPE, "Least cuts": the ends of all matches, and what a match carries a cut to that it spans, from A or from B.
+-- #106: a mark that some match spans is a cut too.
 pub data Cut (ms : List Match) (marks : List Place) : Place → Type 0 where
   end : {m : Match} {p : Place} → m ∈ ms → End m p → Cut ms marks p
   mark : {m : Match} {s : Side} {h : ℕ} → m ∈ ms → place m s h ∈ marks → Spans m s h → Cut ms marks (place m s h)

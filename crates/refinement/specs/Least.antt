@@ -47,7 +47,7 @@ in? p (q ∷ ps) = go (same? p q) (in? p ps)
 abbrev pub sides : List Side
 sides = A ∷ B ∷ []
 
--- 01: "begin with the ends of all matches"
+-- SCOPE, "Least cuts": what the rounds begin with
 abbrev pub endsOf : Match → Side → List Place
 endsOf m s = place m s (left m s) ∷ place m s (right m s) ∷ []
 
@@ -58,14 +58,14 @@ ends ms = flatMap (λ m. flatMap (endsOf m) sides) ms
 unfoldable pub spanning : List Match → Place → List (Match × Side)
 spanning ms p = flatMap (λ m. map (λ s. (m, s)) (filter (spansPlace? m p) sides)) ms
 
--- 01: a cut "is carried over .. by every match that spans it"
+-- SCOPE, "Least cuts": where a match that spans a cut carries it to
 abbrev pub carriedBy : Place → Match × Side → Place
 carriedBy p v = place (v .0) (other (v .1)) (carry (v .0) (v .1) (p .position))
 
 unfoldable pub images : List Match → List Place → List Place
 images ms ps = flatMap (λ p. map (carriedBy p) (spanning ms p)) ps
 
--- #106: "A mark that some match spans must be a cut; others change nothing."
+-- #106: the marks that some match spans; others change nothing
 unfoldable pub spannedMarks : List Match → List Place → List Place
 spannedMarks ms marks = flatMap (λ p. map (λ v. p) (spanning ms p)) marks
 
@@ -74,7 +74,7 @@ unfoldable pub addNew : List Place → List Place → List Place
 addNew [] ps = ps
 addNew (q ∷ qs) ps = let all = addNew qs ps in ite (in? q all) all (q ∷ all)
 
--- 01: "until neither side gains one". At most n rounds; a round that adds nothing is the last.
+-- SCOPE, "Least cuts": rounds until one adds nothing, at most n of them
 unfoldable pub grow : ℕ → List Match → List Place → List Place
 grow zero ms ps = ps
 grow (suc n) ms ps =
@@ -127,6 +127,6 @@ spannedFrom m s (suc n) = place m s (left m s + suc n) ∷ spannedFrom m s n
 unfoldable pub spannedPlaces : List Match → List Place
 spannedPlaces ms = flatMap (λ m. flatMap (λ s. spannedFrom m s (m .length)) sides) ms
 
--- 01, "Where the sheet went wrong": "Chopping every match to single letters: resolved, and far from least."
+-- SCOPE, "Single letters": the wrong table that is resolved too
 unfoldable pub singleLetters : List Match → List Match
 singleLetters ms = tableFrom (addNew (spannedPlaces ms) []) ms

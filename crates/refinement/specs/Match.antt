@@ -13,7 +13,7 @@ use lib.Dec.{leb}
 use Rattle.refinement.specs.declared.Side.{Side}
 use Rattle.refinement.specs.declared.Side.the-variants.{A, B}
 
--- 01, "The script": a match has a left-A, a left-B, a length and a direction; "matches are numbered from 1".
+-- SCOPE, "Commands" and "Numbering": a match has a number, two left ends, a length and a direction
 pub record Match : Type 0 where
   pub number : ℕ
   pub trackA : ℕ
@@ -45,7 +45,7 @@ left m s = onSide s (m .leftA) (m .leftB)
 abbrev pub right : Match → Side → ℕ
 right m s = left m s + m .length
 
--- 01: "Positions lie between letters".
+-- SCOPE, "Positions": one lies between letters; here it is named with its track
 pub record Place : Type 0 where
   pub track : ℕ
   pub position : ℕ
@@ -53,7 +53,7 @@ pub record Place : Type 0 where
 abbrev pub place : Match → Side → ℕ → Place
 place m s h = record { track = track m s; position = h }
 
--- 01: a match "spans i to i + d on A and k to k + d on B, both ends included".
+-- SCOPE, "Spans": from the left end to the right end, both included
 pub record Spans (m : Match) (s : Side) (h : ℕ) : Type 0 where
   pub from-left : left m s ≤ h
   pub to-right : h ≤ right m s
@@ -62,11 +62,11 @@ pub record Spans (m : Match) (s : Side) (h : ℕ) : Type 0 where
 abbrev pub spanned : ℕ → ℕ → ℕ → Bool
 spanned i d h = leb i h && leb h (i + d)
 
--- 01: "Direct: position h on A carries to k + (h − i). Reversed: h carries to k + d − (h − i)."
+-- SCOPE, "Carrying": h is h − i letters behind i, and goes as far behind k; reversed, as far before k + d
 abbrev pub carryOver : Bool → ℕ → ℕ → ℕ → ℕ → ℕ
 carryOver false i k d h = k + (h - i)
 carryOver true i k d h = k + d - (h - i)
 
--- 01: "Carrying from B to A is the inverse", which is the same formula with the sides exchanged (law carry-back).
+-- SCOPE, "Carrying": the way back is the same formula with the sides exchanged (law carry-back)
 abbrev pub carry : Match → Side → ℕ → ℕ
 carry m s h = carryOver (m .reversed) (left m s) (left m (other s)) (m .length) h

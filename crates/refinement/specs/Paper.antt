@@ -5,9 +5,9 @@
 --     Definition1 𝒮 𝒮′     the set 𝒮′ is a refinement of 𝒮
 --     Definition2 𝒮        the set 𝒮 is resolved
 -- S = (A_ij, B_kl) has i = left S A, j = right S A, k = left S B, l = right S B, and the projections α = carry S A and
--- β = carry S B. Differs, as 01 says, by the slips of letters in the submatch clause: where the source has β(l′) = k′
--- it must be j′, and a reversed match has the two ends on B exchanged. A set is a list in which no match stands twice,
--- and a match of 𝒮′ stands in the part of the one match of 𝒮 that bears its number. Assumes nothing.
+-- β = carry S B. Differs in the submatch clause by SCOPE, "Slips": where the source has β(l′) = k′ it must be j′, and a
+-- reversed match has the two ends on B exchanged. A set is a list in which no match stands twice, and a match of 𝒮′
+-- stands in the part of the one match of 𝒮 that bears its number. Assumes nothing.
 use Prim.Native.Nat.{ℕ, _≤_, _<_}
 use mathlib.Core.Path.{_≡_}
 use mathlib.Core.Logic.{_↔_, _⊎_}
@@ -18,13 +18,12 @@ use Rattle.refinement.specs.Order.{_∈_, Distinct}
 use Rattle.refinement.specs.Match.{Match, other, track, left, right, carry}
 use Rattle.refinement.specs.Refinement.{facingLeft, facingRight}
 
--- 002: "the set of left-A and right-A positions of all matches S ∈ 𝒮"
+-- SCOPE, "Definitions 1 and 2": the left and right ends on the track of all matches of 𝒮
 abbrev pub Support : List Match → ℕ → ℕ → Type 0
 Support 𝒮 t h = (S : Match) × (S ∈ 𝒮) × (s : Side) × (track S s ≡ t) × ((h ≡ left S s) ⊎ (h ≡ right S s))
 
--- 002: "S′ = (A_i′j′, B_k′l′) is called a submatch of S, if i ≤ i′ ≤ j′ ≤ j, k ≤ k′ ≤ l′ ≤ l, and we have α(i′) = k′ or
--- β(k′) = i′, and α(j′) = l′ or β(l′) = j′. Here, we assume that [its projections are] the restriction[s]"; a segment
--- A_ij has i < j.
+-- SCOPE, "Submatch": S′ lies in S on both sides, has a letter there, projects as S does, and each of its ends on one
+-- side goes to the facing end on the other, by α or by β
 pub record Submatch (S S′ : Match) : Type 0 where
   pub part : S′ .number ≡ S .number
   pub tracks : (s : Side) → track S′ s ≡ track S s
@@ -42,8 +41,8 @@ pub record Submatch (S S′ : Match) : Type 0 where
 abbrev pub Within : Match → Side → ℕ → Type 0
 Within S s x = (left S s < x) × (x ≤ right S s)
 
--- 002: "each S′ is a submatch of S and [they tile] S, i. e. (i, j] = ⋃ (i′, j′] and (k, l] = ⋃ (k′, l′]", for the parts
--- of 𝒮′ that belong to the matches of 𝒮
+-- SCOPE, "Definition 1": each S′ is a submatch of an S, and the intervals of the part that belongs to S are together
+-- that of S, on A and on B
 pub record Definition1 (𝒮 𝒮′ : List Match) : Type 0 where
   pub set : Distinct 𝒮′
   pub submatches : (S′ : Match) → S′ ∈ 𝒮′ → (S : Match) × (S ∈ 𝒮) × Submatch S S′
@@ -51,8 +50,8 @@ pub record Definition1 (𝒮 𝒮′ : List Match) : Type 0 where
       (S : Match) → S ∈ 𝒮 → (s : Side) (x : ℕ)
       → Within S s x ↔ ((S′ : Match) × (S′ ∈ 𝒮′) × (S′ .number ≡ S .number) × Within S′ s x)
 
--- 002: "for any S = (A_ij, B_kl) ∈ 𝒮 we have [i, j] ∩ supp_A(𝒮) = {i, j} and [k, l] ∩ supp_B(𝒮) = {k, l}. For technical
--- reasons, we also require {α(i), α(j)} ⊆ supp_B(𝒮) and {β(k), β(l)} ⊆ supp_A(𝒮)."
+-- SCOPE, "Definition 2": from end to end of a match the support has its two ends alone, and what these project to is in
+-- the support of the other side
 pub record Definition2 (𝒮 : List Match) : Type 0 where
   pub only-ends :
       (S : Match) → S ∈ 𝒮 → (s : Side) (h : ℕ)

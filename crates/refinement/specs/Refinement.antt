@@ -33,8 +33,8 @@ abbrev pub facingRight : Bool → Match → ℕ
 facingRight false r = right r B
 facingRight true r = left r B
 
--- 01: "A piece is a match number, a left-A, a left-B, a length of at least 1 and the match's direction. It must lie in
--- that match, and its ends on A must carry to its ends on B."
+-- SCOPE, "Piece": it has the number and the direction of its match and a letter at least, lies in the match on both
+-- sides, and its ends on A carry to its ends on B
 pub record Piece (m r : Match) : Type 0 where
   pub same-number : r .number ≡ m .number
   pub same-track : (s : Side) → track r s ≡ track m s
@@ -65,12 +65,12 @@ rowsOver n s x rs = length (filter (holds? n s x) rs)
 unfoldable pub rowsOf : ℕ → List Match → List Match
 rowsOf n rs = filter (λ r. ℕ-discrete (r .number) n) rs
 
--- 01: "A refinement tiles each match by its own pieces, without overlap." That B is tiled too is a law (rows-tile).
+-- SCOPE, "Refinement": each letter of a match is in exactly one piece of it. That B is tiled too is a law (rows-tile).
 pub record Refines (ms rs : List Match) : Type 0 where
   pub pieces : (r : Match) → r ∈ rs → (m : Match) × (m ∈ ms) × Piece m r
   pub once : (m : Match) → m ∈ ms → (x : ℕ) → Holds m A x → rowsOver (m .number) A x rs ≡ 1
 
--- 01: "The cuts on a side are all ends of all pieces there."
+-- SCOPE, "Cuts": every end of every piece
 abbrev pub CutOf : List Match → Place → Type 0
 CutOf rs p = (r : Match) × (r ∈ rs) × End r p
 
@@ -78,8 +78,8 @@ pub record Inside (r : Match) (s : Side) (h : ℕ) : Type 0 where
   pub past-left : left r s < h
   pub before-right : h < right r s
 
--- 01: "It is resolved if no cut lies strictly inside any piece's stretch on that side." #106: "a resolved refinement
--- has all spanned marks among its cuts".
+-- SCOPE, "Resolved": strictly inside a piece there is no cut, on either side. #106: every mark that a match spans is a
+-- cut.
 pub record Resolved (ms : List Match) (marks : List Place) (rs : List Match) : Type 0 where
   pub uncut : (r : Match) → r ∈ rs → (s : Side) (h : ℕ) → CutOf rs (place r s h) → ¬ Inside r s h
   pub marked : (m : Match) → m ∈ ms → (s : Side) (h : ℕ) → place m s h ∈ marks → Spans m s h → CutOf rs (place m s h)
@@ -88,7 +88,7 @@ pub record ResolvedRefinement (ms : List Match) (marks : List Place) (rs : List 
   pub refines : Refines ms rs
   pub resolved : Resolved ms marks rs
 
--- 01: "Rows rise by match number, then by left-A."
+-- SCOPE, "Order": by match number, and for one match by left-A
 abbrev pub Before : Match → Match → Type 0
 Before r r′ = (r .number < r′ .number) ⊎ ((r .number ≡ r′ .number) × (r .leftA < r′ .leftA))
 
@@ -101,11 +101,11 @@ before? r r′ =
     go (no l) (yes e) = yes (inr e)
     go (no l) (no e) = no (⊎-elim l e)
 
--- 01: "Two refinements of one script are equal if, written as rows in the table's order, they are the same rows."
+-- SCOPE, "Equal": two refinements are, if this is the same of both
 unfoldable pub inTableOrder : List Match → List Match
 inTableOrder rs = sortBy before? rs
 
--- 01, demand 3: least among all resolved refinements, whether or not they would fit a lent table.
+-- SCOPE, "Demand 3" and "Every refinement": least among all resolved ones, whether or not a lent table would hold them
 pub record Least (ms : List Match) (marks : List Place) (rs : List Match) : Type 0 where
   pub fewest : (rs′ : List Match) → ResolvedRefinement ms marks rs′ → length rs ≤ length rs′
   pub cuts : (rs′ : List Match) → ResolvedRefinement ms marks rs′ → (p : Place) → CutOf rs p → CutOf rs′ p

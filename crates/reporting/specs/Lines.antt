@@ -46,7 +46,7 @@ class = 99 ∷ 108 ∷ 97 ∷ 115 ∷ 115 ∷ []
 abbrev pub refused : List ℕ
 refused = 114 ∷ 101 ∷ 102 ∷ 117 ∷ 115 ∷ 101 ∷ 100 ∷ []
 
--- "+ direct or - reversed"
+-- SCOPE, "Text": + for direct, - for reversed
 abbrev pub sign : ℕ → List ℕ
 sign direction = cond (eqb direction 0) 43 45 ∷ []
 
@@ -58,15 +58,15 @@ line [] = 10 ∷ []
 line (w ∷ []) = w ++ 10 ∷ []
 line (w ∷ v ∷ ws) = w ++ 32 ∷ line (v ∷ ws)
 
--- "A refusal prints one line: `refused`, the number and the place, as `refused 8 9`."
+-- SCOPE, "Refusal line": the word, the number and the place
 abbrev pub refusalText : Refusal → List ℕ
 refusalText r = line (refused ∷ decimal (numberOf r) ∷ decimal (placeOf r) ∷ [])
 
--- "Line one gives p and q"
+-- SCOPE, "Text": line one, with p and q
 abbrev pub lengthsLine : ℕ → ℕ → List ℕ
 lengthsLine p q = line (lengths ∷ decimal p ∷ decimal q ∷ [])
 
--- "line two the count of matches and then the summary"
+-- SCOPE, "Text": line two, with the count of matches and the numbers of the summary
 abbrev pub summaryLine : ℕ → Summary → List ℕ
 summaryLine count s =
     line
@@ -80,7 +80,7 @@ summaryLine count s =
     ∷ decimal (s .letters)
     ∷ [])
 
--- "Then a row each: number, left-A, left-B, length, + direct or - reversed."
+-- SCOPE, "Text": the line of a row
 abbrev pub rowLine : Row → List ℕ
 rowLine r =
     line
@@ -99,7 +99,7 @@ rowLines (r ∷ rs) = rowLine r ++ rowLines rs
 abbrev pub classLine : ℕ → ℕ → List ℕ
 classLine c n = cond (eqb n 0) [] (line (class ∷ decimal c ∷ decimal n ∷ []))
 
--- "Then the classes that aren't empty, rising, with their counts."
+-- SCOPE, "Text": the lines of the classes, rising, without the empty ones
 unfoldable pub classLines : ℕ → List ℕ → List ℕ
 classLines c [] = []
 classLines c (n ∷ ns) = classLine c n ++ classLines (suc c) ns

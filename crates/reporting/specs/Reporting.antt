@@ -17,14 +17,14 @@ use Rattle.refining.specs.declared.answers.Refined.{Refined}
 use Rattle.reporting.specs.Lines.{refusalText, tableText}
 use Rattle.reporting.specs.declared.Reported.{Reported}
 
--- "with a table of 3,000 rows"
+-- SCOPE, "Program's table": so many rows
 abbrev pub lentRows : ℕ
 lentRows = 3000
 
 abbrev pub lentTable : List ℕ
 lentTable = replicate (rowWidth * lentRows) 0
 
--- "The work buffer needs four numbers for each row of the capacity"
+-- SCOPE, "Work": four numbers for each row
 abbrev pub lentWork : List ℕ
 lentWork = replicate (4 * lentRows) 0
 
@@ -41,7 +41,7 @@ reportOfReading (refused r) = refusalText r
 reportOfReading (admitted p q ms) =
     reportOfRefining p q (length ms) (refiningOfMatches (numbered 1 ms) lentTable lentWork)
 
--- "The program prints the table and its summary."
+-- SCOPE, "Text" and "Refusal line": for any string of bytes the one or the other
 unfoldable pub reportOf : List ℕ → List ℕ
 reportOf script = reportOfReading (readScript script)
 

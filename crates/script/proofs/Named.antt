@@ -20,8 +20,8 @@ use Rattle.script.specs.declared.refusal.Refusal.the-variants.{TooManyPi
 abbrev refusalOf : ℕ → ℕ → Refusal
 refusalOf number at =
     getD
-    (Headless ∷ UnknownCommand at ∷ CutShort at ∷ SecondLengths at ∷ LengthOutOfRange ∷ TooManyMatches at ∷ EmptyMatch at
-    ∷ BeyondA at ∷ BeyondB at ∷ Tail at ∷ WorkTooShort ∷ TooManyPieces ∷ NoSuchMatch ∷ OffTheMatch ∷ [])
+    (Headless ∷ UnknownCommand at ∷ CutShort at ∷ SecondLengths at ∷ LengthOutOfRange ∷ TooManyMatches at
+    ∷ EmptyMatch at ∷ BeyondA at ∷ BeyondB at ∷ Tail at ∷ WorkTooShort ∷ TooManyPieces ∷ NoSuchMatch ∷ OffTheMatch ∷ [])
     (number - 1) Headless
 
 pub refusal-named : (r : Refusal) → refusalOf (numberOf r) (placeOf r) ≡ r

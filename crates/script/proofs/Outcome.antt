@@ -1,10 +1,10 @@
 -- 01's table of refusals, as the relation `Outcome` states it, and the computed reading agree in both directions, so
--- that
--- exactly one row applies to each string of bytes.
+-- that exactly one row applies to each string of bytes.
 --     reach-place         the offset behind n matches is 9 + 13 n, and there are at most 2,048 of them
 --     reach-inside        and lies within the script
 --     reach-range         p and q are in range
 --     reach-within        each of them lies within p and q
+--     behindLengths, behindMatch     what is read from there on
 --     reach-read          good commands passed, reading goes on behind them
 --     reach-ends          and comes to what the next command does
 --     outcome-alone       any outcome that applies is the computed reading, in 01's numbers and places
@@ -24,7 +24,7 @@ use native.Mathlib.Numerals.{sub-one}
 use lib.ListN.{length, getD, drop, length-append}
 use lib.Seq.{drop-drop}
 use Rattle.script.specs.Limits.{mostMatches}
-use Rattle.script.specs.Commands.{numberAt}
+use Rattle.script.specs.Commands.{lengthsWidth, matchWidth, numberAt}
 use Rattle.script.specs.Steps.{openingOf, stepOf, cutShortStep}
 use Rattle.script.specs.Refusals.{numberOf, placeOf}
 use Rattle.script.specs.Reading.{Reading, admitted, refused, afterStep, afterOpening, readFrom, readScript}
@@ -46,7 +46,7 @@ length-snoc ms m = length-append ms (m ∷ [])
 
 module _ {s : List ℕ} {p q : ℕ} where
   pub reach-place : {at : ℕ} {ms : List Match} → Reach s p q at ms
-      → (at ≡ 9 + 13 * length ms) × (length ms ≤ mostMatches)
+      → (at ≡ lengthsWidth + matchWidth * length ms) × (length ms ≤ mostMatches)
   reach-place (opened _ _ _) = (refl, omega arith)
   reach-place (taken {ms} {m} r room _ _) = omega (arith, reach-place r, length-snoc ms m)
 
@@ -66,10 +66,17 @@ module _ {s : List ℕ} {p q : ℕ} where
 
 -- ---- one step of the reading
 
+-- what is read behind the lengths, and behind a match m
+abbrev pub behindLengths : List ℕ → ℕ → ℕ → Reading
+behindLengths s p q = readFrom (length s) p q lengthsWidth [] (drop lengthsWidth s)
+
+abbrev pub behindMatch : List ℕ → ℕ → ℕ → ℕ → ℕ → List Match → Match → Reading
+behindMatch s bytes p q at ms m = readFrom bytes p q (at + matchWidth) (ms ++ m ∷ []) (drop (at + matchWidth) s)
+
 step-at : (s : List ℕ) (p q at bytes : ℕ) (ms : List Match) {c : Command} {t : Step} → 0 < bytes → Seen s at c
     → stepOf p q (length ms) at c ≡ t
     → readFrom bytes p q at ms (drop at s) ≡ afterStep p q ms t
-    (λ m. readFrom (bytes - 1) p q (at + 13) (ms ++ m ∷ []) (drop (at + 13) s))
+    (behindMatch s (bytes - 1) p q at ms)
 unfolding readFrom
 step-at s p q at zero ms h k e = absurd (omega arith)
 step-at s p q at (suc bytes) ms h k e =
@@ -77,7 +84,7 @@ step-at s p q at (suc bytes) ms h k e =
 
 -- the first command of a script
 pub opening-at : (s : List ℕ) {c : Command} {o : Opening} → Seen s 0 c → openingOf c ≡ o
-    → readScript s ≡ afterOpening o (λ p q. readFrom (length s) p q 9 [] (drop 9 s))
+    → readScript s ≡ afterOpening o (behindLengths s)
 unfolding readScript
 opening-at s k e = rw (seen-command s 0 k, e)
 
@@ -91,18 +98,18 @@ module _ {s : List ℕ} {p q : ℕ} where
       → readScript s ≡ readFrom (length s - length ms) p q at ms (drop at s)
   reach-read (opened l a b) =
       opening-at s (lengths-seen l) (opens-step (Opens.open-them a b))
-      ∙ ap (λ (n : ℕ). readFrom n p q 9 [] (drop 9 s)) (omega arith)
+      ∙ ap (λ (n : ℕ). readFrom n p q lengthsWidth [] (drop lengthsWidth s)) (omega arith)
   reach-read (taken {at} {ms} {m} r room d w) =
       reach-read r
       ∙ step-at s p q at (length s - length ms) ms (omega (arith, reach-place r, reach-inside r)) (Seen.pairing d)
       (judged-step (Judged.good room w))
-      ∙ ap (λ (n : ℕ). readFrom n p q (at + 13) (ms ++ m ∷ []) (drop (at + 13) s)) (omega (arith, length-snoc ms m))
+      ∙ ap (λ (n : ℕ). behindMatch s n p q at ms m) (omega (arith, length-snoc ms m))
 
   -- reading ends at a command that does not go on
   pub reach-ends : {at : ℕ} {ms : List Match} {c : Command} {t : Step} → Reach s p q at ms → Seen s at c
       → stepOf p q (length ms) at c ≡ t
       → readScript s ≡ afterStep p q ms t
-      (λ m. readFrom (length s - length ms - 1) p q (at + 13) (ms ++ m ∷ []) (drop (at + 13) s))
+      (behindMatch s (length s - length ms - 1) p q at ms)
   reach-ends {at} {ms} r k e =
       reach-read r ∙ step-at s p q at (length s - length ms) ms (omega (arith, reach-place r, reach-inside r)) k e
 
@@ -110,12 +117,12 @@ module _ {s : List ℕ} {p q : ℕ} where
   ends-answer : {at : ℕ} {ms : List Match} {c : Command} {t : Step} → Reach s p q at ms → Seen s at c
       → stepOf p q (length ms) at c ≡ t
       → readingAnswer (readScript s) ≡ readingAnswer (afterStep p q ms t
-      (λ m. readFrom (length s - length ms - 1) p q (at + 13) (ms ++ m ∷ []) (drop (at + 13) s)))
+      (behindMatch s (length s - length ms - 1) p q at ms))
   ends-answer r k e = ap readingAnswer (reach-ends r k e)
 
 opening-answer : (s : List ℕ) {c : Command} {o : Opening} → Seen s 0 c → openingOf c ≡ o
     → readingAnswer (readScript s)
-    ≡ readingAnswer (afterOpening o (λ p q. readFrom (length s) p q 9 [] (drop 9 s)))
+    ≡ readingAnswer (afterOpening o (behindLengths s))
 opening-answer s k e = ap readingAnswer (opening-at s k e)
 
 not-lengths : {s : List ℕ} → (Byte s 0 0x4C → ⊥) → {c : Command} → Seen s 0 c → openingOf c ≡ Opening.Refuse Headless
@@ -147,14 +154,15 @@ outcome-alone {s} (Outcome.headless h) = opening-answer s (seen s 0) (not-length
 outcome-alone (Outcome.unknown-command r h n1 n2 n3 n4) = ends-answer r (Seen.unknown h n1 n2 n3 n4) refl
 outcome-alone (Outcome.cut-short h) = short-alone h
 outcome-alone {s} (Outcome.second-lengths {at} r b) =
-    elim (decLe (at + 9) (length s)) [
+    elim (decLe (at + lengthsWidth) (length s)) [
       | yes w ↦ ends-answer r (Seen.lengths b w) refl
       | no w ↦ ends-answer r (Seen.lengths-short b (lt-of-not-le w)) refl
     ]
-outcome-alone {s} (Outcome.length-out-of-range l n) = opening-answer s (lengths-seen l) (opens-step (Opens.out-of-range n))
+outcome-alone {s} (Outcome.length-out-of-range l n) =
+    opening-answer s (lengths-seen l) (opens-step (Opens.out-of-range n))
 outcome-alone {s} (Outcome.too-many-matches {at} {ms} r e b) =
     let full : mostMatches ≤ length ms = omega arith in
-    elim (decLe (at + 13) (length s)) [
+    elim (decLe (at + matchWidth) (length s)) [
       | yes w ↦ full-alone r full (whole-match b w)
       | no w ↦ ends-answer r (Seen.pairing-short b (lt-of-not-le w)) (short-full full)
     ]
@@ -170,7 +178,7 @@ outcome-alone (Outcome.is-admitted r b h) = ends-answer r (Seen.end b h) refl
 -- ---- the computed reading is an outcome that applies
 
 short-stated : {s : List ℕ} {p q at : ℕ} {ms : List Match} {way : Bool} → Reach s p q at ms → MatchByte s at way
-    → length s < at + 13 → (onward : Match → Reading)
+    → length s < at + matchWidth → (onward : Match → Reading)
     → Outcome s (readingAnswer (afterStep p q ms (cutShortStep (length ms) at) onward))
 short-stated {ms} r b h onward =
     elim (decLe mostMatches (length ms)) [
@@ -181,7 +189,7 @@ short-stated {ms} r b h onward =
 
 match-stated : {s : List ℕ} {p q at : ℕ} {ms : List Match} {m : Match} {t : Step} → Reach s p q at ms → MatchAt s at m
     → Judged p q (length ms) at m t → (onward : Match → Reading)
-    → ((n : Match) → Reach s p q (at + 13) (ms ++ n ∷ []) → Outcome s (readingAnswer (onward n)))
+    → ((n : Match) → Reach s p q (at + matchWidth) (ms ++ n ∷ []) → Outcome s (readingAnswer (onward n)))
     → Outcome s (readingAnswer (afterStep p q ms t onward))
 match-stated r d (Judged.too-many f) onward next = Outcome.too-many-matches r (omega (arith, reach-place r)) (d .code)
 match-stated r d (Judged.empty room e) onward next = Outcome.empty-match r room d e
@@ -191,7 +199,7 @@ match-stated {m} r d (Judged.good room w) onward next = next m (taken r room d w
 
 step-stated : {s : List ℕ} {p q at : ℕ} {ms : List Match} {c : Command} → Reach s p q at ms → Seen s at c
     → (onward : Match → Reading)
-    → ((n : Match) → Reach s p q (at + 13) (ms ++ n ∷ []) → Outcome s (readingAnswer (onward n)))
+    → ((n : Match) → Reach s p q (at + matchWidth) (ms ++ n ∷ []) → Outcome s (readingAnswer (onward n)))
     → Outcome s (readingAnswer (afterStep p q ms (stepOf p q (length ms) at c) onward))
 step-stated r (Seen.missing h) onward next = Outcome.cut-short (Short.ran-out r (omega (arith, reach-inside r)))
 step-stated r (Seen.unknown h n1 n2 n3 n4) onward next = Outcome.unknown-command r h n1 n2 n3 n4
@@ -208,7 +216,7 @@ from-stated : {s : List ℕ} {p q : ℕ} (bytes : ℕ) {at : ℕ} {ms : List Mat
 unfolding readFrom
 from-stated zero r h = absurd (omega (arith, reach-inside r))
 from-stated {s} (suc bytes) {at} r h =
-    step-stated r (seen s at) _ (λ n more. rw (drop-drop 13 at s) (from-stated bytes more (omega arith)))
+    step-stated r (seen s at) _ (λ n more. rw (drop-drop matchWidth at s) (from-stated bytes more (omega arith)))
 
 -- a first byte with another code
 other-byte : {s : List ℕ} {code : ℕ} → code ≢ 0x4C → Byte s 0 code → Outcome s (refusal 1 0)
@@ -219,12 +227,12 @@ match-byte (MatchByte.direct b) = other-byte (omega arith) b
 match-byte (MatchByte.backward b) = other-byte (omega arith) b
 
 lengths-stated : {s : List ℕ} {p q : ℕ} {o : Opening} → LengthsAt s p q → Opens p q o
-    → Outcome s (readingAnswer (afterOpening o (λ p q. readFrom (length s) p q 9 [] (drop 9 s))))
+    → Outcome s (readingAnswer (afterOpening o (behindLengths s)))
 lengths-stated {s} l (Opens.open-them a b) = from-stated (length s) (opened l a b) (omega arith)
 lengths-stated l (Opens.out-of-range n) = Outcome.length-out-of-range l n
 
 opening-stated : {s : List ℕ} {c : Command} → Seen s 0 c
-    → Outcome s (readingAnswer (afterOpening (openingOf c) (λ p q. readFrom (length s) p q 9 [] (drop 9 s))))
+    → Outcome s (readingAnswer (afterOpening (openingOf c) (behindLengths s)))
 opening-stated (Seen.missing h) = Outcome.headless (inl (omega arith))
 opening-stated (Seen.unknown h n _ _ _) = Outcome.headless (inr n)
 opening-stated {s} (Seen.lengths b w) =

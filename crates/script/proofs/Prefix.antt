@@ -1,6 +1,5 @@
 -- The first 26,635 bytes decide the outcome of every longer script: what the table of refusals asks of a script, it
--- asks
--- of these bytes alone.
+-- asks of these bytes alone.
 --     reach-take       good commands within the first n bytes are good commands of those n bytes
 --     prefix-decides   one byte more than the longest admitted script has decides
 -- Assumes nothing.
@@ -15,7 +14,7 @@ use native.Mathlib.Nat.{lt-of-not-le}
 use lib.ListN.{length, take, length-take}
 use lib.Seq.{getD-take, take-all}
 use Rattle.script.specs.Limits.{mostMatches, longestScript}
-use Rattle.script.specs.Commands.{numberAt}
+use Rattle.script.specs.Commands.{lengthsWidth, matchWidth, numberAt}
 use Rattle.script.specs.Reading.{readScript}
 use Rattle.script.specs.Answers.{Answer, Contents}
 use Rattle.script.specs.Outcomes.{Byte, MatchByte, MatchAt, LengthsAt, Reach, opened, taken, Short, Outcome}
@@ -41,7 +40,7 @@ module _ {s : List ℕ} (n : ℕ) where
   match-byte-take h (MatchByte.direct b) = MatchByte.direct (byte-take h b)
   match-byte-take h (MatchByte.backward b) = MatchByte.backward (byte-take h b)
 
-  match-at-take : {at : ℕ} {m : Match} → at + 13 ≤ n → MatchAt s at m → MatchAt (take n s) at m
+  match-at-take : {at : ℕ} {m : Match} → at + matchWidth ≤ n → MatchAt s at m → MatchAt (take n s) at m
   match-at-take {at} h d =
       record {
         code = match-byte-take (omega arith) (d .code);
@@ -51,7 +50,7 @@ module _ {s : List ℕ} (n : ℕ) where
         letters = d .letters ∙ sym (number-take n s (at + 9) (omega arith));
       }
 
-  lengths-take : {p q : ℕ} → 9 ≤ n → LengthsAt s p q → LengthsAt (take n s) p q
+  lengths-take : {p q : ℕ} → lengthsWidth ≤ n → LengthsAt s p q → LengthsAt (take n s) p q
   lengths-take h l =
       record {
         code = byte-take (omega arith) (l .code);

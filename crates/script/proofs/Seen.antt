@@ -16,7 +16,7 @@ use native.Mathlib.Nat.{lt-of-not-le, add-assoc}
 use lib.ListN.{length, getD, drop, length-drop}
 use lib.Seq.{getD-drop}
 use borrow.Author.Tests.{eq-eqb, ne-eqb, lt-ltb, le-ltb}
-use Rattle.script.specs.Commands.{numberAt, commandOf, lengthsOf, matchOf, endOf}
+use Rattle.script.specs.Commands.{lengthsWidth, matchWidth, numberAt, commandOf, lengthsOf, matchOf, endOf}
 use Rattle.script.specs.Outcomes.{Byte, MatchByte, MatchAt}
 use Rattle.script.specs.declared.command.Match.{Match}
 use Rattle.script.specs.declared.command.Command.{Command}
@@ -34,15 +34,16 @@ pub data Seen (s : List ℕ) (at : ℕ) : Command → Type 0 where
   missing : length s ≤ at → Seen s at Missing
   unknown : at < length s → getD s at 0 ≢ 0x4C → getD s at 0 ≢ 0x44 → getD s at 0 ≢ 0x52 → getD s at 0 ≢ 0x45
       → Seen s at Unknown
-  lengths : Byte s at 0x4C → at + 9 ≤ length s → Seen s at (Lengths (numberAt s (at + 1)) (numberAt s (at + 5)))
-  lengths-short : Byte s at 0x4C → length s < at + 9 → Seen s at LengthsCutShort
+  lengths : Byte s at 0x4C → at + lengthsWidth ≤ length s
+      → Seen s at (Lengths (numberAt s (at + 1)) (numberAt s (at + 5)))
+  lengths-short : Byte s at 0x4C → length s < at + lengthsWidth → Seen s at LengthsCutShort
   pairing : {m : Match} → MatchAt s at m → Seen s at (Pairing m)
-  pairing-short : {way : Bool} → MatchByte s at way → length s < at + 13 → Seen s at MatchCutShort
+  pairing-short : {way : Bool} → MatchByte s at way → length s < at + matchWidth → Seen s at MatchCutShort
   end : Byte s at 0x45 → at + 1 ≡ length s → Seen s at End
   end-then-more : Byte s at 0x45 → at + 1 < length s → Seen s at EndThenMore
 
 -- a match byte with its operands behind it is a match command
-pub whole-match : {s : List ℕ} {at : ℕ} {way : Bool} → MatchByte s at way → at + 13 ≤ length s
+pub whole-match : {s : List ℕ} {at : ℕ} {way : Bool} → MatchByte s at way → at + matchWidth ≤ length s
     → MatchAt s at (record {
       «left_a» = numberAt s (at + 1);
       «left_b» = numberAt s (at + 5);
@@ -57,25 +58,29 @@ module _ (s : List ℕ) (at : ℕ) where
 
   seen-lengths : Byte s at 0x4C → Seen s at (lengthsOf (drop at s))
   seen-lengths b =
-      elim (decLe (at + 9) (length s)) [
-        | yes w ↦ rw (le-ltb (length (drop at s)) 9 (omega (arith, left)), number-drop at 1 s, number-drop at 5 s)
+      elim (decLe (at + lengthsWidth) (length s)) [
+        | yes w ↦ rw (
+          le-ltb (length (drop at s)) lengthsWidth (omega (arith, left)),
+          number-drop at 1 s,
+          number-drop at 5 s,
+        )
             (lengths b w)
         | no w ↦ let short = lt-of-not-le w in
-            rw (lt-ltb (length (drop at s)) 9 (omega (arith, left, short))) (lengths-short b short)
+            rw (lt-ltb (length (drop at s)) lengthsWidth (omega (arith, left, short))) (lengths-short b short)
       ]
 
   seen-match : {way : Bool} → MatchByte s at way → Seen s at (matchOf way (drop at s))
   seen-match {way} b =
-      elim (decLe (at + 13) (length s)) [
+      elim (decLe (at + matchWidth) (length s)) [
         | yes w ↦ rw (
-          le-ltb (length (drop at s)) 13 (omega (arith, left)),
+          le-ltb (length (drop at s)) matchWidth (omega (arith, left)),
           number-drop at 1 s,
           number-drop at 5 s,
           number-drop at 9 s,
         )
             (pairing (whole-match b w))
         | no w ↦ let short = lt-of-not-le w in
-            rw (lt-ltb (length (drop at s)) 13 (omega (arith, left, short))) (pairing-short b short)
+            rw (lt-ltb (length (drop at s)) matchWidth (omega (arith, left, short))) (pairing-short b short)
       ]
 
   seen-end : Byte s at 0x45 → Seen s at (endOf (drop at s))
@@ -137,13 +142,13 @@ module _ (s : List ℕ) (at : ℕ) where
       )
   seen-command (lengths b w) =
       lengths-command b
-      ∙ rw (le-ltb (length (drop at s)) 9 (omega (arith, left)), number-drop at 1 s, number-drop at 5 s)
+      ∙ rw (le-ltb (length (drop at s)) lengthsWidth (omega (arith, left)), number-drop at 1 s, number-drop at 5 s)
   seen-command (lengths-short b h) =
-      lengths-command b ∙ rw (lt-ltb (length (drop at s)) 9 (omega (arith, left, b .inside)))
+      lengths-command b ∙ rw (lt-ltb (length (drop at s)) lengthsWidth (omega (arith, left, b .inside)))
   seen-command (pairing d) =
       match-command (d .code)
       ∙ rw (
-        le-ltb (length (drop at s)) 13 (omega (arith, left, d .whole)),
+        le-ltb (length (drop at s)) matchWidth (omega (arith, left, d .whole)),
         number-drop at 1 s,
         number-drop at 5 s,
         number-drop at 9 s,
@@ -152,6 +157,6 @@ module _ (s : List ℕ) (at : ℕ) where
         ← d .letters,
       )
   seen-command (pairing-short b h) =
-      match-command b ∙ rw (lt-ltb (length (drop at s)) 13 (omega (arith, left)))
+      match-command b ∙ rw (lt-ltb (length (drop at s)) matchWidth (omega (arith, left)))
   seen-command (end b h) = end-command b ∙ rw (le-ltb 1 (length (drop at s)) (omega (arith, left)))
   seen-command (end-then-more b h) = end-command b ∙ rw (lt-ltb 1 (length (drop at s)) (omega (arith, left)))

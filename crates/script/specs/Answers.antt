@@ -2,8 +2,7 @@
 --     Answer X            a value of X, or a refusal's number and place
 --     Contents            what an admitted script holds: p, q and its matches in script order
 --     readingAnswer r     a reading in these words
--- 01: "A refusal returns its number and a place."; "Where an answer is an enum, a definition gives this paper's number
--- and values for each case of the enum." Assumes nothing.
+-- 01, "Refused scripts and calls" and "Which form goes where"; SCOPE, "Place" and "Enums". Assumes nothing.
 use Prim.Native.Nat.{ℕ}
 use mathlib.Core.List.{List}
 use Rattle.script.specs.Refusals.{numberOf, placeOf}

@@ -1,6 +1,7 @@
 -- What stands at the start of a remainder of the script. TO READ: contracts mean what stands here.
---     numberAt s at     the number in the four bytes from the offset at
---     commandOf s       the command that s starts with
+--     lengthsWidth, matchWidth     the bytes of a command, its command byte among them
+--     numberAt s at                the number in the four bytes from the offset at
+--     commandOf s                  the command that s starts with
 -- 01, "The script". Assumes nothing.
 use Prim.Native.Nat.{ℕ, _+_, _*_}
 use mathlib.Core.Bool.{Bool, true, false, cond}
@@ -11,26 +12,33 @@ use Rattle.script.specs.declared.command.Command.{Command}
 use Rattle.script.specs.declared.command.Command.the-variants.{Missing, Unknown, Lengths, LengthsCutShort}
 use Rattle.script.specs.declared.command.Command.the-variants.{Pairing, MatchCutShort, End, EndThenMore}
 
--- "unsigned, four bytes, least byte first"
+-- SCOPE, "Commands": two numbers behind the command byte, and three
+abbrev pub lengthsWidth : ℕ
+lengthsWidth = 9
+
+abbrev pub matchWidth : ℕ
+matchWidth = 13
+
+-- SCOPE, "Numbers": unsigned, four bytes, the least first
 abbrev pub numberAt : List ℕ → ℕ → ℕ
 numberAt s at =
     getD s at 0 + 256 * getD s (at + 1) 0 + 65536 * getD s (at + 2) 0 + 16777216 * getD s (at + 3) 0
 
--- "lengths: p, then q": nine bytes with the command byte
+-- SCOPE, "Commands": the two lengths, first p
 abbrev pub lengthsOf : List ℕ → Command
-lengthsOf s = cond (ltb (length s) 9) LengthsCutShort (Lengths (numberAt s 1) (numberAt s 5))
+lengthsOf s = cond (ltb (length s) lengthsWidth) LengthsCutShort (Lengths (numberAt s 1) (numberAt s 5))
 
--- "direct match; reversed match: left-A, left-B, length": thirteen bytes with the command byte
+-- SCOPE, "Commands": a match of either direction, with its left-A, its left-B and its length
 abbrev pub matchOf : Bool → List ℕ → Command
 matchOf reversed s =
-    cond (ltb (length s) 13) MatchCutShort
+    cond (ltb (length s) matchWidth) MatchCutShort
     (Pairing (record { «left_a» = numberAt s 1; «left_b» = numberAt s 5; length = numberAt s 9; reversed = reversed }))
 
--- "end. No operand, nothing after it."
+-- SCOPE, "End": it has no operand, and nothing stands behind it
 abbrev pub endOf : List ℕ → Command
 endOf s = cond (ltb 1 (length s)) EndThenMore End
 
--- "A command is one byte with operands of fixed width": 4C lengths, 44 direct match, 52 reversed match, 45 end
+-- SCOPE, "Commands": the byte tells which it is: 4C lengths, 44 direct match, 52 reversed match, 45 end
 abbrev pub commandOf : List ℕ → Command
 commandOf s =
     let code = getD s 0 0 in

@@ -2,7 +2,7 @@
 --     heldIn r count       the matches in the first count places of the columns
 --     scriptAnswer r       the reader's reply in 01's words
 --     BlankFrom count r    the columns are blank from that place on
---     ReadingDemand        exactly one outcome's condition is met, it is the answer, and the rest of the columns is blank
+--     ReadingDemand        exactly one outcome's condition is met, it is the answer, and the columns are blank behind
 --     findingAnswer f      the finder's reply in 01's words
 --     FindingOutcome       what may come of asking for the match of a number, by its condition
 --     FindingDemand        exactly one outcome's condition is met, and it is the answer
@@ -68,7 +68,7 @@ pub data FindingOutcome (script : List ℕ) (number : ℕ) : Answer Match → Ty
   no-such-match :
       {p q : ℕ} {ms : List Match} → Outcome script (value (contents p q ms)) → (number ≡ 0) ⊎ (length ms < number)
       → FindingOutcome script number (refusal 13 0)
-  -- no refusal: "Matches are numbered from 1 in script order.", so it is one more than the matches before
+  -- no refusal. SCOPE, "Numbering": its number is one more than there are matches before it
   found :
       {p q : ℕ} (before after : List Match) {m : Match}
       → Outcome script (value (contents p q (before ++ m ∷ after))) → number ≡ length before + 1

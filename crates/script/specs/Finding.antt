@@ -1,6 +1,6 @@
 -- One match of a script, by its number. TO READ: contracts mean what stands here.
 --     findingOf r number     the match, or the refusal: the script's own, or "no such match"
--- 01, "Matches are numbered from 1 in script order." Assumes nothing.
+-- 01, "The script"; SCOPE, "Numbering": from 1, in the order of the script. Assumes nothing.
 use Prim.Native.Nat.{ℕ, zero, suc}
 use mathlib.Core.Bool.{false}
 use mathlib.Core.List.{List, [], _∷_}

@@ -1,6 +1,6 @@
+pub mod Commands
 pub mod Limits
 pub mod Refusals
-pub mod Commands
 pub mod Steps
 pub mod Reading
 pub mod Answers

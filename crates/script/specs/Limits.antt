@@ -1,15 +1,16 @@
 -- 01's limits, each in one place. TO READ: contracts mean what stands here.
 -- 01, "The script". Assumes nothing.
 use Prim.Native.Nat.{ℕ, _+_, _*_}
+use Rattle.script.specs.Commands.{lengthsWidth, matchWidth}
 
--- "p and q are 1 to 1,000,000,000."
+-- SCOPE, "Limits": the most letters of a sequence
 abbrev pub longest : ℕ
 longest = 1_000_000_000
 
--- "A script has 0 to 2,048 matches."
+-- SCOPE, "Limits": the most matches of a script
 abbrev pub mostMatches : ℕ
 mostMatches = 2048
 
--- "The longest admitted script has 26,634 bytes.": lengths, the most matches, end
+-- SCOPE, "Limits": lengths, the most matches, end; together 26,634 bytes (law longest-script)
 abbrev pub longestScript : ℕ
-longestScript = 9 + 13 * mostMatches + 1
+longestScript = lengthsWidth + matchWidth * mostMatches + 1

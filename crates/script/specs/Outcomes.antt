@@ -1,7 +1,8 @@
 -- 01's table of refusals a second time, as a relation: a constructor for each row that reading can meet, with the row's
--- condition, its number and its place, and one for an admitted script. All numbers are 01's, written out. `proofs/Outcome`
--- shows that exactly one applies to each string of bytes, and that it is what `readScript` computes. TO READ beside 01,
--- "Refused scripts and calls".
+-- condition, its number and its place, and one for an admitted script. All numbers are 01's, written out, widths and
+-- limits too: a slip made in a definition and in the code together is refused here. `proofs/Outcome` shows that exactly
+-- one applies to each string of bytes, and that it is what `readScript` computes. TO READ beside SCOPE, "Refusals" (01,
+-- "Refused scripts and calls").
 --     Reach s p q at ms     good commands alone stand before the offset at: lengths p q, then the matches ms
 --     Outcome s a           the answer to the bytes s may be a
 -- Assumes nothing.
@@ -22,12 +23,12 @@ pub record Byte (s : List ℕ) (at code : ℕ) : Type 0 where
   pub inside : at < length s
   pub is : getD s at 0 ≡ code
 
--- "44, direct match; 52, reversed match"
+-- SCOPE, "Commands": 44 is a direct match, 52 a reversed one
 pub data MatchByte (s : List ℕ) (at : ℕ) : Bool → Type 0 where
   direct : Byte s at 0x44 → MatchByte s at false
   backward : Byte s at 0x52 → MatchByte s at true
 
--- a match command with its operands: "left-A, left-B, length"
+-- SCOPE, "Commands": a match command with its three operands
 pub record MatchAt (s : List ℕ) (at : ℕ) (m : Match) : Type 0 where
   pub code : MatchByte s at (m .reversed)
   pub whole : at + 13 ≤ length s
@@ -35,7 +36,7 @@ pub record MatchAt (s : List ℕ) (at : ℕ) (m : Match) : Type 0 where
   pub left-b : m .«left_b» ≡ numberAt s (at + 5)
   pub letters : m .length ≡ numberAt s (at + 9)
 
--- a lengths command with its operands: "p, then q"; it can only be the first
+-- SCOPE, "Opening": a lengths command with its two operands; it can only be the first
 pub record LengthsAt (s : List ℕ) (p q : ℕ) : Type 0 where
   pub code : Byte s 0 0x4C
   pub whole : 9 ≤ length s
@@ -44,7 +45,7 @@ pub record LengthsAt (s : List ℕ) (p q : ℕ) : Type 0 where
 
 -- ---- what makes a command good
 
--- "p and q are 1 to 1,000,000,000."
+-- SCOPE, "Limits": how many letters a sequence may have
 pub record InRange (n : ℕ) : Type 0 where
   pub some : 1 ≤ n
   pub few : n ≤ 1_000_000_000
@@ -55,7 +56,7 @@ pub record Within (p q : ℕ) (m : Match) : Type 0 where
   pub in-a : m .«left_a» + m .length ≤ p
   pub in-b : m .«left_b» + m .length ≤ q
 
--- good commands alone stand before the offset; "A script has 0 to 2,048 matches."
+-- good commands alone stand before the offset. SCOPE, "Limits": at most 2,048 matches
 pub data Reach (s : List ℕ) (p q : ℕ) : ℕ → List Match → Type 0 where
   opened : LengthsAt s p q → InRange p → InRange q → Reach s p q 9 []
   taken : {at : ℕ} {ms : List Match} {m : Match} → Reach s p q at ms → length ms < 2048 → MatchAt s at m
@@ -64,7 +65,7 @@ pub data Reach (s : List ℕ) (p q : ℕ) : ℕ → List Match → Type 0 where
 
 -- ---- the table
 
--- "operands incomplete, or bytes run out before 45"; the place is the command's offset, or the script's length
+-- what is cut short. SCOPE, "Place": the command's offset, or the script's length where a command was due
 pub data Short (s : List ℕ) : ℕ → Type 0 where
   lengths : Byte s 0 0x4C → length s < 9 → Short s 0
   pairing : {p q at : ℕ} {ms : List Match} {way : Bool} → Reach s p q at ms → length ms < 2048

@@ -8,7 +8,7 @@ use mathlib.Core.Bool.{false}
 use mathlib.Core.List.{List, [], _∷_, _++_, map}
 use lib.ListN.{length, drop, replicate}
 use Rattle.script.specs.Limits.{mostMatches}
-use Rattle.script.specs.Commands.{commandOf}
+use Rattle.script.specs.Commands.{lengthsWidth, matchWidth, commandOf}
 use Rattle.script.specs.Steps.{openingOf, stepOf}
 use Rattle.script.specs.declared.refusal.Refusal.{Refusal}
 use Rattle.script.specs.declared.refusal.Refusal.the-variants.{CutShort}
@@ -18,8 +18,7 @@ use Rattle.script.specs.declared.step.Step.{Step}
 use Rattle.script.specs.declared.Verdict.{Verdict}
 use Rattle.script.specs.declared.Script.{Script}
 
--- "A script is admitted if its bytes meet no condition of refusals 1 to 10"; "Matches are numbered from 1 in script
--- order."
+-- SCOPE, "Admitted" and "Numbering": by no fault in the bytes; the matches stand in the order of the script
 pub data Reading : Type 0 where
   admitted : (p q : ℕ) → List Match → Reading
   refused : Refusal → Reading
@@ -30,14 +29,13 @@ afterStep p q ms (Step.Refuse r) onward = refused r
 afterStep p q ms Step.Finish onward = admitted p q ms
 afterStep p q ms (Step.Take m) onward = onward m
 
--- "The reader works on the script's remainder, starting at the command after the last one read": the remainder s from
--- the
--- offset at, behind the matches ms. The first number is at least the bytes of s, and only makes the recursion end.
+-- SCOPE, "Remainder": s is what is left of the script from the offset at on, behind the matches ms. The first number is
+-- at least the bytes of s, and only makes the recursion end.
 unfoldable pub readFrom : ℕ → ℕ → ℕ → ℕ → List Match → List ℕ → Reading
 readFrom zero p q at ms s = refused (CutShort at)
 readFrom (suc bytes) p q at ms s =
     afterStep p q ms (stepOf p q (length ms) at (commandOf s))
-    (λ m. readFrom bytes p q (at + 13) (ms ++ m ∷ []) (drop 13 s))
+    (λ m. readFrom bytes p q (at + matchWidth) (ms ++ m ∷ []) (drop matchWidth s))
 
 abbrev pub afterOpening : Opening → (ℕ → ℕ → Reading) → Reading
 afterOpening (Opening.Refuse r) onward = refused r
@@ -45,7 +43,9 @@ afterOpening (Opening.Open p q) onward = onward p q
 
 -- the reading of a whole string of bytes
 unfoldable pub readScript : List ℕ → Reading
-readScript s = afterOpening (openingOf (commandOf s)) (λ p q. readFrom (length s) p q 9 [] (drop 9 s))
+readScript s =
+    afterOpening (openingOf (commandOf s))
+    (λ p q. readFrom (length s) p q lengthsWidth [] (drop lengthsWidth s))
 
 -- a column of the reply: one field of each match, and blanks past the last
 abbrev pub column : {X : Type 0} → X → (Match → X) → List Match → List X

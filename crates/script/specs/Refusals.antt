@@ -9,7 +9,7 @@ use Rattle.script.specs.declared.refusal.Refusal.the-variants.{LengthOut
 use Rattle.script.specs.declared.refusal.Refusal.the-variants.{BeyondA, BeyondB, Tail, WorkTooShort}
 use Rattle.script.specs.declared.refusal.Refusal.the-variants.{TooManyPieces, NoSuchMatch, OffTheMatch}
 
--- the rows of the table, in its order
+-- SCOPE, "Refusals": the rows of the table, in its order
 abbrev pub numberOf : Refusal → ℕ
 numberOf Headless = 1
 numberOf (UnknownCommand at) = 2
@@ -26,9 +26,8 @@ numberOf TooManyPieces = 12
 numberOf NoSuchMatch = 13
 numberOf OffTheMatch = 14
 
--- "The place is the command byte's offset for 1 to 9, the script's length for bytes that ran out where a command was
--- due,
--- the first extra byte for 10, and 0 for 11 to 14." 1 and 5 are met at the first command only, whose offset is 0.
+-- SCOPE, "Place": up to 9 where the command stands, or the end of the bytes if they ran out where one was due; for 10
+-- the first byte too many; from 11 on 0. 1 and 5 are met at the first command only, which stands at 0.
 abbrev pub placeOf : Refusal → ℕ
 placeOf Headless = 0
 placeOf (UnknownCommand at) = at

@@ -1,8 +1,7 @@
 -- What one command does to the script read so far. TO READ: contracts mean what stands here.
 --     openingOf c               what the first command does: it opens the script, or the script is refused
 --     stepOf p q count at c     what a later one does, at the offset at with count matches before it
--- 01, "Refused scripts and calls": "Reading goes left to right; the first fault counts. At a match: 6, 3, 7, 8, 9; at
--- lengths: 4, 3, 5." Assumes nothing.
+-- 01, "Refused scripts and calls"; SCOPE, "First fault" and "Order of faults". Assumes nothing.
 use Prim.Native.Nat.{ℕ, _+_}
 use mathlib.Core.Bool.{Bool, cond, _&&_}
 use lib.Dec.{ltb, leb, eqb}
@@ -20,7 +19,7 @@ use Rattle.script.specs.declared.step.Opening.the-variants
 use Rattle.script.specs.declared.step.Step.{Step}
 use Rattle.script.specs.declared.step.Step.the-variants.{Refuse, Finish, Take}
 
--- "p and q are 1 to 1,000,000,000."
+-- SCOPE, "Limits": how many letters a sequence may have
 abbrev pub inRange : ℕ → Bool
 inRange n = ltb 0 n && leb n longest
 
@@ -28,7 +27,7 @@ inRange n = ltb 0 n && leb n longest
 abbrev pub lengthsStep : ℕ → ℕ → Opening
 lengthsStep p q = cond (inRange p && inRange q) (Open p q) (Opening.Refuse LengthOutOfRange)
 
--- "First command, once.": 1, and at lengths 3, 5
+-- SCOPE, "Opening": 1 if the first command is another; at lengths 3, 5
 abbrev pub openingOf : Command → Opening
 openingOf Missing = Opening.Refuse Headless
 openingOf Unknown = Opening.Refuse Headless
@@ -39,7 +38,7 @@ openingOf MatchCutShort = Opening.Refuse Headless
 openingOf End = Opening.Refuse Headless
 openingOf EndThenMore = Opening.Refuse Headless
 
--- at a match with its operands: 6, 7, 8, 9
+-- at a match with its operands: 6, 7, 8, 9. SCOPE, "Sums": numbers here have no upper end, so none wraps
 abbrev pub matchStep : ℕ → ℕ → ℕ → ℕ → Match → Step
 matchStep p q count at m =
     cond (leb mostMatches count) (Refuse (TooManyMatches at))

@@ -1,5 +1,13 @@
 // One command of a script: what stands at the start of a remainder, without what it means for the script.
 
+// The widths are in bytes, with the command byte; specs/Commands.antt has them for the definitions.
+
+// The command of the two lengths.
+pub const LENGTHS_WIDTH: usize = 9;
+
+// A match command, whichever way it is read.
+pub const MATCH_WIDTH: usize = 13;
+
 // Letters left_a to left_a + length of A and left_b to left_b + length of B, read the same way or one backwards.
 pub struct Match {
     pub left_a: u32,

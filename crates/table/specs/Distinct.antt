@@ -8,7 +8,7 @@ use mathlib.Core.List.{List, [], _∷_}
 use lib.Dec.{eqb}
 use Rattle.rows.specs.declared.Row.{Row}
 
--- "same left-A, left-B and length"
+-- SCOPE, "Distinct": by left-A, left-B and length, whatever the match and the direction
 abbrev pub same : Row → Row → Bool
 same r s = eqb (r .«left_a») (s .«left_a») && (eqb (r .«left_b») (s .«left_b») && eqb (r .length) (s .length))
 
@@ -24,6 +24,6 @@ firstsAfter seen (r ∷ rs) =
     let rest = firstsAfter (r ∷ seen) rs in
     cond (occurs r seen) rest (r ∷ rest)
 
--- "distinct pieces": a row stands for its piece where no earlier row is the same piece
+-- SCOPE, "Distinct": a row stands for its piece where no earlier row is the same piece
 abbrev pub firstOfEach : List Row → List Row
 firstOfEach rs = firstsAfter [] rs

@@ -23,7 +23,7 @@ unfoldable pub leading : (Row → Bool) → List Row → ℕ
 leading p [] = 0
 leading p (r ∷ rs) = cond (p r) (suc (leading p rs)) 0
 
--- a row "with that number"
+-- a row with that match number
 abbrev pub numbered : ℕ → Row → Bool
 numbered n r = eqb (r .number) n
 
@@ -31,15 +31,15 @@ numbered n r = eqb (r .number) n
 abbrev pub numberedElse : ℕ → Row → Bool
 numberedElse n r = not (numbered n r)
 
--- "from the first row with that number": the rows before it, or all where there is none
+-- SCOPE, "Part": the rows before the first with that number; all, where there is none
 abbrev pub before : ℕ → List Row → ℕ
 before n rs = leading (numberedElse n) rs
 
--- "through the rows with that number following without a break"
+-- SCOPE, "Part": the rows with that number up to the first with another
 abbrev pub run : ℕ → List Row → ℕ
 run n rs = leading (numbered n) rs
 
--- "the empty part at its start if there is none"
+-- SCOPE, "Part": where no row has that number, it is empty and stands at the table's start
 abbrev pub startOf : ℕ → List ℕ → ℕ
 startOf n t =
     let skipped = before n (rowsOf t) in
@@ -53,7 +53,7 @@ sizeOf n t = rowWidth * run n (drop (before n (rowsOf t)) (rowsOf t))
 abbrev pub spanOf : ℕ → List ℕ → Span
 spanOf n t = record { start = startOf n t; end = startOf n t + sizeOf n t }
 
--- "the very part of the caller's table that holds them"
+-- SCOPE, "Part": the caller's own numbers from there on
 abbrev pub partOf : ℕ → List ℕ → List ℕ
 partOf n t = take (sizeOf n t) (drop (startOf n t) t)
 

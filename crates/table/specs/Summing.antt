@@ -26,15 +26,15 @@ total f (r ∷ rs) = f r + total f rs
 abbrev pub count : (Row → Bool) → List Row → ℕ
 count p rs = total (λ r. cond (p r) 1 0) rs
 
--- "letters (the sum of all lengths, modulo 2^64)": the sum
+-- SCOPE, "Letters": the sum of all lengths, not yet modulo 2^64
 abbrev pub lettersOf : List Row → ℕ
 lettersOf rs = total (λ r. r .length) rs
 
--- "thirty class counts"
+-- SCOPE, "Summary": as many class counts
 abbrev pub classCount : ℕ
 classCount = 30
 
--- "the pieces whose length is at least 2^c and below 2^(c+1)"
+-- SCOPE, "Classes": at least 2^c letters, and fewer than twice as many
 abbrev pub lengthInClass : ℕ → ℕ → Bool
 lengthInClass c letters = leb (2 ^ c) letters && ltb letters (2 ^ (c + 1))
 
@@ -46,11 +46,11 @@ unfoldable pub classesFrom : ℕ → ℕ → List Row → List ℕ
 classesFrom zero c rs = []
 classesFrom (suc n) c rs = count (inClass c) rs ∷ classesFrom n (suc c) rs
 
--- "c from 0 to 29"; "a row whose length fits no class is in none"
+-- SCOPE, "Classes": from class 0 to class 29; a length that fits no class is counted nowhere
 abbrev pub classesOf : List Row → List ℕ
 classesOf rs = classesFrom classCount 0 rs
 
--- "The summary counts pieces, distinct pieces, letters, and, as thirty class counts beside them, the pieces .."
+-- SCOPE, "Summary": pieces, distinct pieces, letters, and the pieces of each class
 abbrev pub summaryOfRows : List Row → Summary
 summaryOfRows rs =
     record {
@@ -60,6 +60,6 @@ summaryOfRows rs =
       classes = classesOf rs;
     }
 
--- "It too takes arbitrary contents"
+-- SCOPE, "Any contents": whatever numbers the table holds
 abbrev pub summaryOf : List ℕ → Summary
 summaryOf t = summaryOfRows (rowsOf t)

@@ -1,6 +1,5 @@
--- `read_matches` meets its contract. The loop keeps `Progress`: good commands alone stand before `at`, and the
--- columns hold
--- their matches. The measure is what is left of the script. Assumes nothing.
+-- `read_matches` meets its contract. The loop keeps `Progress`: good commands alone stand before `at`, and the columns
+-- hold their matches. The measure is what is left of the script. Assumes nothing.
 use Prim.Native.Nat.{_-_}
 use lib.ListN as List
 use mathlib.Core.Path.{refl, sym, ap, _∙_}

@@ -1,5 +1,5 @@
--- `find_match` meets its contract: the verdict tells the reading, and the columns hold its matches. The
--- demand follows from the equation. Assumes nothing.
+-- `find_match` meets its contract: the verdict tells the reading, and the columns hold its matches. The demand follows
+-- from the equation. Assumes nothing.
 use mathlib.Core.Path.{sym, ap, _∙_}
 use native.Mathlib.Omega.{arith}
 use borrow.Author.Needs.{needs}
