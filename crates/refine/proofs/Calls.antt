@@ -25,7 +25,7 @@ use Rattle.cut_set.specs.declared.CutSet.{CutSet}
 use Rattle.refining.specs.Columns.{Fit, matchesOf}
 use Rattle.stepping.specs.Engine.{at}
 use Rattle.closing.specs.AllCuts.{AllCuts, Closure}
-use Rattle.refining.specs.Rows.{rowsOver, numbersOf}
+use Rattle.refining.specs.Rows.{piecesCut, pieceNumbers}
 use Rattle.refining.specs.Refining.{capacityOf, workNeeded, zeroed}
 use Rattle.writing_rows.specs.Writing.{Writable, Written}
 use Rattle.refine.specs.Calls.{Tabled, Refines}
@@ -80,7 +80,7 @@ module _ {a b d : List ℕ} {r : List Bool} (fit : Fit a b d r) (table : List �
     λ c. in-slice ys inside ordered (joined .kept .members x .1 (cuts .cuts x .1 c)),
   )
 
-  rows-are : rowsOver a b d r (slice (t .base) (t .used) ys) (length d) ≡ leastTable (matchesOf a b d r) []
+  rows-are : piecesCut a b d r (slice (t .base) (t .used) ys) (length d) ≡ leastTable (matchesOf a b d r) []
   rows-are = rows-least fit (slice-rising ys inside ordered _<_ (λ i j l m n. joined .run i j l m n)) run-cuts
 
   pub cuts-writable : length d < 4294967296 → Writable a b d r ys (t .base) (t .used) table
@@ -102,7 +102,7 @@ module _ {a b d : List ℕ} {r : List Bool} (fit : Fit a b d r) (table : List �
     w .count ∙ ap length rows-are,
     cuts .fits,
     w .table
-        ∙ ap (λ (rs : List Match). sets table 0 (numbersOf rs)) rows-are,
+        ∙ ap (λ (rs : List Match). sets table 0 (pieceNumbers rs)) rows-are,
   )
 
 pub tabled-refines :

@@ -10,7 +10,7 @@ use lib.Seq.{sets}
 use Rattle.script.specs.declared.refusal.Refusal.the-variants.{TooManyPieces}
 use Rattle.refinement.specs.Match.{Match}
 use Rattle.refinement.specs.Least.{leastTable}
-use Rattle.refining.specs.Rows.{numbersOf}
+use Rattle.refining.specs.Rows.{pieceNumbers}
 use Rattle.refining.specs.Refining.{capacityOf, refiningOf}
 use Rattle.refining.specs.Demands.{Admitted, EveryExceeds}
 use Rattle.refining.specs.declared.answers.Refined.{Refined}
@@ -20,7 +20,7 @@ abbrev pub Tabled : List Match → List ℕ → List ℕ → Refined → Type 0
 Tabled ms before after (Refined.Rows n) =
     (n ≡ length (leastTable ms []))
     × (length (leastTable ms []) ≤ capacityOf before)
-    × (after ≡ sets before 0 (numbersOf (leastTable ms [])))
+    × (after ≡ sets before 0 (pieceNumbers (leastTable ms [])))
 Tabled ms before after (Refined.Refused r) =
     (r ≡ TooManyPieces) × EveryExceeds ms (capacityOf before) × (after ≡ before)
 

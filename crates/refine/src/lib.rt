@@ -4,6 +4,7 @@ pub mod carrying;
 use closing::Closed;
 use closing::close;
 use refining::answers::Refined;
+use rows::ROW_WIDTH;
 use script::Refusal;
 use script::Verdict;
 use writing_rows::write_rows;
@@ -43,7 +44,14 @@ fn cut_and_write(
         (matchesOf (now («left_a» .entry)) (now («left_b» .entry)) (now (lengths .entry)) (now (reversed .entry)))
         (now (table .entry)) (now (table .exit)) r ⌝ }
 {
-    match close(left_a, left_b, lengths, reversed, work, table.len() / 5) {
+    match close(
+        left_a,
+        left_b,
+        lengths,
+        reversed,
+        work,
+        table.len() / ROW_WIDTH,
+    ) {
         Closed::TooMany => Refined::Refused(Refusal::TooManyPieces),
         Closed::CutsOfA(set) => {
             let cuts = cut_set::join(work, set);
@@ -77,7 +85,7 @@ fn refine_matches(
         (matchesOf (now («left_a» .entry)) (now («left_b» .entry)) (now (lengths .entry)) (now (reversed .entry)))
         (now (table .entry)) (now (work .entry)) r (now (table .exit)) (now (work .exit)) ⌝ }
 {
-    if work.len() < 4 * (table.len() / 5) {
+    if work.len() < 4 * (table.len() / ROW_WIDTH) {
         return Refined::Refused(Refusal::WorkTooShort);
     }
     let answer = cut_and_write(left_a, left_b, lengths, reversed, table, work);

@@ -12,12 +12,13 @@ use lib.Seq.{take-at, drop-at}
 use Rattle.script.specs.Answers.{Answer, value, refusal}
 use Rattle.script.specs.Outcomes.{Outcome}
 use Rattle.script.proofs.Outcome.{outcome-alone, outcome-refused}
+use Rattle.rows.specs.Rows.{rowWidth}
 use Rattle.refinement.specs.Match.{Match}
 use Rattle.refinement.specs.Refinement.{ResolvedRefinement}
 use Rattle.refinement.specs.Least.{leastTable}
 use Rattle.refinement.proofs.Theorem.{table-resolved, table-in-order, table-least}
 use Rattle.refinement.proofs.Paper.{paper-agrees}
-use Rattle.refining.specs.Rows.{numbersOf}
+use Rattle.refining.specs.Rows.{pieceNumbers}
 use Rattle.refining.specs.Refining.{capacityOf, workNeeded, Refining, refiningOf}
 use Rattle.refining.specs.Demands.{answerOf, Admitted, reads, Fits, EveryExceeds}
 use Rattle.refining.specs.Demands.{RefiningOutcome, Stand, Demand1, Demand2, Demand3}
@@ -84,10 +85,10 @@ module _ {script table work : List ℕ} where
 written-stand : (rs : List Match) (table : List ℕ) (n : ℕ) → value (length rs) ≡ value n → Stand rs n (written rs table)
 written-stand rs table n e =
     let count : n ≡ length rs = cc in
-    let rows = numbersOf rs in
+    let rows = pieceNumbers rs in
     record {
       count = count;
-      numbers = take-at rows (drop (length rows) table) (5 * n) (omega (arith, length-numbers rs));
+      numbers = take-at rows (drop (length rows) table) (rowWidth * n) (omega (arith, length-numbers rs));
     }
 
 resolved-one :
@@ -130,7 +131,7 @@ module _ {script table work : List ℕ} where
         work-length = length-replicate (length work) 0;
       }
   case-demand1 (writing {ms} a enough room) alone =
-      let rows = numbersOf (leastTable ms []) in
+      let rows = pieceNumbers (leastTable ms []) in
       let five = length-numbers (leastTable ms []) in
       record {
         stated = case-stated (writing a enough room);
@@ -141,8 +142,8 @@ module _ {script table work : List ℕ} where
         success-work = λ _ _. refl;
         past-rows = λ n e.
             let count : length (leastTable ms []) ≡ n = cc in
-            let here : length rows ≡ 5 * n = omega arith in
-            drop-at rows (drop (length rows) table) (5 * n) here ∙ ap (λ (k : ℕ). drop k table) here;
+            let here : length rows ≡ rowWidth * n = omega arith in
+            drop-at rows (drop (length rows) table) (rowWidth * n) here ∙ ap (λ (k : ℕ). drop k table) here;
         table-length = simp (length-append, length-drop) (omega arith);
         work-length = length-replicate (length work) 0;
       }

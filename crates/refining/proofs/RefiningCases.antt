@@ -26,7 +26,7 @@ use Rattle.refinement.specs.Match.{Match}
 use Rattle.refinement.specs.Refinement.{Matches}
 use Rattle.refinement.specs.Least.{leastTable}
 use Rattle.refinement.proofs.Theorem.{table-resolved, table-least}
-use Rattle.refining.specs.Rows.{numbersOf}
+use Rattle.refining.specs.Rows.{pieceNumbers}
 use Rattle.refining.specs.Refining.{capacityOf, workNeeded, zeroed, Refining, refiningOfMatches, refiningOf}
 use Rattle.refining.specs.Demands.{Admitted, reads, Fits, EveryExceeds}
 use Rattle.refining.specs.declared.answers.Refined.{Refined}
@@ -55,13 +55,13 @@ fits-exceeds f exceeds = omega (arith, exceeds (f .rows) (f .resolved))
 
 -- the numbers of rows over the start of a table
 abbrev pub written : List Match → List ℕ → List ℕ
-written rs table = numbersOf rs ++ drop (length (numbersOf rs)) table
+written rs table = pieceNumbers rs ++ drop (length (pieceNumbers rs)) table
 
 pub written-sets :
-    (rs : List Match) (table : List ℕ) → length rs ≤ capacityOf table → sets table 0 (numbersOf rs) ≡ written rs table
+    (rs : List Match) (table : List ℕ) → length rs ≤ capacityOf table → sets table 0 (pieceNumbers rs) ≡ written rs table
 written-sets rs table room =
-    sets-eq (numbersOf rs) table 0 (omega (arith, length-numbers rs))
-    ∙ ap (λ (k : ℕ). numbersOf rs ++ drop k table) (zero-add (length (numbersOf rs)))
+    sets-eq (pieceNumbers rs) table 0 (omega (arith, length-numbers rs))
+    ∙ ap (λ (k : ℕ). pieceNumbers rs ++ drop k table) (zero-add (length (pieceNumbers rs)))
 
 module _ (script table work : List ℕ) where
   pub refining-refused : {r : Refusal} → readScript script ≡ refused r

@@ -23,13 +23,13 @@ use lib.ListN.{length, getD}
 use lib.Seq.{getD-take}
 use Rattle.script.specs.Reading.{readFrom, readScript}
 use Rattle.script.specs.Answers.{Answer, value, refusal}
+use Rattle.rows.specs.Rows.{rowWidth, numbersOf}
 use Rattle.refinement.specs.declared.Side.the-variants.{A}
 use Rattle.refinement.specs.Order.{_∈_, insertBy, sortBy}
 use Rattle.refinement.specs.Match.{Match, matchAB, left, right}
 use Rattle.refinement.specs.Refinement.{Matches, Piece, Refines, rowsOver}
 use Rattle.refinement.specs.Least
 use Rattle.refinement.proofs.Theorem.{table-resolved, table-least}
-use Rattle.refining.specs.Rows.{numbersOf}
 use Rattle.refining.specs.Refining.{capacityOf, workNeeded, zeroed}
 use Rattle.refining.specs.Demands.{Admitted, Fits, EveryExceeds, RefiningOutcome}
 use Rattle.refining.specs.Demands.{Stand, Pieces, Demand1, Demand2, Demand3}
@@ -122,12 +122,12 @@ first-row {m} {ms} {table} {n} lettered P = go (P .rows) (P .resolved .refines) 
         let once = R .once m (here refl) (m .leftA) (record { from-left = omega arith; before-right = omega arith }) in
         absurd (omega (arith, once))
     go (r ∷ rs) R s =
-        let reaches : 3 < 5 * n = omega (arith, s .count) in
+        let reaches : 3 < rowWidth * n = omega (arith, s .count) in
         record {
           row = r;
           piece = R .pieces r (here refl);
-          left-at = sym (getD-take (5 * n) table 1 0 (omega arith)) ∙ ap (λ (l : List ℕ). getD l 1 0) (s .numbers);
-          length-at = sym (getD-take (5 * n) table 3 0 reaches) ∙ ap (λ (l : List ℕ). getD l 3 0) (s .numbers);
+          left-at = sym (getD-take (rowWidth * n) table 1 0 (omega arith)) ∙ ap (λ (l : List ℕ). getD l 1 0) (s .numbers);
+          length-at = sym (getD-take (rowWidth * n) table 3 0 reaches) ∙ ap (λ (l : List ℕ). getD l 3 0) (s .numbers);
         }
 
 -- a piece has a letter, so that its fourth number is not 0

@@ -20,11 +20,12 @@ pub use Rattle.script.specs.Answers.{Answer, value, refusal}
 use Rattle.script.specs.Answers.{contents}
 use Rattle.script.specs.Outcomes.{Outcome}
 use Rattle.script.specs.declared.command.Match.{Match as ScriptMatch}
+use Rattle.rows.specs.Rows.{rowWidth}
 use Rattle.refinement.specs.Order.{Rising}
 use Rattle.refinement.specs.Match.{Match}
 use Rattle.refinement.specs.Refinement.{ResolvedRefinement, Before, Least}
 use Rattle.refinement.specs.Paper.{Definition1, Definition2}
-use Rattle.refining.specs.Rows.{numbersOf}
+use Rattle.refining.specs.Rows.{pieceNumbers}
 use Rattle.refining.specs.Refining.{numbered, capacityOf, workNeeded, zeroed}
 use Rattle.refining.specs.declared.answers.Refined.{Refined}
 
@@ -82,7 +83,7 @@ pub record Demand1 (script table work : List ℕ) (answer : Answer ℕ) (table�
   pub crowded-work : (place : ℕ) → answer ≡ refusal 12 place → work′ ≡ zeroed work
   pub success-work : (n : ℕ) → answer ≡ value n → work′ ≡ zeroed work
   -- "Numbers past the last row keep their old values."
-  pub past-rows : (n : ℕ) → answer ≡ value n → drop (5 * n) table′ ≡ drop (5 * n) table
+  pub past-rows : (n : ℕ) → answer ≡ value n → drop (rowWidth * n) table′ ≡ drop (rowWidth * n) table
   -- a lent buffer stays as long as it was
   pub table-length : length table′ ≡ length table
   pub work-length : length work′ ≡ length work
@@ -92,7 +93,7 @@ pub record Demand1 (script table work : List ℕ) (answer : Answer ℕ) (table�
 -- "the table produced is that many rows from the lent table's start"; "A row is five 32-bit numbers"
 pub record Stand (rs : List Match) (n : ℕ) (table : List ℕ) : Type 0 where
   pub count : n ≡ length rs
-  pub numbers : take (5 * n) table ≡ numbersOf rs
+  pub numbers : take (rowWidth * n) table ≡ pieceNumbers rs
 
 -- the first n rows of the table are a resolved refinement, in the table's order
 pub record Pieces (ms : List Match) (n : ℕ) (table : List ℕ) : Type 0 where

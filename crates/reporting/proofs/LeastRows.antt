@@ -1,12 +1,11 @@
 -- What refining leaves in the table, as rows: those of the least table's pieces.
---     rowOfPiece              the row of a piece
 --     LeastRows, least-rows   after a success, the rows counted are those of the least table
 --     report-crowded          the text of matches whose least table has no room ..
 --     report-rows             .. and of those whose least table has
 -- Assumes nothing.
 use Prim.Native.Nat.{ℕ, _*_, _≤_, _<_}
-use mathlib.Core.Path.{_≡_, refl, sym, ap, _∙_}
-use mathlib.Core.List.{List, [], _∷_, map, append-nil}
+use mathlib.Core.Path.{_≡_, refl, ap, _∙_}
+use mathlib.Core.List.{List, [], map}
 use native.Mathlib.Omega.{arith}
 use borrow.Author.Tests.{lt-ltb, le-ltb}
 use lib.ListN.{length, drop, take}
@@ -15,10 +14,9 @@ use Rattle.script.specs.declared.refusal.Refusal.{Refusal}
 use Rattle.script.specs.declared.refusal.Refusal.the-variants.{TooManyPieces}
 use Rattle.refinement.specs.Match.{Match}
 use Rattle.refinement.specs.Least.{leastTable}
-use Rattle.rows.specs.Rows.{rowWidth, rowsOf, numbersOf as rowsNumbers}
-use Rattle.rows.specs.declared.Row.{Row}
-use Rattle.table.proofs.Laws.{rows-back}
-use Rattle.refining.specs.Rows.{direction, numbersOf}
+use Rattle.rows.specs.Rows.{rowWidth, rowsOf}
+use Rattle.rows.proofs.Numbers.{rows-whole}
+use Rattle.refining.specs.Rows.{rowOfPiece, pieceNumbers}
 use Rattle.refining.specs.Refining.{capacityOf, workNeeded, refiningOfMatches, refiningOf}
 use Rattle.refining.specs.Demands.{Admitted}
 use Rattle.refining.specs.declared.answers.Refined.{Refined}
@@ -29,31 +27,12 @@ use Rattle.refining.proofs.RefiningCases.{written, Case, refusing, short, crowd
 use Rattle.reporting.specs.Lines.{refusalText, tableText}
 use Rattle.reporting.specs.Reporting.{reportOfRefining}
 
--- "match number, left-A, left-B, length, direction"
-abbrev pub rowOfPiece : Match → Row
-rowOfPiece r =
-    record {
-      number = r .number;
-      «left_a» = r .leftA;
-      «left_b» = r .leftB;
-      length = r .length;
-      direction = direction (r .reversed);
-    }
-
--- a piece and its row have the same numbers
-same-numbers : (rs : List Match) → numbersOf rs ≡ rowsNumbers (map rowOfPiece rs)
-unfolding numbersOf rowsNumbers
-same-numbers [] = refl
-same-numbers (r ∷ rs) = rw (same-numbers rs)
-
 rows-written : (rs : List Match) (table : List ℕ)
     → rowsOf (take (rowWidth * length rs) (written rs table)) ≡ map rowOfPiece rs
 rows-written rs table =
-    rw (
-      take-at (numbersOf rs) (drop (length (numbersOf rs)) table) (rowWidth * length rs) (length-numbers rs),
-      same-numbers rs ∙ sym (append-nil (rowsNumbers (map rowOfPiece rs))),
-    )
-    (rows-back (map rowOfPiece rs) [] (omega arith))
+    let rows = pieceNumbers rs in
+    ap rowsOf (take-at rows (drop (length rows) table) (rowWidth * length rs) (length-numbers rs))
+    ∙ rows-whole (map rowOfPiece rs)
 
 -- the first n rows of the table are the least table's, and all of them
 pub record LeastRows (ms : List Match) (n : ℕ) (table : List ℕ) : Type 0 where

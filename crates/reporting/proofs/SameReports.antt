@@ -29,7 +29,7 @@ use Rattle.refinement.specs.Least.{leastTable}
 use Rattle.refinement.proofs.Theorem.{table-resolved}
 use Rattle.rows.specs.Rows.{rowWidth, rowsOf}
 use Rattle.rows.specs.declared.Row.{Row}
-use Rattle.refining.specs.Rows.{direction}
+use Rattle.refining.specs.Rows.{direction, rowOfPiece}
 use Rattle.refining.specs.Refining.{numbered, Refining, refiningOfMatches, refiningOfReading, refiningOf}
 use Rattle.refining.specs.declared.answers.Refined.{Refined}
 use Rattle.refining.specs.declared.answers.Refined.the-variants.{Rows, Refused}
@@ -37,7 +37,7 @@ use Rattle.refining.proofs.Numbered.{admitted-of, admitted-matches}
 use Rattle.refining.proofs.RefiningCases.{refining-refused, Case, refusing, short, crowded, writing, case}
 use Rattle.reporting.specs.Lines.{refusalText}
 use Rattle.reporting.specs.Reporting.{lentTable, lentWork, reportOfReply, reportOfReading, reportOf}
-use Rattle.reporting.proofs.LeastRows.{rowOfPiece, least-rows}
+use Rattle.reporting.proofs.LeastRows.{least-rows}
 use Rattle.reporting.proofs.ReadBack.{Printable, Said, textOf, Sayable, text-read-back}
 
 -- the rows that a success counts
