@@ -62,8 +62,8 @@ unfoldable pub rowsOver : ℕ → Side → ℕ → List Match → ℕ
 rowsOver n s x rs = length (filter (holds? n s x) rs)
 
 -- the rows of the match numbered n
-unfoldable pub rowsOf : ℕ → List Match → List Match
-rowsOf n rs = filter (λ r. ℕ-discrete (r .number) n) rs
+unfoldable pub rowsFor : ℕ → List Match → List Match
+rowsFor n rs = filter (λ r. ℕ-discrete (r .number) n) rs
 
 -- 01: "A refinement tiles each match by its own pieces, without overlap." That B is tiled too is a law (rows-tile).
 pub record Refines (ms rs : List Match) : Type 0 where
