@@ -32,7 +32,8 @@ sets-append (v ∷ vs) ws xs at =
     sets-append vs ws (set xs at v) (suc at) ∙ ap (λ n. sets (sets (set xs at v) (suc at) vs) n ws) e
 
 pieces-append : (rs qs : List Match) → pieceNumbers (rs ++ qs) ≡ pieceNumbers rs ++ pieceNumbers qs
-pieces-append rs qs = ap numbersOf (map-append rowOfPiece rs qs) ∙ numbers-append (map rowOfPiece rs) (map rowOfPiece qs)
+pieces-append rs qs =
+    ap numbersOf (map-append rowOfPiece rs qs) ∙ numbers-append (map rowOfPiece rs) (map rowOfPiece qs)
 
 sets-rows :
     (rs qs : List Match) (xs : List ℕ)
@@ -144,8 +145,9 @@ module _ {m : Match} {work : List ℕ} {first last row : ℕ} {before table : Li
   unfolding numbersOf
   remaining-step l {after} is =
       let e : at + 1 ≡ suc at = omega arith in
-      let n : suc (suc (suc (suc (suc (rowWidth * next))))) ≡ rowWidth * (next + 1) = omega arith in
       let written = rowNumbers (rowOfPiece (pieceOf m (getD work at 0) (getD work (at + 1) 0))) in
+      let rest = pieceNumbers (rowsFrom m work last (at + 1)) in
+      let n : rowWidth * next + length written ≡ rowWidth * (next + 1) = omega arith in
       record {
         cuts = left .cuts;
         fits = left .fits;
@@ -156,7 +158,7 @@ module _ {m : Match} {work : List ℕ} {first last row : ℕ} {before table : Li
         long = ap length is ∙ length-sets table (rowWidth * next) written ∙ left .long;
         is =
             left .is ∙ ap (λ rs. sets table (rowWidth * next) (pieceNumbers rs)) (rows-step l)
-            ∙ rw (← e) (rw (is, ← n) refl);
+            ∙ rw (← e) (sets-append written rest table (rowWidth * next) ∙ rw (is, ← n) refl);
       }
 
   pub remaining-end : last ≤ at → Placed (rowsFrom m work last first) row before table next
