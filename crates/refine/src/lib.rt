@@ -13,7 +13,7 @@ ghost use Prim.Native.Nat.{_≤_, _<_};
 ghost use lib.ListN.{length};
 ghost use Rattle.refining.specs.Columns.{Fit, matchesOf};
 ghost use Rattle.refining.specs.Refining.{workNeeded, zeroed, refiningOf};
-ghost use Rattle.refine.specs.Calls.{Tabled, Refines};
+ghost use Rattle.refine.specs.Calls.{Tabled, MatchesRefined};
 ghost use Rattle.refining.specs.Demands.{answerOf, Demand1, Demand2, Demand3};
 
 // Sets every number of the work buffer to zero, those past what refining needs too.
@@ -81,7 +81,7 @@ fn refine_matches(
     requires { ⌜ Fit (now «left_a») (now «left_b») (now lengths) (now reversed) ⌝ }
     requires { ⌜ length (now lengths) < 4294967296 ⌝ }
     ensures { λ r. ⌜
-        Refines
+        MatchesRefined
         (matchesOf (now («left_a» .entry)) (now («left_b» .entry)) (now (lengths .entry)) (now (reversed .entry)))
         (now (table .entry)) (now (work .entry)) r (now (table .exit)) (now (work .exit)) ⌝ }
 {

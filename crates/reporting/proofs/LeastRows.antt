@@ -7,7 +7,6 @@ use Prim.Native.Nat.{ℕ, _*_, _≤_, _<_}
 use mathlib.Core.Path.{_≡_, refl, ap, _∙_}
 use mathlib.Core.List.{List, [], map}
 use native.Mathlib.Omega.{arith}
-use borrow.Author.Tests.{lt-ltb, le-ltb}
 use lib.ListN.{length, drop, take}
 use lib.Seq.{take-at}
 use Rattle.script.specs.declared.refusal.Refusal.{Refusal}
@@ -23,7 +22,8 @@ use Rattle.refining.specs.declared.answers.Refined.{Refined}
 use Rattle.refining.specs.declared.answers.Refined.the-variants.{Rows, Refused}
 use Rattle.refining.proofs.Standing.{length-numbers}
 use Rattle.refining.proofs.Numbered.{admitted-unique}
-use Rattle.refining.proofs.RefiningCases.{written, Case, refusing, short, crowded, writing, case}
+use Rattle.refining.proofs.RefiningCases.{written, matches-crowded, matches-written, short, crowded, writing}
+use Rattle.refining.proofs.RefiningCases.{Case, refusing, matched, case}
 use Rattle.reporting.specs.Lines.{refusalText, tableText}
 use Rattle.reporting.specs.Reporting.{reportOfRefining}
 
@@ -49,9 +49,9 @@ least-rows script table work {n} {ms} a e = go (case script table work) e
     go : {reply : Refined} {table′ work′ : List ℕ} → Case script table work reply table′ work′ → reply ≡ Rows n
         → LeastRows ms n table′
     go (refusing _) e = absurd (refused-rows e)
-    go (short _ _) e = absurd (refused-rows e)
-    go (crowded _ _ _) e = absurd (refused-rows e)
-    go (writing {ms = ms′} a′ _ _) e =
+    go (matched _ (short _)) e = absurd (refused-rows e)
+    go (matched _ (crowded _ _)) e = absurd (refused-rows e)
+    go (matched {ms = ms′} a′ (writing _ _)) e =
         let count : n ≡ length (leastTable ms′ []) = cc in
         rw (admitted-unique a a′, count)
         (record { count = refl; rows = rows-written (leastTable ms′ []) table })
@@ -60,20 +60,11 @@ least-rows script table work {n} {ms} a e = go (case script table work) e
 module _ (p q count : ℕ) (ms : List Match) (table work : List ℕ) (enough : workNeeded table ≤ length work) where
   pub report-crowded : capacityOf table < length (leastTable ms [])
       → reportOfRefining p q count (refiningOfMatches ms table work) ≡ refusalText TooManyPieces
-  unfolding refiningOfMatches
-  report-crowded many =
-      rw (
-        le-ltb (length work) (workNeeded table) enough,
-        lt-ltb (capacityOf table) (length (leastTable ms [])) many,
-      )
+  report-crowded many = ap (reportOfRefining p q count) (matches-crowded ms table work enough many)
 
   pub report-rows : length (leastTable ms []) ≤ capacityOf table
       → reportOfRefining p q count (refiningOfMatches ms table work)
       ≡ tableText p q count (map rowOfPiece (leastTable ms []))
-  unfolding refiningOfMatches
   report-rows room =
-      rw (
-        le-ltb (length work) (workNeeded table) enough,
-        le-ltb (capacityOf table) (length (leastTable ms [])) room,
-      )
-      (ap (tableText p q count) (rows-written (leastTable ms []) table))
+      ap (reportOfRefining p q count) (matches-written ms table work enough room)
+      ∙ ap (tableText p q count) (rows-written (leastTable ms []) table)
