@@ -3,7 +3,7 @@
 --     column-reaches, column-few     the columns hold as many numbers as there are matches
 --     cuts-writable      a set that holds all cuts of A, joined into one run, is what writing the rows needs
 --     rows-tabled        the rows written are the least table
---     tabled-refines     the rows written and the work buffer cleared are the call's outcome
+--     tabled-refined     the rows written and the work buffer cleared are the call's outcome
 -- Assumes nothing.
 use Prim.Native.Nat.{ℕ, _+_, _≤_, _<_}
 use mathlib.Core.Path.{_≡_, sym, ap, subst, _∙_}
@@ -19,22 +19,23 @@ use Rattle.refinement.specs.declared.Side.{Side}
 use Rattle.refinement.specs.Order.{_∈_}
 use Rattle.refinement.specs.Match.{Match}
 use Rattle.refinement.specs.Cut.{Cut, end, left-end, right-end}
+use Rattle.refinement.specs.Refinement.{Matches}
 use Rattle.refinement.specs.Least.{leastTable}
 use Rattle.cut_set.specs.Store.{Joined}
 use Rattle.cut_set.specs.declared.CutSet.{CutSet}
 use Rattle.refining.specs.Columns.{Fit, matchesOf}
 use Rattle.stepping.specs.Engine.{at}
 use Rattle.closing.specs.AllCuts.{AllCuts, Closure}
-use Rattle.refining.specs.Rows.{rowsOver, numbersOf}
+use Rattle.refining.specs.Rows.{piecesCut, pieceNumbers}
 use Rattle.refining.specs.Refining.{capacityOf, workNeeded, zeroed}
 use Rattle.writing_rows.specs.Writing.{Writable, Written}
-use Rattle.refine.specs.Calls.{Tabled, Refines}
+use Rattle.refine.specs.Calls.{Tabled, MatchesRefined}
 use Rattle.closing.specs.declared.Closed.{Closed}
 use Rattle.refining.specs.declared.answers.Refined.{Refined}
 use Rattle.stepping.proofs.Indexed.{∈-matches}
 use Rattle.carrying_match.proofs.RunLists.{slice-in, in-slice, slice-rising}
 use Rattle.refine.proofs.RowsLeast.{rows-least}
-use Rattle.refining.proofs.RefiningCases.{written-sets, refining-crowded, refining-written}
+use Rattle.refining.proofs.RefiningCases.{exceeds-many, written-sets, matches-crowded, matches-written}
 
 -- what the closure's answer tells
 pub told-cuts :
@@ -80,7 +81,7 @@ module _ {a b d : List ℕ} {r : List Bool} (fit : Fit a b d r) (table : List �
     λ c. in-slice ys inside ordered (joined .kept .members x .1 (cuts .cuts x .1 c)),
   )
 
-  rows-are : rowsOver a b d r (slice (t .base) (t .used) ys) (length d) ≡ leastTable (matchesOf a b d r) []
+  rows-are : piecesCut a b d r (slice (t .base) (t .used) ys) (length d) ≡ leastTable (matchesOf a b d r) []
   rows-are = rows-least fit (slice-rising ys inside ordered _<_ (λ i j l m n. joined .run i j l m n)) run-cuts
 
   pub cuts-writable : length d < 4294967296 → Writable a b d r ys (t .base) (t .used) table
@@ -102,15 +103,14 @@ module _ {a b d : List ℕ} {r : List Bool} (fit : Fit a b d r) (table : List �
     w .count ∙ ap length rows-are,
     cuts .fits,
     w .table
-        ∙ ap (λ (rs : List Match). sets table 0 (numbersOf rs)) rows-are,
+        ∙ ap (λ (rs : List Match). sets table 0 (pieceNumbers rs)) rows-are,
   )
 
-pub tabled-refines :
-    (ms : List Match) (table table′ work : List ℕ) (r : Refined) → workNeeded table ≤ length work
+pub tabled-refined :
+    {ms : List Match} → Matches ms → (table table′ work : List ℕ) (r : Refined) → workNeeded table ≤ length work
     → Tabled ms table table′ r
-    → Refines ms table work r table′ (zeroed work)
-tabled-refines ms table table′ work (Refined.Rows n) room t script a =
-    rw (t .0, t .2 ∙ written-sets (leastTable ms []) table (t .1))
-    (sym (refining-written script table work a room (t .1)))
-tabled-refines ms table table′ work (Refined.Refused f) room t script a =
-    rw (t .0, t .2) (sym (refining-crowded script table work a room (t .1)))
+    → MatchesRefined ms table work r table′ (zeroed work)
+tabled-refined {ms} M table table′ work (Refined.Rows n) room t =
+    rw (t .0, t .2 ∙ written-sets (leastTable ms []) table (t .1)) (sym (matches-written ms table work room (t .1)))
+tabled-refined {ms} M table table′ work (Refined.Refused f) room t =
+    rw (t .0, t .2) (sym (matches-crowded ms table work room (exceeds-many M (t .1))))

@@ -17,7 +17,7 @@ use Rattle.refinement.proofs.Lists.{∈-filter, ∈-unfilter, rising-filter}
 use Rattle.refinement.proofs.Geometry.{spanned-iff}
 use Rattle.refinement.proofs.Theorem.{cuts-of-match}
 use Rattle.refining.specs.Columns.{Fit, upFrom, matchAt, matchesOf}
-use Rattle.refining.specs.Rows.{within, rowsOver}
+use Rattle.refining.specs.Rows.{within, piecesCut}
 use Rattle.stepping.proofs.Indexed.{matches-good}
 
 -- The numbers that a match spans, by the test and by the decision.
@@ -50,22 +50,22 @@ module _ {a b d : List ℕ} {r : List Bool} (fit : Fit a b d r) where
     -- the rows of the first k matches, and the least table's of the others
     rows-from :
         (n k : ℕ) → k + n ≡ length d
-        → rowsOver a b d r run (length d)
-        ≡ rowsOver a b d r run k
+        → piecesCut a b d r run (length d)
+        ≡ piecesCut a b d r run k
         ++ flatMap (piecesOf (leastCuts (matchesOf a b d r) [])) (map (matchAt a b d r) (upFrom k n))
-    unfolding rowsOver flatMap upFrom piecesOf
+    unfolding piecesCut flatMap upFrom piecesOf
     rows-from zero k e =
         let same : length d ≡ k = omega arith in
-        ap (rowsOver a b d r run) same ∙ sym (append-nil (rowsOver a b d r run k))
+        ap (piecesCut a b d r run) same ∙ sym (append-nil (piecesCut a b d r run k))
     rows-from (suc n) k e =
         let m = matchAt a b d r k in
-        let rows = rowsOver a b d r run k in
+        let rows = piecesCut a b d r run k in
         let cuts = cutsWithin (leastCuts (matchesOf a b d r) []) m A in
         let rest = flatMap (piecesOf (leastCuts (matchesOf a b d r) [])) (map (matchAt a b d r) (upFrom (suc k) n)) in
         rows-from n (suc k) (omega arith)
         ∙ ap (λ xs. rows ++ piecesBetween m xs ++ rest) (match-cuts k)
         ∙ append-assoc rows (piecesBetween m cuts) rest
 
-    pub rows-least : rowsOver a b d r run (length d) ≡ leastTable (matchesOf a b d r) []
-    unfolding leastTable tableFrom rowsOver matchesOf
+    pub rows-least : piecesCut a b d r run (length d) ≡ leastTable (matchesOf a b d r) []
+    unfolding leastTable tableFrom piecesCut matchesOf
     rows-least = rows-from (length d) 0 (omega arith)

@@ -4,6 +4,7 @@ pub mod carrying;
 use closing::Closed;
 use closing::close;
 use refining::answers::Refined;
+use rows::ROW_WIDTH;
 use script::Refusal;
 use script::Verdict;
 use writing_rows::write_rows;
@@ -12,7 +13,7 @@ ghost use Prim.Native.Nat.{_≤_, _<_};
 ghost use lib.ListN.{length};
 ghost use Rattle.refining.specs.Columns.{Fit, matchesOf};
 ghost use Rattle.refining.specs.Refining.{workNeeded, zeroed, refiningOf};
-ghost use Rattle.refine.specs.Calls.{Tabled, Refines};
+ghost use Rattle.refine.specs.Calls.{Tabled, MatchesRefined};
 ghost use Rattle.refining.specs.Demands.{answerOf, Demand1, Demand2, Demand3};
 
 // Sets every number of the work buffer to zero, those past what refining needs too.
@@ -43,7 +44,14 @@ fn cut_and_write(
         (matchesOf (now («left_a» .entry)) (now («left_b» .entry)) (now (lengths .entry)) (now (reversed .entry)))
         (now (table .entry)) (now (table .exit)) r ⌝ }
 {
-    match close(left_a, left_b, lengths, reversed, work, table.len() / 5) {
+    match close(
+        left_a,
+        left_b,
+        lengths,
+        reversed,
+        work,
+        table.len() / ROW_WIDTH,
+    ) {
         Closed::TooMany => Refined::Refused(Refusal::TooManyPieces),
         Closed::CutsOfA(set) => {
             let cuts = cut_set::join(work, set);
@@ -73,11 +81,11 @@ fn refine_matches(
     requires { ⌜ Fit (now «left_a») (now «left_b») (now lengths) (now reversed) ⌝ }
     requires { ⌜ length (now lengths) < 4294967296 ⌝ }
     ensures { λ r. ⌜
-        Refines
+        MatchesRefined
         (matchesOf (now («left_a» .entry)) (now («left_b» .entry)) (now (lengths .entry)) (now (reversed .entry)))
         (now (table .entry)) (now (work .entry)) r (now (table .exit)) (now (work .exit)) ⌝ }
 {
-    if work.len() < 4 * (table.len() / 5) {
+    if work.len() < 4 * (table.len() / ROW_WIDTH) {
         return Refined::Refused(Refusal::WorkTooShort);
     }
     let answer = cut_and_write(left_a, left_b, lengths, reversed, table, work);

@@ -19,7 +19,7 @@ use Rattle.refinement.specs.declared.Side.the-variants.{A, B}
 use Rattle.refinement.specs.Order.{_∈_, Rising, Distinct}
 use Rattle.refinement.specs.Match.{Match, track, left, right, Place, place, Spans}
 use Rattle.refinement.specs.Cut.{right-end, end}
-use Rattle.refinement.specs.Refinement.{Matches, Piece, Refines, rowsOf, CutOf, ResolvedRefinement}
+use Rattle.refinement.specs.Refinement.{Matches, Piece, Refines, rowsFor, CutOf, ResolvedRefinement}
 use Rattle.refinement.specs.Least.{ends}
 use Rattle.refinement.proofs.Lists.{on-ite, pigeonhole, rising-map, rising-filter, ∈-filter, ∈-unfilter}
 use Rattle.refinement.proofs.Tiling.{Overlap, own-piece, rows-apart}
@@ -93,22 +93,22 @@ module _ {ms rs : List Match} {marks : List Place} (M : Matches ms) (R : Resolve
     (i : m ∈ ms) (s : Side) where
   -- where the rows of the match start on the side, and the right end
   marksOf : List ℕ
-  marksOf = right m s ∷ map (λ r. left r s) (rowsOf (m .number) rs)
+  marksOf = right m s ∷ map (λ r. left r s) (rowsFor (m .number) rs)
 
-  length-marksOf : length marksOf ≡ suc (length (rowsOf (m .number) rs))
+  length-marksOf : length marksOf ≡ suc (length (rowsFor (m .number) rs))
   unfolding marksOf
-  length-marksOf = ap suc (length-map (rowsOf (m .number) rs) (λ r. left r s))
+  length-marksOf = ap suc (length-map (rowsFor (m .number) rs) (λ r. left r s))
 
-  row-of : {r : Match} → r ∈ rowsOf (m .number) rs → (r ∈ rs) × Piece m r
-  unfolding rowsOf
+  row-of : {r : Match} → r ∈ rowsFor (m .number) rs → (r ∈ rs) × Piece m r
+  unfolding rowsFor
   row-of j =
       let f = ∈-unfilter (λ r. ℕ-discrete (r .number) (m .number)) rs j in
       (f .0, own-piece M (R .refines) i (f .0) (f .1))
 
   pub match-cuts :
       (xs : List ℕ) → Distinct xs → ((x : ℕ) → x ∈ xs → Spans m s x × CutOf rs (place m s x))
-      → length xs ≤ suc (length (rowsOf (m .number) rs))
-  unfolding marksOf rowsOf
+      → length xs ≤ suc (length (rowsFor (m .number) rs))
+  unfolding marksOf rowsFor
   match-cuts xs once on =
       omega (arith, length-marksOf, pigeonhole xs marksOf once (λ x j. held x (on x j) (ℕ-discrete x (right m s))))
     where
@@ -119,10 +119,10 @@ module _ {ms rs : List Match} {marks : List Place} (M : Matches ms) (R : Resolve
           let row = ∈-filter (λ r. ℕ-discrete (r .number) (m .number)) (v .1) (v .2 .same-number) in
           there (Memᴰ·cast (sym (v .3)) (Memᴰ·map (λ r. left r s) row))
 
-  starts-apart : Distinct (map (λ r. left r s) (rowsOf (m .number) rs))
-  unfolding rowsOf
+  starts-apart : Distinct (map (λ r. left r s) (rowsFor (m .number) rs))
+  unfolding rowsFor
   starts-apart =
-      rising-map (λ r r′. ¬ Overlap r r′ s) _≢_ (λ r. left r s) (rowsOf (m .number) rs)
+      rising-map (λ r r′. ¬ Overlap r r′ s) _≢_ (λ r. left r s) (rowsFor (m .number) rs)
       (λ r r′ j j′ n e.
       let p = row-of j .1 in
       let p′ = row-of j′ .1 in
@@ -134,23 +134,23 @@ module _ {ms rs : List Match} {marks : List Place} (M : Matches ms) (R : Resolve
 
   pub match-cuts-all :
       (xs : List ℕ) → Distinct xs → ((x : ℕ) → (x ∈ xs) ↔ (Spans m s x × CutOf rs (place m s x)))
-      → length xs ≡ suc (length (rowsOf (m .number) rs))
+      → length xs ≡ suc (length (rowsFor (m .number) rs))
   unfolding marksOf
   match-cuts-all xs once on =
       let few = match-cuts xs once (λ x j. on x .0 j) in
       let many = pigeonhole marksOf xs (before, starts-apart) (λ x j. cut x (List·Memᴰ·cases-cons j)) in
       omega (arith, length-marksOf)
     where
-      before : (x : ℕ) → x ∈ map (λ r. left r s) (rowsOf (m .number) rs) → right m s ≢ x
+      before : (x : ℕ) → x ∈ map (λ r. left r s) (rowsFor (m .number) rs) → right m s ≢ x
       before x j e =
-          let f = Memᴰ·of-map (λ r. left r s) (rowsOf (m .number) rs) j in
+          let f = Memᴰ·of-map (λ r. left r s) (rowsFor (m .number) rs) j in
           let p = row-of (f .1) .1 in
           omega (arith, f .2, p .ends-within s, p .lettered)
 
-      cut : (x : ℕ) → (x ≡ right m s) ⊎ (x ∈ map (λ r. left r s) (rowsOf (m .number) rs)) → x ∈ xs
+      cut : (x : ℕ) → (x ≡ right m s) ⊎ (x ∈ map (λ r. left r s) (rowsFor (m .number) rs)) → x ∈ xs
       cut x (inl e) = rw e (on (right m s) .1 (omega arith, has-cut M R (end i (right-end s))))
       cut x (inr j) =
-          let f = Memᴰ·of-map (λ r. left r s) (rowsOf (m .number) rs) j in
+          let f = Memᴰ·of-map (λ r. left r s) (rowsFor (m .number) rs) j in
           let v = row-of (f .1) in
           on x .1
           (omega (arith, f .2, v .1 .starts-within s, v .1 .ends-within s), cut-of (v .0) (v .1) s x (inl (sym (f .2))))
@@ -166,24 +166,24 @@ total-mono f g [] h = omega arith
 total-mono f g (m ∷ ms) h = omega (arith, h m (here refl), total-mono f g ms (λ m′ i. h m′ (there i)))
 
 rows-head :
-    (n : ℕ) (r : Match) (rs : List Match) → r .number ≡ n → length (rowsOf n (r ∷ rs)) ≡ suc (length (rowsOf n rs))
-unfolding rowsOf
+    (n : ℕ) (r : Match) (rs : List Match) → r .number ≡ n → length (rowsFor n (r ∷ rs)) ≡ suc (length (rowsFor n rs))
+unfolding rowsFor
 rows-head n r rs e =
-    on-ite (λ (l : List Match). length l ≡ suc (length (rowsOf n rs))) (ℕ-discrete (r .number) n) (λ _. refl)
+    on-ite (λ (l : List Match). length l ≡ suc (length (rowsFor n rs))) (ℕ-discrete (r .number) n) (λ _. refl)
     (λ k. absurd (k e))
 
-rows-skip : (n : ℕ) (r : Match) (rs : List Match) → r .number ≢ n → length (rowsOf n (r ∷ rs)) ≡ length (rowsOf n rs)
-unfolding rowsOf
+rows-skip : (n : ℕ) (r : Match) (rs : List Match) → r .number ≢ n → length (rowsFor n (r ∷ rs)) ≡ length (rowsFor n rs)
+unfolding rowsFor
 rows-skip n r rs e =
-    on-ite (λ (l : List Match). length l ≡ length (rowsOf n rs)) (ℕ-discrete (r .number) n) (λ k. absurd (e k))
+    on-ite (λ (l : List Match). length l ≡ length (rowsFor n rs)) (ℕ-discrete (r .number) n) (λ k. absurd (e k))
     (λ _. refl)
 
 -- one for each row of a match, and one more
 abbrev slots : List Match → Match → ℕ
-slots rs m = 1 + length (rowsOf (m .number) rs)
+slots rs m = 1 + length (rowsFor (m .number) rs)
 
 slots-none : (ms : List Match) → total (slots []) ms ≡ length ms
-unfolding rowsOf
+unfolding rowsFor
 slots-none [] = refl
 slots-none (m ∷ ms) = omega (arith, slots-none ms)
 

@@ -62,8 +62,8 @@ unfoldable pub rowsOver : ℕ → Side → ℕ → List Match → ℕ
 rowsOver n s x rs = length (filter (holds? n s x) rs)
 
 -- the rows of the match numbered n
-unfoldable pub rowsOf : ℕ → List Match → List Match
-rowsOf n rs = filter (λ r. ℕ-discrete (r .number) n) rs
+unfoldable pub rowsFor : ℕ → List Match → List Match
+rowsFor n rs = filter (λ r. ℕ-discrete (r .number) n) rs
 
 -- SCOPE, "Refinement": each letter of a match is in exactly one piece of it. That B is tiled too is a law (rows-tile).
 pub record Refines (ms rs : List Match) : Type 0 where

@@ -1,9 +1,12 @@
--- What `refiningOf` is in each of its four cases, and that one of them applies.
+-- What `refiningOfMatches` and `refiningOf` are in each of their cases, and that one of them applies.
 --     written, written-sets                   rows over the start of a table, also as code stores them
 --     fits-or-exceeds, fits-exceeds           12's condition and its contrary: one holds, and not both
---     refining-refused, refining-short, refining-crowded, refining-written
---                                             the script's refusal, 11, 12, and the rows of the least table
---     Case, CaseOf, case                      the four as a data type, for proofs that go through them
+--     exceeds-many                            under 12's condition the least table has no room either
+--     matches-short, matches-crowded, matches-written
+--                                             11, 12, and the rows of the least table
+--     refining-refused, refining-admitted     the script's refusal, and its matches
+--     MatchesCase, matches-case               the three as a data type, for proofs that go through them
+--     Case, case                              the same of a script
 -- Assumes nothing.
 use Prim.Native.Nat.{ℕ, _≤_, _<_}
 use mathlib.Core.Path.{_≡_, refl, ap, _∙_}
@@ -26,7 +29,7 @@ use Rattle.refinement.specs.Match.{Match}
 use Rattle.refinement.specs.Refinement.{Matches}
 use Rattle.refinement.specs.Least.{leastTable}
 use Rattle.refinement.proofs.Theorem.{table-resolved, table-least}
-use Rattle.refining.specs.Rows.{numbersOf}
+use Rattle.refining.specs.Rows.{pieceNumbers}
 use Rattle.refining.specs.Refining.{capacityOf, workNeeded, zeroed, Refining, refiningOfMatches, refiningOf}
 use Rattle.refining.specs.Demands.{Admitted, reads, Fits, EveryExceeds}
 use Rattle.refining.specs.declared.answers.Refined.{Refined}
@@ -36,32 +39,92 @@ use Rattle.refining.proofs.Numbered.{admitted-of, admitted-matches}
 
 -- ---- room for some resolved refinement, or for none
 
-pub fits-or-exceeds :
-    {script : List ℕ} {ms : List Match} → Admitted script ms → (capacity : ℕ)
-    → Fits ms capacity ⊎ EveryExceeds ms capacity
-fits-or-exceeds {ms = ms} a capacity = go (decLt capacity (length (leastTable ms [])))
-  where
-    M : Matches ms
-    M = admitted-matches a
+module _ {ms : List Match} (M : Matches ms) where
+  pub exceeds-many : {capacity : ℕ} → EveryExceeds ms capacity → capacity < length (leastTable ms [])
+  exceeds-many exceeds = exceeds (leastTable ms []) (table-resolved ms [] M)
 
-    go : Dec (capacity < length (leastTable ms [])) → Fits ms capacity ⊎ EveryExceeds ms capacity
-    go (yes many) = inr (λ rs R. omega (arith, table-least ms [] M .fewest rs R))
-    go (no few) = inl (record { rows = leastTable ms []; resolved = table-resolved ms [] M; room = omega arith })
+  pub fits-or-exceeds : (capacity : ℕ) → Fits ms capacity ⊎ EveryExceeds ms capacity
+  fits-or-exceeds capacity = go (decLt capacity (length (leastTable ms [])))
+    where
+      go : Dec (capacity < length (leastTable ms [])) → Fits ms capacity ⊎ EveryExceeds ms capacity
+      go (yes many) = inr (λ rs R. omega (arith, table-least ms [] M .fewest rs R))
+      go (no few) = inl (record { rows = leastTable ms []; resolved = table-resolved ms [] M; room = omega arith })
 
 pub fits-exceeds : {ms : List Match} {capacity : ℕ} → Fits ms capacity → EveryExceeds ms capacity → ⊥
 fits-exceeds f exceeds = omega (arith, exceeds (f .rows) (f .resolved))
 
--- ---- the four cases
+-- ---- matches
 
 -- the numbers of rows over the start of a table
 abbrev pub written : List Match → List ℕ → List ℕ
-written rs table = numbersOf rs ++ drop (length (numbersOf rs)) table
+written rs table = pieceNumbers rs ++ drop (length (pieceNumbers rs)) table
 
 pub written-sets :
-    (rs : List Match) (table : List ℕ) → length rs ≤ capacityOf table → sets table 0 (numbersOf rs) ≡ written rs table
+    (rs : List Match) (table : List ℕ) → length rs ≤ capacityOf table
+    → sets table 0 (pieceNumbers rs) ≡ written rs table
 written-sets rs table room =
-    sets-eq (numbersOf rs) table 0 (omega (arith, length-numbers rs))
-    ∙ ap (λ (k : ℕ). numbersOf rs ++ drop k table) (zero-add (length (numbersOf rs)))
+    sets-eq (pieceNumbers rs) table 0 (omega (arith, length-numbers rs))
+    ∙ ap (λ (k : ℕ). pieceNumbers rs ++ drop k table) (zero-add (length (pieceNumbers rs)))
+
+module _ (ms : List Match) (table work : List ℕ) where
+  pub matches-short : length work < workNeeded table
+      → refiningOfMatches ms table work ≡ record { reply = Refused WorkTooShort; table = table; work = work }
+  unfolding refiningOfMatches
+  matches-short short = rw (lt-ltb (length work) (workNeeded table) short)
+
+  pub matches-crowded : workNeeded table ≤ length work → capacityOf table < length (leastTable ms [])
+      → refiningOfMatches ms table work ≡ record { reply = Refused TooManyPieces; table = table; work = zeroed work }
+  unfolding refiningOfMatches
+  matches-crowded enough many =
+      rw (
+        le-ltb (length work) (workNeeded table) enough,
+        lt-ltb (capacityOf table) (length (leastTable ms [])) many,
+      )
+
+  pub matches-written : workNeeded table ≤ length work → length (leastTable ms []) ≤ capacityOf table
+      → refiningOfMatches ms table work ≡ record {
+        reply = Rows (length (leastTable ms []));
+        table = written (leastTable ms []) table;
+        work = zeroed work;
+      }
+  unfolding refiningOfMatches
+  matches-written enough room =
+      rw (
+        le-ltb (length work) (workNeeded table) enough,
+        le-ltb (capacityOf table) (length (leastTable ms [])) room,
+      )
+
+-- the reply and the buffers after the call, with the case that they are of
+pub data MatchesCase (ms : List Match) (table work : List ℕ) : Refined → List ℕ → List ℕ → Type 0 where
+  short : length work < workNeeded table → MatchesCase ms table work (Refused WorkTooShort) table work
+  crowded :
+      workNeeded table ≤ length work → EveryExceeds ms (capacityOf table)
+      → MatchesCase ms table work (Refused TooManyPieces) table (zeroed work)
+  writing :
+      workNeeded table ≤ length work → length (leastTable ms []) ≤ capacityOf table
+      → MatchesCase ms table work (Rows (length (leastTable ms []))) (written (leastTable ms []) table) (zeroed work)
+
+abbrev MatchesCaseOf : List Match → List ℕ → List ℕ → Refining → Type 0
+MatchesCaseOf ms table work x = MatchesCase ms table work (x .reply) (x .table) (x .work)
+
+module _ {ms : List Match} (M : Matches ms) (table work : List ℕ) where
+  pub matches-case : MatchesCaseOf ms table work (refiningOfMatches ms table work)
+  matches-case = by-work (decLt (length work) (workNeeded table))
+    where
+      by-room : workNeeded table ≤ length work → Fits ms (capacityOf table) ⊎ EveryExceeds ms (capacityOf table)
+          → MatchesCaseOf ms table work (refiningOfMatches ms table work)
+      by-room enough (inl f) =
+          let fewest = table-least ms [] M .fewest (f .rows) (f .resolved) in
+          let room : length (leastTable ms []) ≤ capacityOf table = omega (arith, f .room) in
+          rw (matches-written ms table work enough room) (writing enough room)
+      by-room enough (inr exceeds) =
+          rw (matches-crowded ms table work enough (exceeds-many M exceeds)) (crowded enough exceeds)
+
+      by-work : Dec (length work < workNeeded table) → MatchesCaseOf ms table work (refiningOfMatches ms table work)
+      by-work (yes h) = rw (matches-short ms table work h) (short h)
+      by-work (no h) = by-room (omega arith) (fits-or-exceeds M (capacityOf table))
+
+-- ---- scripts
 
 module _ (script table work : List ℕ) where
   pub refining-refused : {r : Refusal} → readScript script ≡ refused r
@@ -69,80 +132,27 @@ module _ (script table work : List ℕ) where
   unfolding refiningOf
   refining-refused e = rw e
 
-  refining-admitted :
+  pub refining-admitted :
       {ms : List Match} → Admitted script ms → refiningOf script table work ≡ refiningOfMatches ms table work
   unfolding refiningOf
   refining-admitted (reads o) = rw (outcome-admitted o)
 
-  pub refining-short : {ms : List Match} → Admitted script ms → length work < workNeeded table
-      → refiningOf script table work ≡ record { reply = Refused WorkTooShort; table = table; work = work }
-  unfolding refiningOfMatches
-  refining-short a short = refining-admitted a ∙ rw (lt-ltb (length work) (workNeeded table) short)
-
-  pub refining-crowded : {ms : List Match} → Admitted script ms → workNeeded table ≤ length work
-      → EveryExceeds ms (capacityOf table)
-      → refiningOf script table work ≡ record { reply = Refused TooManyPieces; table = table; work = zeroed work }
-  unfolding refiningOfMatches
-  refining-crowded {ms} a enough exceeds =
-      let many = exceeds (leastTable ms []) (table-resolved ms [] (admitted-matches a)) in
-      refining-admitted a
-      ∙ rw (
-        le-ltb (length work) (workNeeded table) enough,
-        lt-ltb (capacityOf table) (length (leastTable ms [])) many,
-      )
-
-  pub refining-written : {ms : List Match} → Admitted script ms → workNeeded table ≤ length work
-      → length (leastTable ms []) ≤ capacityOf table
-      → refiningOf script table work ≡ record {
-        reply = Rows (length (leastTable ms []));
-        table = written (leastTable ms []) table;
-        work = zeroed work;
-      }
-  unfolding refiningOfMatches
-  refining-written {ms} a enough room =
-      refining-admitted a
-      ∙ rw (
-        le-ltb (length work) (workNeeded table) enough,
-        le-ltb (capacityOf table) (length (leastTable ms [])) room,
-      )
-
--- the reply and the buffers after the call, with the case that they are of
 pub data Case (script table work : List ℕ) : Refined → List ℕ → List ℕ → Type 0 where
   refusing :
       {r : Refusal} → Outcome script (refusal (numberOf r) (placeOf r)) → Case script table work (Refused r) table work
-  short :
-      {ms : List Match} → Admitted script ms → length work < workNeeded table
-      → Case script table work (Refused WorkTooShort) table work
-  crowded :
-      {ms : List Match} → Admitted script ms → workNeeded table ≤ length work → EveryExceeds ms (capacityOf table)
-      → Case script table work (Refused TooManyPieces) table (zeroed work)
-  writing :
-      {ms : List Match} → Admitted script ms → workNeeded table ≤ length work
-      → length (leastTable ms []) ≤ capacityOf table
-      → Case script table work (Rows (length (leastTable ms []))) (written (leastTable ms []) table) (zeroed work)
+  matched :
+      {ms : List Match} {reply : Refined} {table′ work′ : List ℕ} → Admitted script ms
+      → MatchesCase ms table work reply table′ work′ → Case script table work reply table′ work′
 
-abbrev pub CaseOf : List ℕ → List ℕ → List ℕ → Refining → Type 0
+abbrev CaseOf : List ℕ → List ℕ → List ℕ → Refining → Type 0
 CaseOf script table work x = Case script table work (x .reply) (x .table) (x .work)
 
 pub case : (script table work : List ℕ) → CaseOf script table work (refiningOf script table work)
 case script table work = by-reading (readScript script) refl
   where
-    by-room : {ms : List Match} → Admitted script ms → workNeeded table ≤ length work
-        → Fits ms (capacityOf table) ⊎ EveryExceeds ms (capacityOf table)
-        → CaseOf script table work (refiningOf script table work)
-    by-room {ms} a enough (inl f) =
-        let fewest = table-least ms [] (admitted-matches a) .fewest (f .rows) (f .resolved) in
-        let room : length (leastTable ms []) ≤ capacityOf table = omega arith in
-        rw (refining-written script table work a enough room) (writing a enough room)
-    by-room a enough (inr exceeds) =
-        rw (refining-crowded script table work a enough exceeds) (crowded a enough exceeds)
-
-    by-work : {ms : List Match} → Admitted script ms → Dec (length work < workNeeded table)
-        → CaseOf script table work (refiningOf script table work)
-    by-work a (yes h) = rw (refining-short script table work a h) (short a h)
-    by-work a (no h) = by-room a (omega arith) (fits-or-exceeds a (capacityOf table))
-
     by-reading : (x : Reading) → readScript script ≡ x → CaseOf script table work (refiningOf script table work)
     by-reading (refused r) e =
         rw (refining-refused script table work e) (refusing (read-outcome e))
-    by-reading (admitted p q ms) e = by-work (admitted-of e) (decLt (length work) (workNeeded table))
+    by-reading (admitted p q ms) e =
+        let a = admitted-of e in
+        rw (refining-admitted script table work a) (matched a (matches-case (admitted-matches a) table work))

@@ -1,29 +1,29 @@
 -- The numbers of a table name its rows: no two refinements of a script stand in the same numbers, so that the rows of
 -- demand 2 and those of demand 3 are the same.
---     length-numbers   rows are five numbers each
+--     length-numbers   as many numbers for each piece as a row has
 --     stand-unique     the refinement that stands at the start of a table
 -- Assumes nothing.
 use Prim.Native.Nat.{ℕ, suc, _*_}
 use mathlib.Core.Path.{_≡_, refl, sym, ap, ap₂, _∙_}
 use mathlib.Core.Bool.{Bool, true, false}
 use mathlib.Core.Logic.{⊎-elim}
-use mathlib.Core.List.{List, [], _∷_, List·Memᴰ·cases-cons, List·Memᴰ·not-nil}
+use mathlib.Core.List.{List, [], _∷_, map, List·Memᴰ·cases-cons, List·Memᴰ·not-nil}
 use mathlib.Core.List.{List·Memᴰ·head as here, List·Memᴰ·tail as there}
 use native.Mathlib.Omega.{arith}
-use lib.ListN.{length}
+use lib.ListN.{length, length-map}
 use Rattle.script.specs.declared.command.Match.{Match as ScriptMatch}
+use Rattle.rows.specs.Rows.{rowWidth, numbersOf}
+use Rattle.rows.proofs.Numbers.{numbers-length}
 use Rattle.refinement.specs.declared.Side.the-variants.{A, B}
 use Rattle.refinement.specs.Order.{_∈_}
 use Rattle.refinement.specs.Match.{Match}
 use Rattle.refinement.specs.Refinement.{Refines}
-use Rattle.refining.specs.Rows.{direction, numbersOf}
+use Rattle.refining.specs.Rows.{direction, rowOfPiece, pieceNumbers}
 use Rattle.refining.specs.Refining.{numbered}
 use Rattle.refining.specs.Demands.{Admitted, reads, Stand}
 
-pub length-numbers : (rs : List Match) → length (numbersOf rs) ≡ 5 * length rs
-unfolding numbersOf
-length-numbers [] = refl
-length-numbers (r ∷ rs) = omega (arith, length-numbers rs)
+pub length-numbers : (rs : List Match) → length (pieceNumbers rs) ≡ rowWidth * length rs
+length-numbers rs = omega (arith, numbers-length (map rowOfPiece rs), length-map rs rowOfPiece)
 
 -- a match, or a piece of one, between A and B
 record BetweenAB (m : Match) : Type 0 where
@@ -54,7 +54,7 @@ direction-inj true true e = refl
 
 numbers-inj :
     (rs rs′ : List Match) → ((r : Match) → r ∈ rs → BetweenAB r) → ((r : Match) → r ∈ rs′ → BetweenAB r)
-    → numbersOf rs ≡ numbersOf rs′ → rs ≡ rs′
+    → pieceNumbers rs ≡ pieceNumbers rs′ → rs ≡ rs′
 unfolding numbersOf
 numbers-inj [] [] h h′ e = refl
 numbers-inj [] (r ∷ rs) h h′ e = let z : _≡_ {A = ℕ} 0 1 = cc in absurd (omega arith)
@@ -70,7 +70,7 @@ numbers-inj (r ∷ rs) (r′ ∷ rs′) h h′ e =
     let reversed = direction-inj (r .reversed) (r′ .reversed) way in
     let onA = t .on-a ∙ sym (t′ .on-a) in
     let onB = t .on-b ∙ sym (t′ .on-b) in
-    let later : numbersOf rs ≡ numbersOf rs′ = cc in
+    let later : pieceNumbers rs ≡ pieceNumbers rs′ = cc in
     let same : r ≡ r′ = λ i. record {
       number = number i;
       trackA = onA i;

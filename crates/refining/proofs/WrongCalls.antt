@@ -23,16 +23,17 @@ use lib.ListN.{length, getD}
 use lib.Seq.{getD-take}
 use Rattle.script.specs.Reading.{readFrom, readScript}
 use Rattle.script.specs.Answers.{Answer, value, refusal}
+use Rattle.rows.specs.Rows.{rowWidth, numbersOf}
 use Rattle.refinement.specs.declared.Side.the-variants.{A}
 use Rattle.refinement.specs.Order.{_∈_, insertBy, sortBy}
 use Rattle.refinement.specs.Match.{Match, matchAB, left, right}
 use Rattle.refinement.specs.Refinement.{Matches, Piece, Refines, rowsOver}
 use Rattle.refinement.specs.Least
 use Rattle.refinement.proofs.Theorem.{table-resolved, table-least}
-use Rattle.refining.specs.Rows.{numbersOf}
+use Rattle.refining.specs.Rows.{pieceNumbers}
 use Rattle.refining.specs.Refining.{capacityOf, workNeeded, zeroed}
-use Rattle.refining.specs.Demands.{Admitted, Fits, EveryExceeds, RefiningOutcome}
-use Rattle.refining.specs.Demands.{Stand, Pieces, Demand1, Demand2, Demand3}
+use Rattle.refining.specs.Demands.{Fits, EveryExceeds, MatchesOutcome, Stand, Pieces}
+use Rattle.refining.specs.Demands.{Admitted, RefiningOutcome, Demand1, Demand2, Demand3}
 use Rattle.refining.proofs.Numbered.{admitted-of, admitted-matches}
 use Rattle.refining.proofs.RefiningCases.{fits-exceeds}
 
@@ -94,13 +95,13 @@ matches = admitted-matches (computed .stairs-admitted)
 module _ {table work table′ : List ℕ} where
   single-letters-refused : ¬ Demand3 (script stairs) table work (value (length (Least.singleLetters stairs))) table′
   single-letters-refused d =
-      let L = d .otherwise _ refl stairs (computed .stairs-admitted) in
+      let L = d .of-matches stairs (computed .stairs-admitted) .otherwise _ refl in
       let fewest = L .least .fewest (Least.leastTable stairs []) (table-resolved stairs [] matches) in
       omega (arith, fewest, L .stand .count, computed .least, computed .single)
 
   first-pass-refused : ¬ Demand2 (script stairs) table work (value (length (firstPass stairs))) table′
   first-pass-refused d =
-      let P = d .pieces _ refl stairs (computed .stairs-admitted) in
+      let P = d .of-matches stairs (computed .stairs-admitted) .pieces _ refl in
       let fewest = table-least stairs [] matches .fewest (P .rows) (P .resolved) in
       omega (arith, fewest, P .stand .count, computed .least, computed .first)
 
@@ -122,19 +123,22 @@ first-row {m} {ms} {table} {n} lettered P = go (P .rows) (P .resolved .refines) 
         let once = R .once m (here refl) (m .leftA) (record { from-left = omega arith; before-right = omega arith }) in
         absurd (omega (arith, once))
     go (r ∷ rs) R s =
-        let reaches : 3 < 5 * n = omega (arith, s .count) in
+        let reaches : 3 < rowWidth * n = omega (arith, s .count) in
+        let held : (k : ℕ) → k < rowWidth * n → getD table k 0 ≡ getD (pieceNumbers (r ∷ rs)) k 0 =
+        λ k inside. sym (getD-take (rowWidth * n) table k 0 inside) ∙ ap (λ (l : List ℕ). getD l k 0) (s .numbers)
+        in
         record {
           row = r;
           piece = R .pieces r (here refl);
-          left-at = sym (getD-take (5 * n) table 1 0 (omega arith)) ∙ ap (λ (l : List ℕ). getD l 1 0) (s .numbers);
-          length-at = sym (getD-take (5 * n) table 3 0 reaches) ∙ ap (λ (l : List ℕ). getD l 3 0) (s .numbers);
+          left-at = held 1 (omega arith);
+          length-at = held 3 reaches;
         }
 
 -- a piece has a letter, so that its fourth number is not 0
 made-up-count-refused : {bytes table work : List ℕ} {m : Match} {ms : List Match} → Admitted bytes (m ∷ ms)
     → _≡_ {A = ℕ} (getD table 3 0) 0 → (n : ℕ) → ¬ Demand2 bytes table work (value n) table
 made-up-count-refused {m = m} {ms = ms} a blank n d =
-    let F = first-row (admitted-matches a .lettered m (here refl)) (d .pieces n refl (m ∷ ms) a) in
+    let F = first-row (admitted-matches a .lettered m (here refl)) (d .of-matches (m ∷ ms) a .pieces n refl) in
     omega (arith, F .length-at, F .piece .2 .lettered)
 
 fixed-table-refused : {table work table₂ work₂ fixed : List ℕ} {n n₂ : ℕ}
@@ -142,8 +146,8 @@ fixed-table-refused : {table work table₂ work₂ fixed : List ℕ} {n n₂ : �
     → ¬ Demand2 (script (letter 1)) table₂ work₂ (value n₂) fixed
 unfolding letter
 fixed-table-refused {n = n} {n₂ = n₂} d d₂ =
-    let F = first-row (omega arith) (d .pieces n refl (letter 0) (computed .letter-admitted)) in
-    let S = first-row (omega arith) (d₂ .pieces n₂ refl (letter 1) (computed .next-admitted)) in
+    let F = first-row (omega arith) (d .of-matches (letter 0) (computed .letter-admitted) .pieces n refl) in
+    let S = first-row (omega arith) (d₂ .of-matches (letter 1) (computed .next-admitted) .pieces n₂ refl) in
     let ends = ap (λ (m : Match). right m A) (List·Memᴰ·eq-of-singleton (F .piece .1)) in
     let starts = ap (λ (m : Match). left m A) (List·Memᴰ·eq-of-singleton (S .piece .1)) in
     let low : F .row .leftA < 1 = omega (arith, F .piece .2 .ends-within A, F .piece .2 .lettered, ends) in
@@ -161,7 +165,7 @@ eleven-twelve e = let z : _≡_ {A = ℕ} 11 12 = cc in omega arith
 module _ {bytes table work table′ : List ℕ} {ms : List Match} (a : Admitted bytes ms)
     (enough : workNeeded table ≤ length work) where
   twelve-with-room-refused : Fits ms (capacityOf table) → ¬ Demand3 bytes table work (refusal 12 0) table′
-  twelve-with-room-refused fits d = fits-exceeds fits (d .refuses ms a enough .0 refl)
+  twelve-with-room-refused fits d = fits-exceeds fits (d .of-matches ms a .refuses enough .0 refl)
 
   twelve-one-row-early-refused :
       capacityOf table ≡ length (Least.leastTable ms []) → ¬ Demand3 bytes table work (refusal 12 0) table′
@@ -177,27 +181,29 @@ module _ {bytes table work table′ : List ℕ} {ms : List Match} (a : Admitted 
       let least = table-least ms [] M in
       let fewest = least .fewest (fits .rows) (fits .resolved) in
       let room : length (Least.leastTable ms []) ≤ capacityOf table = omega (arith, fewest, fits .room) in
-      let outcome = RefiningOutcome.least-rows a enough (table-resolved ms [] M) least room in
-      (λ d. refusal-value (sym (d .alone _ outcome)), λ d. refusal-value (d .gets ms a enough fits .1))
+      let rows = MatchesOutcome.least-rows enough (table-resolved ms [] M) least room in
+      let outcome = RefiningOutcome.of-matches a rows in
+      (λ d. refusal-value (sym (d .alone _ outcome)), λ d. refusal-value (d .of-matches ms a .gets enough fits .1))
 
   other-refusal-refused : {number place : ℕ} → number ≢ 12 → ¬ Demand3 bytes table work (refusal number place) table′
   other-refusal-refused {number} other d =
-      refusal-value (d .or-value ms a enough (λ e. let twelve : number ≡ 12 = cc in other twelve) .1)
+      refusal-value (d .of-matches ms a .or-value enough (λ e. let twelve : number ≡ 12 = cc in other twelve) .1)
 
   eleven-for-twelve-refused : {place : ℕ} {work′ : List ℕ} → EveryExceeds ms (capacityOf table)
       → ¬ Demand1 bytes table work (refusal 11 place) table′ work′
   eleven-for-twelve-refused exceeds d =
-      eleven-twelve (sym (d .alone (refusal 12 0) (RefiningOutcome.too-many-pieces a enough exceeds)))
+      let outcome = RefiningOutcome.of-matches a (MatchesOutcome.too-many-pieces enough exceeds) in
+      eleven-twelve (sym (d .alone (refusal 12 0) outcome))
 
 module _ {bytes table work table′ work′ : List ℕ} {place : ℕ} where
   twelve-for-eleven-refused : {ms : List Match} → Admitted bytes ms → length work < workNeeded table
       → ¬ Demand1 bytes table work (refusal 12 place) table′ work′
   twelve-for-eleven-refused a short d =
-      eleven-twelve (d .alone (refusal 11 0) (RefiningOutcome.work-too-short a short))
+      eleven-twelve (d .alone (refusal 11 0) (RefiningOutcome.of-matches a (MatchesOutcome.work-too-short short)))
 
   table-touched-refused : table′ ≢ table → ¬ Demand1 bytes table work (refusal 12 place) table′ work′
-  table-touched-refused touched d = touched (d .refused-table 12 place refl)
+  table-touched-refused touched d = touched (d .leaves .refused-table 12 place refl)
 
   work-zeroed-refused :
       zeroed work ≢ work → work′ ≡ zeroed work → ¬ Demand1 bytes table work (refusal 11 place) table′ work′
-  work-zeroed-refused altered is d = altered (sym is ∙ d .refused-work 11 place refl (λ e. omega arith))
+  work-zeroed-refused altered is d = altered (sym is ∙ d .leaves .refused-work 11 place refl (λ e. omega arith))

@@ -1,15 +1,22 @@
--- Demands 1, 2 and 3 on one refining call: on the bytes of the script, the lent table and work buffer before the call,
--- its answer, and the table and work buffer after it (table′, work′). TO READ: contracts mean what stands here.
+-- Demands 1, 2 and 3 on one refining call: on what is refined, the lent table and work buffer before the call, its
+-- answer, and the table and work buffer after it (table′, work′). TO READ: contracts mean what stands here.
 --     answerOf                   the answer in 01's words: a value, or a refusal's number and place
---     Admitted script ms         the bytes are an admitted script, and ms are its matches, numbered from 1
+-- What is refined are matches, first ..
 --     Fits ms capacity           some resolved refinement of ms has no more rows than the capacity
 --     EveryExceeds ms capacity   every one has more
---     RefiningOutcome            what may come of a call, by its condition: 01's table of refusals, and a value
+--     MatchesOutcome             what may come of refining matches, by its condition: 11, 12, and a value
+--     Leaves                     what a call leaves in the two buffers, by its answer
 --     Stand rs n table           the table's first n rows are rs
---     Demand1, Demand2, Demand3  the demands; each field is one sentence
+--     Pieces, LeastPieces        they are a resolved refinement in the table's order; they are the least one
+--     MatchesDemand1, MatchesDemand2, MatchesDemand3
+--                                the demands; each field is one sentence
+-- .. and then the bytes of a script, of whose matches the same is demanded.
+--     Admitted script ms         the bytes are an admitted script, and ms are its matches, numbered from 1
+--     RefiningOutcome            what may come of a call: the script's own refusals, and what may come of its matches
+--     Demand1, Demand2, Demand3  the demands
 -- A refinement is a list of rows in any order and of any length; the list [] beside its matches are the marks of
--- request #106, of which there are none before it. `proofs/Demands` shows that `refiningOf` meets the demands.
--- Assumes nothing.
+-- request #106, of which there are none before it. `proofs/Demands` shows that `refiningOfMatches` and `refiningOf`
+-- meet the demands. Assumes nothing.
 use Prim.Native.Nat.{ℕ, _*_, _≤_, _<_}
 use mathlib.Core.Path.{_≡_}
 use mathlib.Core.Logic.{_↔_, _≢_}
@@ -20,11 +27,12 @@ pub use Rattle.script.specs.Answers.{Answer, value, refusal}
 use Rattle.script.specs.Answers.{contents}
 use Rattle.script.specs.Outcomes.{Outcome}
 use Rattle.script.specs.declared.command.Match.{Match as ScriptMatch}
+use Rattle.rows.specs.Rows.{rowWidth}
 use Rattle.refinement.specs.Order.{Rising}
 use Rattle.refinement.specs.Match.{Match}
 use Rattle.refinement.specs.Refinement.{ResolvedRefinement, Before, Least}
 use Rattle.refinement.specs.Paper.{Definition1, Definition2}
-use Rattle.refining.specs.Rows.{numbersOf}
+use Rattle.refining.specs.Rows.{pieceNumbers}
 use Rattle.refining.specs.Refining.{numbered, capacityOf, workNeeded, zeroed}
 use Rattle.refining.specs.declared.answers.Refined.{Refined}
 
@@ -33,10 +41,7 @@ abbrev pub answerOf : Refined → Answer ℕ
 answerOf (Refined.Rows n) = value n
 answerOf (Refined.Refused r) = refusal (numberOf r) (placeOf r)
 
--- "A script is admitted if its bytes meet no condition of refusals 1 to 10"; "Matches are numbered from 1 in script
--- order."
-pub data Admitted (script : List ℕ) : List Match → Type 0 where
-  reads : {p q : ℕ} {ms : List ScriptMatch} → Outcome script (value (contents p q ms)) → Admitted script (numbered 1 ms)
+-- ==== of matches
 
 -- "A lent table has room for as many pieces as its capacity."
 pub record Fits (ms : List Match) (capacity : ℕ) : Type 0 where
@@ -48,33 +53,21 @@ pub record Fits (ms : List Match) (capacity : ℕ) : Type 0 where
 abbrev pub EveryExceeds : List Match → ℕ → Type 0
 EveryExceeds ms capacity = (rs : List Match) → ResolvedRefinement ms [] rs → capacity < length rs
 
--- ---- what may come of a call: "Refining: the script, 11, 12."
-
-pub data RefiningOutcome (script table work : List ℕ) : Answer ℕ → Type 0 where
-  -- 1 to 10: the script's own refusal
-  script-refused :
-      {number place : ℕ} → Outcome script (refusal number place)
-      → RefiningOutcome script table work (refusal number place)
-  -- 11: under four numbers per row of capacity
-  work-too-short :
-      {ms : List Match} → Admitted script ms → length work < workNeeded table
-      → RefiningOutcome script table work (refusal 11 0)
-  -- 12: every resolved refinement exceeds the capacity
-  too-many-pieces :
-      {ms : List Match} → Admitted script ms → workNeeded table ≤ length work → EveryExceeds ms (capacityOf table)
-      → RefiningOutcome script table work (refusal 12 0)
-  -- no refusal: the count of rows of a least resolved refinement, for which there is room
-  least-rows :
-      {ms rs : List Match} → Admitted script ms → workNeeded table ≤ length work → ResolvedRefinement ms [] rs
-      → Least ms [] rs → length rs ≤ capacityOf table → RefiningOutcome script table work (value (length rs))
-
 -- ---- demand 1: each refusal under its own condition alone, and what it leaves
 
-pub record Demand1 (script table work : List ℕ) (answer : Answer ℕ) (table′ work′ : List ℕ) : Type 0 where
-  -- the answer is an outcome whose condition is met ..
-  pub stated : RefiningOutcome script table work answer
-  -- .. and any outcome whose condition is met is the answer
-  pub alone : (a : Answer ℕ) → RefiningOutcome script table work a → a ≡ answer
+-- what may come of refining matches: 11, 12, in this order
+pub data MatchesOutcome (ms : List Match) (table work : List ℕ) : Answer ℕ → Type 0 where
+  -- 11: under four numbers per row of capacity
+  work-too-short : length work < workNeeded table → MatchesOutcome ms table work (refusal 11 0)
+  -- 12: every resolved refinement exceeds the capacity
+  too-many-pieces :
+      workNeeded table ≤ length work → EveryExceeds ms (capacityOf table) → MatchesOutcome ms table work (refusal 12 0)
+  -- no refusal: the count of rows of a least resolved refinement, for which there is room
+  least-rows :
+      {rs : List Match} → workNeeded table ≤ length work → ResolvedRefinement ms [] rs → Least ms [] rs
+      → length rs ≤ capacityOf table → MatchesOutcome ms table work (value (length rs))
+
+pub record Leaves (table work : List ℕ) (answer : Answer ℕ) (table′ work′ : List ℕ) : Type 0 where
   -- "Apart from the work buffer under 12 .. a refused call leaves each lent number unaltered."
   pub refused-table : (number place : ℕ) → answer ≡ refusal number place → table′ ≡ table
   pub refused-work : (number place : ℕ) → answer ≡ refusal number place → number ≢ 12 → work′ ≡ work
@@ -82,17 +75,25 @@ pub record Demand1 (script table work : List ℕ) (answer : Answer ℕ) (table�
   pub crowded-work : (place : ℕ) → answer ≡ refusal 12 place → work′ ≡ zeroed work
   pub success-work : (n : ℕ) → answer ≡ value n → work′ ≡ zeroed work
   -- "Numbers past the last row keep their old values."
-  pub past-rows : (n : ℕ) → answer ≡ value n → drop (5 * n) table′ ≡ drop (5 * n) table
+  pub past-rows : (n : ℕ) → answer ≡ value n → drop (rowWidth * n) table′ ≡ drop (rowWidth * n) table
   -- a lent buffer stays as long as it was
   pub table-length : length table′ ≡ length table
   pub work-length : length work′ ≡ length work
 
--- ---- demand 2: a resolved refinement for each admitted script that has room
+pub record MatchesDemand1 (ms : List Match) (table work : List ℕ) (answer : Answer ℕ)
+    (table′ work′ : List ℕ) : Type 0 where
+  -- the answer is an outcome whose condition is met ..
+  pub stated : MatchesOutcome ms table work answer
+  -- .. and any outcome whose condition is met is the answer
+  pub alone : (a : Answer ℕ) → MatchesOutcome ms table work a → a ≡ answer
+  pub leaves : Leaves table work answer table′ work′
 
--- "the table produced is that many rows from the lent table's start"; "A row is five 32-bit numbers"
+-- ---- demand 2: a resolved refinement of all matches that have room
+
+-- "the table produced is that many rows from the lent table's start"
 pub record Stand (rs : List Match) (n : ℕ) (table : List ℕ) : Type 0 where
   pub count : n ≡ length rs
-  pub numbers : take (5 * n) table ≡ numbersOf rs
+  pub numbers : take (rowWidth * n) table ≡ pieceNumbers rs
 
 -- the first n rows of the table are a resolved refinement, in the table's order
 pub record Pieces (ms : List Match) (n : ℕ) (table : List ℕ) : Type 0 where
@@ -105,16 +106,13 @@ pub record Pieces (ms : List Match) (n : ℕ) (table : List ℕ) : Type 0 where
   pub refines-paper : Definition1 ms rows
   pub resolved-paper : Definition2 rows
 
-pub record Demand2 (script table work : List ℕ) (answer : Answer ℕ) (table′ : List ℕ) : Type 0 where
-  -- an admitted script with enough work, of which some resolved refinement fits, gets a value
-  pub gets :
-      (ms : List Match) → Admitted script ms → workNeeded table ≤ length work → Fits ms (capacityOf table)
-      → (n : ℕ) × (answer ≡ value n)
-  -- no other script does, and none with less work
-  pub no-other-script : (n : ℕ) → answer ≡ value n → (ms : List Match) × Admitted script ms
+pub record MatchesDemand2 (ms : List Match) (table work : List ℕ) (answer : Answer ℕ) (table′ : List ℕ) : Type 0 where
+  -- matches with enough work, of which some resolved refinement fits, get a value
+  pub gets : workNeeded table ≤ length work → Fits ms (capacityOf table) → (n : ℕ) × (answer ≡ value n)
+  -- none do with less work
   pub no-less-work : (n : ℕ) → answer ≡ value n → workNeeded table ≤ length work
-  -- after a value, the table's first rows are a resolved refinement of the script's matches
-  pub pieces : (n : ℕ) → answer ≡ value n → (ms : List Match) → Admitted script ms → Pieces ms n table′
+  -- after a value, the table's first rows are a resolved refinement of the matches
+  pub pieces : (n : ℕ) → answer ≡ value n → Pieces ms n table′
 
 -- ---- demand 3: the least one, and 12 only where there is no room for any
 
@@ -126,16 +124,47 @@ pub record LeastPieces (ms : List Match) (n : ℕ) (table : List ℕ) : Type 0 w
   pub resolved : ResolvedRefinement ms [] rows
   pub least : Least ms [] rows
 
-pub record Demand3 (script table work : List ℕ) (answer : Answer ℕ) (table′ : List ℕ) : Type 0 where
-  -- there is a resolved refinement of every admitted script
-  pub some : (ms : List Match) → Admitted script ms → (rs : List Match) × ResolvedRefinement ms [] rs
-  -- past the script and 11: the answer is 12 if and only if every resolved refinement has more rows than the capacity
-  pub refuses :
-      (ms : List Match) → Admitted script ms → workNeeded table ≤ length work
-      → (answer ≡ refusal 12 0) ↔ EveryExceeds ms (capacityOf table)
+pub record MatchesDemand3 (ms : List Match) (table work : List ℕ) (answer : Answer ℕ) (table′ : List ℕ) : Type 0 where
+  -- there is a resolved refinement
+  pub some : (rs : List Match) × ResolvedRefinement ms [] rs
+  -- past 11: the answer is 12 if and only if every resolved refinement has more rows than the capacity
+  pub refuses : workNeeded table ≤ length work → (answer ≡ refusal 12 0) ↔ EveryExceeds ms (capacityOf table)
   -- if it is not 12, it is a value: of the two things one is done
-  pub or-value :
-      (ms : List Match) → Admitted script ms → workNeeded table ≤ length work → answer ≢ refusal 12 0
-      → (count : ℕ) × (answer ≡ value count)
+  pub or-value : workNeeded table ≤ length work → answer ≢ refusal 12 0 → (count : ℕ) × (answer ≡ value count)
   -- and then the table holds the least one
-  pub otherwise : (n : ℕ) → answer ≡ value n → (ms : List Match) → Admitted script ms → LeastPieces ms n table′
+  pub otherwise : (n : ℕ) → answer ≡ value n → LeastPieces ms n table′
+
+-- ==== of a script
+
+-- "A script is admitted if its bytes meet no condition of refusals 1 to 10"; "Matches are numbered from 1 in script
+-- order."
+pub data Admitted (script : List ℕ) : List Match → Type 0 where
+  reads : {p q : ℕ} {ms : List ScriptMatch} → Outcome script (value (contents p q ms)) → Admitted script (numbered 1 ms)
+
+-- what may come of a call: "Refining: the script, 11, 12."
+pub data RefiningOutcome (script table work : List ℕ) : Answer ℕ → Type 0 where
+  -- 1 to 10: the script's own refusal
+  script-refused :
+      {number place : ℕ} → Outcome script (refusal number place)
+      → RefiningOutcome script table work (refusal number place)
+  -- 11, 12 and a value: what may come of the matches of an admitted script
+  of-matches :
+      {ms : List Match} {answer : Answer ℕ} → Admitted script ms → MatchesOutcome ms table work answer
+      → RefiningOutcome script table work answer
+
+pub record Demand1 (script table work : List ℕ) (answer : Answer ℕ) (table′ work′ : List ℕ) : Type 0 where
+  -- the answer is an outcome whose condition is met ..
+  pub stated : RefiningOutcome script table work answer
+  -- .. and any outcome whose condition is met is the answer
+  pub alone : (a : Answer ℕ) → RefiningOutcome script table work a → a ≡ answer
+  pub leaves : Leaves table work answer table′ work′
+
+pub record Demand2 (script table work : List ℕ) (answer : Answer ℕ) (table′ : List ℕ) : Type 0 where
+  -- of the matches of an admitted script
+  pub of-matches : (ms : List Match) → Admitted script ms → MatchesDemand2 ms table work answer table′
+  -- no other script gets a value
+  pub no-other-script : (n : ℕ) → answer ≡ value n → (ms : List Match) × Admitted script ms
+
+pub record Demand3 (script table work : List ℕ) (answer : Answer ℕ) (table′ : List ℕ) : Type 0 where
+  -- of the matches of an admitted script
+  pub of-matches : (ms : List Match) → Admitted script ms → MatchesDemand3 ms table work answer table′

@@ -15,9 +15,10 @@ use lib.Dec.{ltb}
 use Rattle.script.specs.Reading.{Reading, admitted, refused, readScript}
 use Rattle.script.specs.declared.command.Match.{Match as ScriptMatch}
 use Rattle.script.specs.declared.refusal.Refusal.the-variants.{WorkTooShort, TooManyPieces}
+use Rattle.rows.specs.Rows.{rowWidth}
 use Rattle.refinement.specs.Match.{Match, matchAB}
 use Rattle.refinement.specs.Least.{leastTable}
-use Rattle.refining.specs.Rows.{numbersOf}
+use Rattle.refining.specs.Rows.{pieceNumbers}
 use Rattle.refining.specs.declared.answers.Refined.{Refined}
 use Rattle.refining.specs.declared.answers.Refined.the-variants.{Rows, Refused}
 
@@ -31,7 +32,7 @@ numbered n (m ∷ ms) = withNumber n m ∷ numbered (suc n) ms
 
 -- "The table's capacity is its length divided by five, rounded down."
 abbrev pub capacityOf : List ℕ → ℕ
-capacityOf table = length table / 5
+capacityOf table = length table / rowWidth
 
 -- "The work buffer needs four numbers for each row of the capacity"
 abbrev pub workNeeded : List ℕ → ℕ
@@ -51,7 +52,7 @@ pub record Refining : Type 0 where
 unfoldable pub refiningOfMatches : List Match → List ℕ → List ℕ → Refining
 refiningOfMatches ms table work =
     let least = leastTable ms [] in
-    let rows = numbersOf least in
+    let rows = pieceNumbers least in
     let over = rows ++ drop (length rows) table in
     let short : Refining = record { reply = Refused WorkTooShort; table = table; work = work } in
     let crowded : Refining = record { reply = Refused TooManyPieces; table = table; work = zeroed work } in

@@ -17,7 +17,7 @@ use Rattle.script.specs.declared.Verdict.{Verdict}
 use Rattle.script.proofs.Admitted.{holds-admitted, reading-refused}
 use Rattle.rows.specs.Rows.{rowWidth}
 use Rattle.refining.specs.Refining.{refiningOf, capacityOf}
-use Rattle.refining.specs.Demands.{value, answerOf, RefiningOutcome}
+use Rattle.refining.specs.Demands.{value, answerOf, MatchesOutcome, RefiningOutcome}
 use Rattle.refining.specs.declared.answers.Refined.{Refined}
 use Rattle.reporting.specs.Lines.{refusalText}
 use Rattle.reporting.specs.Reporting.{lentRows, lentTable, lentWork, reportOf, reportOfReply, reportOfRefining}
@@ -25,7 +25,7 @@ use Rattle.reporting.specs.Reporting.{Reporting, reportingOfText, reportingOf}
 use Rattle.reporting.specs.declared.Reported.{Reported}
 
 outcome-few : {script table work : List ℕ} {n : ℕ} → RefiningOutcome script table work (value n) → n ≤ capacityOf table
-outcome-few (RefiningOutcome.least-rows a enough R L room) = room
+outcome-few (RefiningOutcome.of-matches a (MatchesOutcome.least-rows enough R L room)) = room
 
 pub rows-few :
     {script table work : List ℕ} {reply : Refined} {n : ℕ} → table ≡ lentTable

@@ -17,12 +17,13 @@ use Rattle.script.specs.declared.refusal.Refusal.the-variants.{TooManyPieces}
 use Rattle.refinement.specs.Match.{Match}
 use Rattle.refinement.specs.Least.{leastTable}
 use Rattle.rows.specs.Rows.{rowWidth}
+use Rattle.refining.specs.Rows.{rowOfPiece}
 use Rattle.refining.specs.Refining.{capacityOf, numbered, refiningOfMatches}
 use Rattle.reporting.specs.Reporting.{lentRows, lentTable, lentWork, reportOfRefining, reportOfReading, reportOf}
 use Rattle.reporting.specs.Reporting.{reportingOf, longestText}
 use Rattle.reporting.specs.declared.Reported.{Reported}
 use Rattle.reporting.proofs.Bounds.{refusal-text-short, table-text-short}
-use Rattle.reporting.proofs.LeastRows.{rowOfPiece, report-crowded, report-rows}
+use Rattle.reporting.proofs.LeastRows.{report-crowded, report-rows}
 
 matches-fit : (p q count : ℕ) (ms : List Match) (table work : List ℕ) → length table ≡ rowWidth * lentRows
     → length work ≡ 4 * lentRows → length (reportOfRefining p q count (refiningOfMatches ms table work)) ≤ longestText

@@ -1,59 +1,38 @@
 -- What refining leaves in the table, as rows: those of the least table's pieces.
---     rowOfPiece              the row of a piece
 --     LeastRows, least-rows   after a success, the rows counted are those of the least table
 --     report-crowded          the text of matches whose least table has no room ..
 --     report-rows             .. and of those whose least table has
 -- Assumes nothing.
 use Prim.Native.Nat.{ℕ, _*_, _≤_, _<_}
-use mathlib.Core.Path.{_≡_, refl, sym, ap, _∙_}
-use mathlib.Core.List.{List, [], _∷_, map, append-nil}
+use mathlib.Core.Path.{_≡_, refl, ap, _∙_}
+use mathlib.Core.List.{List, [], map}
 use native.Mathlib.Omega.{arith}
-use borrow.Author.Tests.{lt-ltb, le-ltb}
 use lib.ListN.{length, drop, take}
 use lib.Seq.{take-at}
 use Rattle.script.specs.declared.refusal.Refusal.{Refusal}
 use Rattle.script.specs.declared.refusal.Refusal.the-variants.{TooManyPieces}
 use Rattle.refinement.specs.Match.{Match}
 use Rattle.refinement.specs.Least.{leastTable}
-use Rattle.rows.specs.Rows.{rowWidth, rowsOf, numbersOf as rowsNumbers}
-use Rattle.rows.specs.declared.Row.{Row}
-use Rattle.table.proofs.Laws.{rows-back}
-use Rattle.refining.specs.Rows.{direction, numbersOf}
+use Rattle.rows.specs.Rows.{rowWidth, rowsOf}
+use Rattle.rows.proofs.Numbers.{rows-whole}
+use Rattle.refining.specs.Rows.{rowOfPiece, pieceNumbers}
 use Rattle.refining.specs.Refining.{capacityOf, workNeeded, refiningOfMatches, refiningOf}
 use Rattle.refining.specs.Demands.{Admitted}
 use Rattle.refining.specs.declared.answers.Refined.{Refined}
 use Rattle.refining.specs.declared.answers.Refined.the-variants.{Rows, Refused}
 use Rattle.refining.proofs.Standing.{length-numbers}
 use Rattle.refining.proofs.Numbered.{admitted-unique}
-use Rattle.refining.proofs.RefiningCases.{written, Case, refusing, short, crowded, writing, case}
+use Rattle.refining.proofs.RefiningCases.{written, matches-crowded, matches-written, short, crowded, writing}
+use Rattle.refining.proofs.RefiningCases.{Case, refusing, matched, case}
 use Rattle.reporting.specs.Lines.{refusalText, tableText}
 use Rattle.reporting.specs.Reporting.{reportOfRefining}
-
--- "match number, left-A, left-B, length, direction"
-abbrev pub rowOfPiece : Match → Row
-rowOfPiece r =
-    record {
-      number = r .number;
-      «left_a» = r .leftA;
-      «left_b» = r .leftB;
-      length = r .length;
-      direction = direction (r .reversed);
-    }
-
--- a piece and its row have the same numbers
-same-numbers : (rs : List Match) → numbersOf rs ≡ rowsNumbers (map rowOfPiece rs)
-unfolding numbersOf rowsNumbers
-same-numbers [] = refl
-same-numbers (r ∷ rs) = rw (same-numbers rs)
 
 rows-written : (rs : List Match) (table : List ℕ)
     → rowsOf (take (rowWidth * length rs) (written rs table)) ≡ map rowOfPiece rs
 rows-written rs table =
-    rw (
-      take-at (numbersOf rs) (drop (length (numbersOf rs)) table) (rowWidth * length rs) (length-numbers rs),
-      same-numbers rs ∙ sym (append-nil (rowsNumbers (map rowOfPiece rs))),
-    )
-    (rows-back (map rowOfPiece rs) [] (omega arith))
+    let rows = pieceNumbers rs in
+    ap rowsOf (take-at rows (drop (length rows) table) (rowWidth * length rs) (length-numbers rs))
+    ∙ rows-whole (map rowOfPiece rs)
 
 -- the first n rows of the table are the least table's, and all of them
 pub record LeastRows (ms : List Match) (n : ℕ) (table : List ℕ) : Type 0 where
@@ -70,9 +49,9 @@ least-rows script table work {n} {ms} a e = go (case script table work) e
     go : {reply : Refined} {table′ work′ : List ℕ} → Case script table work reply table′ work′ → reply ≡ Rows n
         → LeastRows ms n table′
     go (refusing _) e = absurd (refused-rows e)
-    go (short _ _) e = absurd (refused-rows e)
-    go (crowded _ _ _) e = absurd (refused-rows e)
-    go (writing {ms = ms′} a′ _ _) e =
+    go (matched _ (short _)) e = absurd (refused-rows e)
+    go (matched _ (crowded _ _)) e = absurd (refused-rows e)
+    go (matched {ms = ms′} a′ (writing _ _)) e =
         let count : n ≡ length (leastTable ms′ []) = cc in
         rw (admitted-unique a a′, count)
         (record { count = refl; rows = rows-written (leastTable ms′ []) table })
@@ -81,20 +60,11 @@ least-rows script table work {n} {ms} a e = go (case script table work) e
 module _ (p q count : ℕ) (ms : List Match) (table work : List ℕ) (enough : workNeeded table ≤ length work) where
   pub report-crowded : capacityOf table < length (leastTable ms [])
       → reportOfRefining p q count (refiningOfMatches ms table work) ≡ refusalText TooManyPieces
-  unfolding refiningOfMatches
-  report-crowded many =
-      rw (
-        le-ltb (length work) (workNeeded table) enough,
-        lt-ltb (capacityOf table) (length (leastTable ms [])) many,
-      )
+  report-crowded many = ap (reportOfRefining p q count) (matches-crowded ms table work enough many)
 
   pub report-rows : length (leastTable ms []) ≤ capacityOf table
       → reportOfRefining p q count (refiningOfMatches ms table work)
       ≡ tableText p q count (map rowOfPiece (leastTable ms []))
-  unfolding refiningOfMatches
   report-rows room =
-      rw (
-        le-ltb (length work) (workNeeded table) enough,
-        le-ltb (capacityOf table) (length (leastTable ms [])) room,
-      )
-      (ap (tableText p q count) (rows-written (leastTable ms []) table))
+      ap (reportOfRefining p q count) (matches-written ms table work enough room)
+      ∙ ap (tableText p q count) (rows-written (leastTable ms []) table)

@@ -30,10 +30,11 @@ use Rattle.rows.specs.Rows.{rowWidth}
 use Rattle.table.specs.Summing.{total, count, lettersOf, classCount, summaryOf}
 use Rattle.rows.specs.declared.Row.{Row}
 use Rattle.table.proofs.Laws.{sumOf, between, classes-sum}
+use Rattle.refining.specs.Rows.{rowOfPiece}
 use Rattle.refining.specs.Refining.{numbered, refiningOf}
 use Rattle.refining.specs.declared.answers.Refined.the-variants.{Rows}
 use Rattle.refining.proofs.Numbered.{admitted-of, admitted-matches}
-use Rattle.reporting.proofs.LeastRows.{rowOfPiece, LeastRows, least-rows}
+use Rattle.reporting.proofs.LeastRows.{LeastRows, least-rows}
 
 -- ---- the matches
 

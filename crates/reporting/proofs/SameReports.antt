@@ -29,15 +29,15 @@ use Rattle.refinement.specs.Least.{leastTable}
 use Rattle.refinement.proofs.Theorem.{table-resolved}
 use Rattle.rows.specs.Rows.{rowWidth, rowsOf}
 use Rattle.rows.specs.declared.Row.{Row}
-use Rattle.refining.specs.Rows.{direction}
+use Rattle.refining.specs.Rows.{direction, rowOfPiece}
 use Rattle.refining.specs.Refining.{numbered, Refining, refiningOfMatches, refiningOfReading, refiningOf}
 use Rattle.refining.specs.declared.answers.Refined.{Refined}
 use Rattle.refining.specs.declared.answers.Refined.the-variants.{Rows, Refused}
 use Rattle.refining.proofs.Numbered.{admitted-of, admitted-matches}
-use Rattle.refining.proofs.RefiningCases.{refining-refused, Case, refusing, short, crowded, writing, case}
+use Rattle.refining.proofs.RefiningCases.{refining-refused, short, crowded, writing, Case, refusing, matched, case}
 use Rattle.reporting.specs.Lines.{refusalText}
 use Rattle.reporting.specs.Reporting.{lentTable, lentWork, reportOfReply, reportOfReading, reportOf}
-use Rattle.reporting.proofs.LeastRows.{rowOfPiece, least-rows}
+use Rattle.reporting.proofs.LeastRows.{least-rows}
 use Rattle.reporting.proofs.ReadBack.{Printable, Said, textOf, Sayable, text-read-back}
 
 -- the rows that a success counts
@@ -83,9 +83,9 @@ refusal-sayable script table work {r} e = go (case script table work) e
     go : {reply : Refined} {table′ work′ : List ℕ} → Case script table work reply table′ work′ → reply ≡ Refused r
         → Sayable (Said.refusal (numberOf r) (placeOf r))
     go (refusing {r = r′} o) e = let same : r ≡ r′ = cc in rw same (outcome-sayable o)
-    go (short _ _) e = let same : r ≡ WorkTooShort = cc in rw same (omega arith)
-    go (crowded _ _ _) e = let same : r ≡ TooManyPieces = cc in rw same (omega arith)
-    go (writing _ _ _) e = let z : _≡_ {A = ℕ} 0 1 = cc in absurd (omega arith)
+    go (matched _ (short _)) e = let same : r ≡ WorkTooShort = cc in rw same (omega arith)
+    go (matched _ (crowded _ _)) e = let same : r ≡ TooManyPieces = cc in rw same (omega arith)
+    go (matched _ (writing _ _)) e = let z : _≡_ {A = ℕ} 0 1 = cc in absurd (omega arith)
 
 -- ---- the numbers of rows
 

@@ -1,1 +1,2 @@
 pub mod TableRows
+pub mod Numbers

@@ -3,10 +3,11 @@
 --     rowOf t        the row that t starts with
 --     rowsOf t       the rows of the table t
 --     rowAt rs k     row k of rs, counted from 0
+--     rowNumbers r   the numbers of the row r
 --     numbersOf rs   the numbers of the rows rs, one row behind the other
 -- 01, "The table and its buffers". Assumes nothing.
 use Prim.Native.Nat.{ℕ, zero, suc, _/_}
-use mathlib.Core.List.{List, [], _∷_}
+use mathlib.Core.List.{List, [], _∷_, _++_}
 use lib.ListN.{length, getD, drop}
 use Rattle.rows.specs.declared.Row.{Row}
 
@@ -38,7 +39,11 @@ rowsOf t = firstRows (length t / rowWidth) t
 abbrev pub rowAt : List Row → ℕ → Row
 rowAt rs k = getD rs k (rowOf [])
 
+-- the numbers of a row, in their order: what `rowOf` reads
+abbrev pub rowNumbers : Row → List ℕ
+rowNumbers r = r .number ∷ r .«left_a» ∷ r .«left_b» ∷ r .length ∷ r .direction ∷ []
+
 -- the numbers of the rows rs, one row behind the other: what a table of these rows holds
 unfoldable pub numbersOf : List Row → List ℕ
 numbersOf [] = []
-numbersOf (r ∷ rs) = r .number ∷ r .«left_a» ∷ r .«left_b» ∷ r .length ∷ r .direction ∷ numbersOf rs
+numbersOf (r ∷ rs) = rowNumbers r ++ numbersOf rs

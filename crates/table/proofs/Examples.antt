@@ -14,32 +14,32 @@ use Rattle.table.specs.Finding.{leading, startOf, partOf}
 use Rattle.table.specs.Distinct.{occurs, firstsAfter}
 use Rattle.table.specs.Summing.{total, classesFrom, summaryOf}
 
-rowNumbers : ℕ → ℕ → ℕ → ℕ → ℕ → List ℕ
-rowNumbers number left-a left-b letters direction = number ∷ left-a ∷ left-b ∷ letters ∷ direction ∷ []
+five : ℕ → ℕ → ℕ → ℕ → ℕ → List ℕ
+five number left-a left-b letters direction = number ∷ left-a ∷ left-b ∷ letters ∷ direction ∷ []
 
 run-summary : summaryOf (
-    rowNumbers 1 0 0 2 0 ++ rowNumbers 1 2 2 1 0 ++ rowNumbers 1 3 3 1 0 ++ rowNumbers 1 4 4 2 0
-    ++ rowNumbers 2 2 7 1 1 ++ rowNumbers 2 3 6 1 1 ++ rowNumbers 2 4 4 2 1 ++ rowNumbers 2 6 3 1 1)
+    five 1 0 0 2 0 ++ five 1 2 2 1 0 ++ five 1 3 3 1 0 ++ five 1 4 4 2 0
+    ++ five 2 2 7 1 1 ++ five 2 3 6 1 1 ++ five 2 4 4 2 1 ++ five 2 6 3 1 1)
     ≡ record { pieces = 8; distinct = 7; letters = 11; classes = 5 ∷ 3 ∷ replicate 28 0 }
-unfolding rowNumbers rowsOf firstRows occurs firstsAfter total classesFrom
+unfolding five rowsOf firstRows occurs firstsAfter total classesFrom
 run-summary = refl
 
-lengths-apart : summaryOf (rowNumbers 1 4 4 2 0 ++ rowNumbers 2 4 4 3 1) .distinct ≡ 2
-unfolding rowNumbers rowsOf firstRows occurs firstsAfter
+lengths-apart : summaryOf (five 1 4 4 2 0 ++ five 2 4 4 3 1) .distinct ≡ 2
+unfolding five rowsOf firstRows occurs firstsAfter
 lengths-apart = refl
 
 class-ends : summaryOf (
-    rowNumbers 1 0 0 0 0 ++ rowNumbers 1 0 0 1 0 ++ rowNumbers 1 0 0 0x3FFF_FFFF 0 ++ rowNumbers 1 0 0 0x4000_0000 0)
+    five 1 0 0 0 0 ++ five 1 0 0 1 0 ++ five 1 0 0 0x3FFF_FFFF 0 ++ five 1 0 0 0x4000_0000 0)
     .classes ≡ 1 ∷ replicate 28 0 ++ 1 ∷ []
-unfolding rowNumbers rowsOf firstRows total classesFrom
+unfolding five rowsOf firstRows total classesFrom
 class-ends = refl
 
 first-run : partOf 1 (
-    rowNumbers 2 0 0 1 0 ++ rowNumbers 1 1 1 1 0 ++ rowNumbers 1 2 2 1 0 ++ rowNumbers 2 3 3 1 0 ++ rowNumbers 1 4 4 1 0
-    ++ 1 ∷ 5 ∷ 5 ∷ 1 ∷ []) ≡ rowNumbers 1 1 1 1 0 ++ rowNumbers 1 2 2 1 0
-unfolding rowNumbers rowsOf firstRows leading
+    five 2 0 0 1 0 ++ five 1 1 1 1 0 ++ five 1 2 2 1 0 ++ five 2 3 3 1 0 ++ five 1 4 4 1 0
+    ++ 1 ∷ 5 ∷ 5 ∷ 1 ∷ []) ≡ five 1 1 1 1 0 ++ five 1 2 2 1 0
+unfolding five rowsOf firstRows leading
 first-run = refl
 
-no-run : startOf 7 (rowNumbers 1 0 0 1 0 ++ 7 ∷ 1 ∷ 1 ∷ 1 ∷ []) ≡ 0
-unfolding rowNumbers rowsOf firstRows leading
+no-run : startOf 7 (five 1 0 0 1 0 ++ 7 ∷ 1 ∷ 1 ∷ 1 ∷ []) ≡ 0
+unfolding five rowsOf firstRows leading
 no-run = refl

@@ -1,5 +1,4 @@
--- What holds of every summary, and of every table of given rows.
---     rows-back              a table that holds the numbers of rs, and behind them too few for a row, has the rows rs
+-- What holds of every summary.
 --     distinct-inside        no more distinct pieces than pieces
 --     classes-sum            the class counts add up to the pieces of 1 to 2^30 - 1 letters
 --     classes-inside         and so to no more than the pieces
@@ -10,7 +9,7 @@
 use Prim.Native.Nat.{ℕ, zero, suc, _+_, _*_, _/_, _^_, _≤_, _<_}
 use mathlib.Core.Bool.{Bool, true, false, cond, _&&_, _||_}
 use mathlib.Core.Path.{_≡_, refl, sym, ap, _∙_}
-use mathlib.Core.List.{List, [], _∷_, _++_, map, List·Permᴰ}
+use mathlib.Core.List.{List, [], _∷_, map, List·Permᴰ}
 use native.Mathlib.Omega.{arith}
 use native.Mathlib.Decide.{decLt}
 use native.Mathlib.Nat.{add-zero, mod-eq-of-lt}
@@ -20,7 +19,7 @@ use lib.ListN.{length, getD, drop}
 use lib.Dec.{leb, ltb}
 use lib.Pow.{pow-mono}
 use lib.Seq.{getD-drop}
-use Rattle.rows.specs.Rows.{rowWidth, firstRows, rowsOf, numbersOf}
+use Rattle.rows.specs.Rows.{rowWidth, firstRows, rowsOf}
 use Rattle.table.specs.Distinct.{same, occurs, firstsAfter, firstOfEach}
 use Rattle.table.specs.Summing.{total, count, lettersOf, classCount, inClass, classesFrom}
 use Rattle.table.specs.Summing.{summaryOfRows, summaryOf}
@@ -28,24 +27,6 @@ use Rattle.rows.specs.declared.Row.{Row}
 use Rattle.table.proofs.Counting.{count-inside, count-agrees, count-every, count-no-one, count-joined}
 use Rattle.rows.proofs.TableRows.{rows-length}
 use Rattle.table.proofs.Pieces.{bool-same, same-sym, occurs-same, firsts-inside}
-
--- ---- rows and their numbers
-
-numbers-length : (rs : List Row) (rest : List ℕ) → length (numbersOf rs ++ rest) ≡ rowWidth * length rs + length rest
-unfolding numbersOf
-numbers-length [] rest = omega arith
-numbers-length (r ∷ rs) rest = omega (arith, numbers-length rs rest)
-
-first-rows-back : (rs : List Row) (rest : List ℕ) → firstRows (length rs) (numbersOf rs ++ rest) ≡ rs
-unfolding numbersOf firstRows
-first-rows-back [] rest = refl
-first-rows-back (r ∷ rs) rest = ap (λ (qs : List Row). r ∷ qs) (first-rows-back rs rest)
-
-pub rows-back : (rs : List Row) (rest : List ℕ) → length rest < rowWidth → rowsOf (numbersOf rs ++ rest) ≡ rs
-unfolding rowsOf
-rows-back rs rest short =
-    let counted : length (numbersOf rs ++ rest) / rowWidth ≡ length rs = omega (arith, numbers-length rs rest) in
-    rw counted (first-rows-back rs rest)
 
 -- ---- no more than the pieces
 

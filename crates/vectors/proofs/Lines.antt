@@ -7,11 +7,10 @@ use native.Mathlib.Decide.{decLe, decLt, ℕ-discrete}
 use Rattle.script.specs.Reading.{readFrom, readScript}
 use Rattle.refinement.specs.Order.{insertBy, sortBy}
 use Rattle.refinement.specs.Least as Least
-use Rattle.rows.specs.Rows.{firstRows, rowsOf}
+use Rattle.rows.specs.Rows.{firstRows, rowsOf, numbersOf}
 use Rattle.table.specs.Distinct.{occurs, firstsAfter}
 use Rattle.table.specs.Summing.{total, classesFrom}
 use Rattle.table.specs.Finding.{leading}
-use Rattle.refining.specs.Rows.{numbersOf}
 use Rattle.refining.specs.Refining.{refiningOfMatches, refiningOf}
 use Rattle.refining.specs.Carrying.{carryingOf}
 use Rattle.text.specs.Decimal.{placesWithin}

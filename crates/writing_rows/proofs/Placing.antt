@@ -1,4 +1,4 @@
--- Rows in the table: five numbers each, written one after the other.
+-- Rows in the table, written one after the other.
 --     spans-low           the match spans the end of a piece that is carried to its left end on B
 --     five-stores         the five stores of a piece write its row
 --     Remaining, remaining-..   the loop over the cuts of one match: what remains to be written; a turn keeps it
@@ -7,17 +7,19 @@
 use Prim.Native.Nat.{ℕ, zero, suc, _+_, _-_, _*_, _^_, _≤_, _<_, min}
 use mathlib.Core.Path.{_≡_, refl, sym, ap, _∙_}
 use mathlib.Core.Bool.{Bool, true, false, cond}
-use mathlib.Core.List.{List, [], _∷_, _++_}
+use mathlib.Core.List.{List, [], _∷_, _++_, map, map-append}
 use native.Mathlib.Omega.{arith}
 use lib.ListN.{length, getD, set, length-append}
 use lib.Seq.{slice, slice-cons, slice-empty, sets, length-sets}
 use borrow.Author.Tests.{le-leb}
+use Rattle.rows.specs.Rows.{rowWidth, rowNumbers, numbersOf}
+use Rattle.rows.proofs.Numbers.{numbers-append}
 use Rattle.refinement.specs.Match.{Match, matchAB, spanned, carryOver}
 use Rattle.refinement.specs.Least.{pieceOf, piecesBetween}
 use Rattle.refinement.proofs.Geometry.{spanned-from}
 use Rattle.runs.specs.Runs.{Bound}
 use Rattle.refining.specs.Columns.{Fit, matchAt}
-use Rattle.refining.specs.Rows.{within, rowsOver, direction, rowNumbers, numbersOf}
+use Rattle.refining.specs.Rows.{direction, rowOfPiece, pieceNumbers, within, piecesCut}
 use Rattle.refining.proofs.Standing.{length-numbers}
 use Rattle.writing_rows.specs.Writing.{Stretch, Cutting, Placed, Writable, Written}
 use Rattle.writing_rows.proofs.Within.{cutting, within-bounds, stretch}
@@ -29,19 +31,18 @@ sets-append (v ∷ vs) ws xs at =
     let e : suc at + length vs ≡ at + suc (length vs) = omega arith in
     sets-append vs ws (set xs at v) (suc at) ∙ ap (λ n. sets (sets (set xs at v) (suc at) vs) n ws) e
 
-numbers-append : (rs qs : List Match) → numbersOf (rs ++ qs) ≡ numbersOf rs ++ numbersOf qs
-unfolding numbersOf
-numbers-append [] qs = refl
-numbers-append (r ∷ rs) qs = ap (λ ns. rowNumbers r ++ ns) (numbers-append rs qs)
+pieces-append : (rs qs : List Match) → pieceNumbers (rs ++ qs) ≡ pieceNumbers rs ++ pieceNumbers qs
+pieces-append rs qs =
+    ap numbersOf (map-append rowOfPiece rs qs) ∙ numbers-append (map rowOfPiece rs) (map rowOfPiece qs)
 
 sets-rows :
     (rs qs : List Match) (xs : List ℕ)
-    → sets (sets xs 0 (numbersOf rs)) (5 * length rs) (numbersOf qs) ≡ sets xs 0 (numbersOf (rs ++ qs))
+    → sets (sets xs 0 (pieceNumbers rs)) (rowWidth * length rs) (pieceNumbers qs) ≡ sets xs 0 (pieceNumbers (rs ++ qs))
 sets-rows rs qs xs =
-    let e : 0 + length (numbersOf rs) ≡ 5 * length rs = omega (arith, length-numbers rs) in
+    let e : 0 + length (pieceNumbers rs) ≡ rowWidth * length rs = omega (arith, length-numbers rs) in
     sym
-    (ap (sets xs 0) (numbers-append rs qs) ∙ sets-append (numbersOf rs) (numbersOf qs) xs 0
-    ∙ ap (λ n. sets (sets xs 0 (numbersOf rs)) n (numbersOf qs)) e)
+    (ap (sets xs 0) (pieces-append rs qs) ∙ sets-append (pieceNumbers rs) (pieceNumbers qs) xs 0
+    ∙ ap (λ n. sets (sets xs 0 (pieceNumbers rs)) n (pieceNumbers qs)) e)
 
 -- One piece.
 pub spans-low : (b : Bool) {i k d x y : ℕ} → Stretch i k d x y → spanned i d (cond b y x) ≡ true
@@ -62,7 +63,7 @@ pub five-stores :
     (xs : List ℕ) (at n : ℕ) (b : Bool) {i k d x y low image turn : ℕ} → Stretch i k d x y → low ≡ cond b y x
     → image ≡ carryOver b i k d low → turn ≡ cond b 1 0
     → set (set (set (set (set xs at n) (at + 1) x) (at + 2) image) (at + 3) (y - x)) (at + 4) turn
-    ≡ sets xs at (rowNumbers (pieceOf (matchAB n i k d b) x y))
+    ≡ sets xs at (rowNumbers (rowOfPiece (pieceOf (matchAB n i k d b) x y)))
 unfolding pieceOf
 five-stores xs at n b {i} {k} {d} {x} {y} s is-low is-image is-turn =
     let e₁ : at + 1 ≡ suc at = omega arith in
@@ -82,18 +83,18 @@ pub record Remaining (m : Match) (work : List ℕ) (first last row : ℕ) (befor
     (at next : ℕ) : Type 0 where
   pub cuts : Cutting work first last (m .leftA) (m .length)
   pub fits : m .leftB + m .length < 2 ^ 32
-  pub room : 5 * (row + length (rowsFrom m work last first)) ≤ length before
+  pub room : rowWidth * (row + length (rowsFrom m work last first)) ≤ length before
   pub from : first ≤ at
   pub to : at ≤ last
   pub count : row + length (rowsFrom m work last first) ≡ next + length (rowsFrom m work last at)
   pub long : length table ≡ length before
   pub is :
-      sets before (5 * row) (numbersOf (rowsFrom m work last first))
-      ≡ sets table (5 * next) (numbersOf (rowsFrom m work last at))
+      sets before (rowWidth * row) (pieceNumbers (rowsFrom m work last first))
+      ≡ sets table (rowWidth * next) (pieceNumbers (rowsFrom m work last at))
 
 pub remaining-start :
     {m : Match} {work : List ℕ} {first last row : ℕ} {before : List ℕ} → Cutting work first last (m .leftA) (m .length)
-    → m .leftB + m .length < 2 ^ 32 → 5 * (row + length (rowsFrom m work last first)) ≤ length before
+    → m .leftB + m .length < 2 ^ 32 → rowWidth * (row + length (rowsFrom m work last first)) ≤ length before
     → Remaining m work first last row before before first row
 remaining-start cuts fits room = record {
   cuts = cuts;
@@ -133,18 +134,20 @@ module _ {m : Match} {work : List ℕ} {first last row : ℕ} {before table : Li
       at < last → Stretch (m .leftA) (m .leftB) (m .length) (getD work at 0) (getD work (at + 1) 0)
   remaining-stretch = stretch (m .leftB) at (left .cuts) (left .fits) (left .from)
 
-  pub remaining-room : at < last → 5 * next + 5 ≤ length table
+  pub remaining-room : at < last → rowWidth * next + rowWidth ≤ length table
   remaining-room l = omega (arith, left .room, left .count, left .long, ap length (rows-step l))
 
   pub remaining-step :
       at < last → {after : List ℕ}
-      → after ≡ sets table (5 * next) (rowNumbers (pieceOf m (getD work at 0) (getD work (at + 1) 0)))
+      → after
+      ≡ sets table (rowWidth * next) (rowNumbers (rowOfPiece (pieceOf m (getD work at 0) (getD work (at + 1) 0))))
       → Remaining m work first last row before after (at + 1) (next + 1)
   unfolding numbersOf
   remaining-step l {after} is =
       let e : at + 1 ≡ suc at = omega arith in
-      let n : suc (suc (suc (suc (suc (5 * next))))) ≡ 5 * (next + 1) = omega arith in
-      let written = rowNumbers (pieceOf m (getD work at 0) (getD work (at + 1) 0)) in
+      let written = rowNumbers (rowOfPiece (pieceOf m (getD work at 0) (getD work (at + 1) 0))) in
+      let rest = pieceNumbers (rowsFrom m work last (at + 1)) in
+      let n : rowWidth * next + length written ≡ rowWidth * (next + 1) = omega arith in
       record {
         cuts = left .cuts;
         fits = left .fits;
@@ -152,16 +155,17 @@ module _ {m : Match} {work : List ℕ} {first last row : ℕ} {before table : Li
         from = omega (arith, left .from);
         to = omega arith;
         count = rw e (omega (arith, left .count, ap length (rows-step l)));
-        long = ap length is ∙ length-sets table (5 * next) written ∙ left .long;
+        long = ap length is ∙ length-sets table (rowWidth * next) written ∙ left .long;
         is =
-            left .is ∙ ap (λ rs. sets table (5 * next) (numbersOf rs)) (rows-step l) ∙ rw (← e) (rw (is, ← n) refl);
+            left .is ∙ ap (λ rs. sets table (rowWidth * next) (pieceNumbers rs)) (rows-step l)
+            ∙ rw (← e) (sets-append written rest table (rowWidth * next) ∙ rw (is, ← n) refl);
       }
 
   pub remaining-end : last ≤ at → Placed (rowsFrom m work last first) row before table next
   unfolding numbersOf
   remaining-end l = record {
     count = omega (arith, left .count, ap length (rows-end l));
-    table = sym (left .is ∙ ap (λ rs. sets table (5 * next) (numbersOf rs)) (rows-end l));
+    table = sym (left .is ∙ ap (λ rs. sets table (rowWidth * next) (pieceNumbers rs)) (rows-end l));
   }
 
 -- All matches: the rows of the first k are written.
@@ -170,35 +174,35 @@ pub record Done (a b d : List ℕ) (r : List Bool) (work : List ℕ) (lo hi : �
   pub fit : Fit a b d r
   pub writable : Writable a b d r work lo hi before
   pub to : k ≤ length d
-  pub count : row ≡ length (rowsOver a b d r (slice lo hi work) k)
-  pub is : table ≡ sets before 0 (numbersOf (rowsOver a b d r (slice lo hi work) k))
+  pub count : row ≡ length (piecesCut a b d r (slice lo hi work) k)
+  pub is : table ≡ sets before 0 (pieceNumbers (piecesCut a b d r (slice lo hi work) k))
 
 rows-grow :
     (a b d : List ℕ) (r : List Bool) (run : List ℕ) (n k : ℕ) → k + n ≡ length d
-    → length (rowsOver a b d r run k) ≤ length (rowsOver a b d r run (length d))
-unfolding rowsOver
+    → length (piecesCut a b d r run k) ≤ length (piecesCut a b d r run (length d))
+unfolding piecesCut
 rows-grow a b d r run zero k e = let same : k ≡ length d = omega arith in rw same (omega arith)
 rows-grow a b d r run (suc n) k e =
     let here = piecesBetween (matchAt a b d r k) (within (getD a k 0) (getD d k 0) run) in
-    omega (arith, rows-grow a b d r run n (suc k) (omega arith), length-append (rowsOver a b d r run k) here)
+    omega (arith, rows-grow a b d r run n (suc k) (omega arith), length-append (piecesCut a b d r run k) here)
 
 module _ {a b d : List ℕ} {r : List Bool} {work : List ℕ} {lo hi : ℕ} {before : List ℕ} where
   pub done-start : Fit a b d r → Writable a b d r work lo hi before → Done a b d r work lo hi before before 0 0
-  unfolding rowsOver numbersOf
+  unfolding piecesCut numbersOf
   done-start fit writable =
       record { fit = fit; writable = writable; to = omega arith; count = refl; is = refl }
 
   module _ {table : List ℕ} {row k : ℕ} (done : Done a b d r work lo hi before table row k) where
     pub done-long : length table ≡ length before
-    done-long = ap length (done .is) ∙ length-sets before 0 (numbersOf (rowsOver a b d r (slice lo hi work) k))
+    done-long = ap length (done .is) ∙ length-sets before 0 (pieceNumbers (piecesCut a b d r (slice lo hi work) k))
 
     pub done-end : length d ≤ k → Written a b d r (slice lo hi work) before table row
     done-end l =
         let run = slice lo hi work in
         let e : k ≡ length d = omega (arith, done .to) in
         record {
-          count = done .count ∙ ap (λ n. length (rowsOver a b d r run n)) e;
-          table = done .is ∙ ap (λ n. sets before 0 (numbersOf (rowsOver a b d r run n))) e;
+          count = done .count ∙ ap (λ n. length (piecesCut a b d r run n)) e;
+          table = done .is ∙ ap (λ n. sets before 0 (pieceNumbers (piecesCut a b d r run n))) e;
         }
 
     -- the match at k, with the lower bounds of its ends
@@ -214,15 +218,15 @@ module _ {a b d : List ℕ} {r : List Bool} {work : List ℕ} {lo hi : ℕ} {bef
           piecesBetween (matchAB (k + 1) (getD a k 0) (getD b k 0) (getD d k 0) (getD r k false))
           (slice first (suc last) work)
 
-      rows-here : rowsOver a b d r (slice lo hi work) (k + 1) ≡ rowsOver a b d r (slice lo hi work) k ++ here
-      unfolding rowsOver
+      rows-here : piecesCut a b d r (slice lo hi work) (k + 1) ≡ piecesCut a b d r (slice lo hi work) k ++ here
+      unfolding piecesCut
       rows-here =
           let w = done .writable in
           let e : k + 1 ≡ suc k = omega arith in
           let are = within-bounds (getD d k 0) (w .run) (w .left-in k less) (w .right-in k less) left right in
           rw (e, are) refl
 
-      pub done-room : 5 * (row + length here) ≤ length table
+      pub done-room : rowWidth * (row + length here) ≤ length table
       done-room =
           let run = slice lo hi work in
           omega (
@@ -232,14 +236,14 @@ module _ {a b d : List ℕ} {r : List Bool} {work : List ℕ} {lo hi : ℕ} {bef
             done .writable .room,
             rows-grow a b d r run (length d - (k + 1)) (k + 1) (omega arith),
             ap length rows-here,
-            length-append (rowsOver a b d r run k) here,
+            length-append (piecesCut a b d r run k) here,
           )
 
       pub done-step :
           {after : List ℕ} {next : ℕ} → Placed here row table after next
           → Done a b d r work lo hi before after next (k + 1)
       done-step placed =
-          let rows = rowsOver a b d r (slice lo hi work) k in
+          let rows = piecesCut a b d r (slice lo hi work) k in
           record {
             fit = done .fit;
             writable = done .writable;
@@ -248,7 +252,7 @@ module _ {a b d : List ℕ} {r : List Bool} {work : List ℕ} {lo hi : ℕ} {bef
                 placed .count ∙ ap (λ n. n + length here) (done .count) ∙ sym (length-append rows here)
                 ∙ ap length (sym rows-here);
             is =
-                placed .table ∙ ap (λ n. sets table (5 * n) (numbersOf here)) (done .count)
-                ∙ ap (λ t. sets t (5 * length rows) (numbersOf here)) (done .is)
-                ∙ sets-rows rows here before ∙ ap (λ rs. sets before 0 (numbersOf rs)) (sym rows-here);
+                placed .table ∙ ap (λ n. sets table (rowWidth * n) (pieceNumbers here)) (done .count)
+                ∙ ap (λ t. sets t (rowWidth * length rows) (pieceNumbers here)) (done .is)
+                ∙ sets-rows rows here before ∙ ap (λ rs. sets before 0 (pieceNumbers rs)) (sym rows-here);
           }

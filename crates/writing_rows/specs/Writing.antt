@@ -10,8 +10,9 @@ use mathlib.Core.List.{List}
 use lib.ListN.{length, getD}
 use lib.Seq.{slice, sets}
 use Rattle.runs.specs.Runs.{In, Run}
+use Rattle.rows.specs.Rows.{rowWidth}
 use Rattle.refinement.specs.Match.{Match}
-use Rattle.refining.specs.Rows.{rowsOver, numbersOf}
+use Rattle.refining.specs.Rows.{piecesCut, pieceNumbers}
 
 -- x to y is some stretch on A of a match with left ends i and k and length d, which ends within 32 bits on B
 pub record Stretch (i k d x y : ℕ) : Type 0 where
@@ -30,7 +31,7 @@ pub record Cutting (work : List ℕ) (first last i d : ℕ) : Type 0 where
 -- the rows rs are written from the row `row` on, and n is the row after them
 pub record Placed (rs : List Match) (row : ℕ) (before after : List ℕ) (n : ℕ) : Type 0 where
   pub count : n ≡ row + length rs
-  pub table : after ≡ sets before (5 * row) (numbersOf rs)
+  pub table : after ≡ sets before (rowWidth * row) (pieceNumbers rs)
 
 -- the cuts of A rise at [lo, hi), both ends of each match are among them, and the rows have room in the table
 pub record Writable (a b d : List ℕ) (r : List Bool) (work : List ℕ) (lo hi : ℕ) (table : List ℕ) : Type 0 where
@@ -38,8 +39,8 @@ pub record Writable (a b d : List ℕ) (r : List Bool) (work : List ℕ) (lo hi 
   pub left-in : (k : ℕ) → k < length d → In work lo hi (getD a k 0)
   pub right-in : (k : ℕ) → k < length d → In work lo hi (getD a k 0 + getD d k 0)
   pub few : length d < 4294967296
-  pub room : 5 * length (rowsOver a b d r (slice lo hi work) (length d)) ≤ length table
+  pub room : rowWidth * length (piecesCut a b d r (slice lo hi work) (length d)) ≤ length table
 
 pub record Written (a b d : List ℕ) (r : List Bool) (run before after : List ℕ) (n : ℕ) : Type 0 where
-  pub count : n ≡ length (rowsOver a b d r run (length d))
-  pub table : after ≡ sets before 0 (numbersOf (rowsOver a b d r run (length d)))
+  pub count : n ≡ length (piecesCut a b d r run (length d))
+  pub table : after ≡ sets before 0 (pieceNumbers (piecesCut a b d r run (length d)))

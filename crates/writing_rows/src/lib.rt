@@ -1,14 +1,16 @@
 // The rows of the table: a piece between each two neighbouring cuts of a match.
+use rows::ROW_WIDTH;
 use runs::lower_bound;
 ghost use mathlib.Core.Path.{_≡_};
 ghost use mathlib.Core.Bool.{cond};
 ghost use Prim.Native.Nat.{suc, _+_, _*_, _^_, _≤_, _<_};
 ghost use lib.ListN.{length};
 ghost use lib.Seq.{slice, sets};
+ghost use Rattle.rows.specs.Rows.{rowWidth, rowNumbers};
 ghost use Rattle.refinement.specs.Match.{matchAB};
 ghost use Rattle.refinement.specs.Least.{pieceOf, piecesBetween};
 ghost use Rattle.refining.specs.Columns.{Fit};
-ghost use Rattle.refining.specs.Rows.{rowNumbers};
+ghost use Rattle.refining.specs.Rows.{rowOfPiece};
 ghost use Rattle.writing_rows.specs.Writing.{Stretch, Cutting, Placed, Writable, Written};
 
 // Of two numbers the one for a reversed match, or the one for a direct match.
@@ -35,11 +37,11 @@ fn write_piece(
     y: u32,
 )
     requires { ⌜ Stretch «left_a» «left_b» letters x y ⌝ }
-    requires { ⌜ at + 5 ≤ length (now table) ⌝ }
+    requires { ⌜ at + rowWidth ≤ length (now table) ⌝ }
     ensures { λ _. ⌜
         now (table .exit)
         ≡ sets (now (table .entry)) at
-        (rowNumbers (pieceOf (matchAB number «left_a» «left_b» letters reversed) x y)) ⌝ }
+        (rowNumbers (rowOfPiece (pieceOf (matchAB number «left_a» «left_b» letters reversed) x y))) ⌝ }
 {
     let low = by_direction(reversed, y, x);
     let image = refinement::carry(left_a, left_b, letters, reversed, low);
@@ -67,7 +69,7 @@ fn write_match(
     requires { ⌜ Cutting (now work) first last «left_a» letters ⌝ }
     requires { ⌜ «left_b» + letters < 2 ^ 32 ⌝ }
     requires { ⌜
-        5 * (row + length
+        rowWidth * (row + length
         (piecesBetween (matchAB number «left_a» «left_b» letters reversed) (slice first (suc last) (now work))))
         ≤ length (now table) ⌝ }
     ensures { λ n. ⌜
@@ -80,7 +82,7 @@ fn write_match(
     while at < last {
         write_piece(
             table,
-            5 * next,
+            ROW_WIDTH * next,
             number,
             left_a,
             left_b,

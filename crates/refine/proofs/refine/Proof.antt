@@ -1,9 +1,9 @@
 -- `refine` meets its contract: a refused script is refused; the columns of an admitted one hold its matches, and
 -- `refine_matches` does the rest. The demands follow from the three equations. Assumes nothing.
-use mathlib.Core.Path.{sym}
+use mathlib.Core.Path.{sym, _∙_}
 use Rattle.script.proofs.Admitted.{holds-admitted, reading-refused}
 use Rattle.refining.proofs.Numbered.{held-admitted, held-fit}
-use Rattle.refining.proofs.RefiningCases.{refining-refused}
+use Rattle.refining.proofs.RefiningCases.{refining-refused, refining-admitted}
 use Rattle.refining.proofs.Demands.{refining-contract}
 use Rattle.refine.proofs.Calls.{column-reaches, column-few}
 use borrow.Author.Needs.{needs}
@@ -115,8 +115,10 @@ returns-2 c =
     let start = told .before .before .before .before .before .before in
     let bytes = start .args .script .now in
     let held = holds-admitted bytes (told .before .before .read .ensures .0) (told .verdict2 .given .1) in
-    let done = called .refine-matches .ensures bytes (held-admitted held) in
-    refining-contract bytes (start .args .table .now) (start .args .work .now) (sym done)
+    let table = start .args .table .now in
+    let work = start .args .work .now in
+    refining-contract bytes table work
+    (refining-admitted bytes table work (held-admitted held) ∙ sym (called .refine-matches .ensures))
 
 pub refine-spec : {M : Type 1} → statement M
 refine-spec =
