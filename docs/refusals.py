@@ -45,7 +45,7 @@ ANSWER = re.compile(r"\(refusal (?P<number>\d+) ")
 
 def main():
     definition = dict(listed(DEFINITION, *LISTS[0][2:]))
-    of_the_text = {text_number(): plain(TEXT_WORD)}
+    of_the_text = {text_number(): TEXT_WORD}
     of_bytes = {number: definition.get(number, word) for number, word in outcomes(ROOT / READING)}
     stated = {row for path in ROOT.glob("crates/*/specs/**/*.antt") for row in outcomes(path)}
     places = [
@@ -92,7 +92,7 @@ def named(number, word):
 
 def plain(word):
     """Small letters, words apart by a blank."""
-    word = re.sub(r"(?<=[a-z])(?=[A-Z])", " ", word)
+    word = re.sub(r"(?<=[a-z0-9])(?=[A-Z])|(?<=[A-Z])(?=[A-Z][a-z])|(?<=[a-z])(?=[0-9])", " ", word)
     return re.sub(r"[ _-]+", " ", word).lower()
 
 

@@ -70,7 +70,7 @@ carriedText (Carried.Refused r) = refusedText r
 abbrev pub readLine : List ℕ → List ℕ → List ℕ
 readLine heading script = heading ++ readText (scriptOf (readScript script) .verdict)
 
--- "With 40 numbers of table": every table here has so many
+-- every table here has 40 numbers, which is room for eight rows
 abbrev pub refinedLine : List ℕ → List ℕ → List ℕ → List ℕ
 refinedLine heading script work = heading ++ refinedText (refiningOf script (replicate 40 0) work .reply)
 
@@ -84,7 +84,7 @@ work = 119 ∷ 111 ∷ 114 ∷ 107 ∷ 32 ∷ []
 abbrev pub workLine : ℕ → List ℕ
 workLine n = refinedLine (entry work n) run (replicate n 0)
 
--- "With 40 numbers of table, 32 of work pass and 31 give 11."
+-- SCOPE, "The edge lines": the run, with enough work for 40 numbers of table, and with one number less
 abbrev pub workLines : List ℕ
 workLines = workLine 32 ++ workLine 31
 
@@ -103,7 +103,7 @@ touchingLine n side = carriedLine (entry (touchingWord ++ blank) n ++ entry (on 
 abbrev pub sideLines : Side → List ℕ
 sideLines side = touchingLine 1 side ++ touchingLine 2 side
 
--- "2 pieces; position 4 belongs to both"
+-- SCOPE, "The edge lines": the count of pieces, and position 4, which both matches carry
 abbrev pub touchingLines : List ℕ
 touchingLines = refinedLine touchingWord touching (replicate 32 0) ++ sideLines A ++ sideLines B
 
@@ -114,7 +114,7 @@ lengthsWord = 108 ∷ 101 ∷ 110 ∷ 103 ∷ 116 ∷ 104 ∷ 115 ∷ 32 ∷ []
 abbrev pub longLine : ℕ → ℕ → List ℕ
 longLine p q = readLine (entry lengthsWord p ++ entry blank q) (long p q)
 
--- "Lengths 1000000000 1, end: passes. Lengths 1000000001 1: 5 at 0."
+-- SCOPE, "The edge lines": as long as a sequence may be, and a letter longer
 abbrev pub longLines : List ℕ
 longLines = longLine 1000000000 1 ++ longLine 1000000001 1
 
@@ -125,7 +125,7 @@ matchesWord = 109 ∷ 97 ∷ 116 ∷ 99 ∷ 104 ∷ 101 ∷ 115 ∷ 32 ∷ []
 abbrev pub manyLine : ℕ → List ℕ
 manyLine n = readLine (entry matchesWord n) (many n)
 
--- "2,048 matches pass the reader; one more gives 6 at 26633."
+-- SCOPE, "The edge lines": as many matches as there may be, and one more
 abbrev pub manyLines : List ℕ
 manyLines = manyLine 2048 ++ manyLine 2049
 

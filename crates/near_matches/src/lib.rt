@@ -1,4 +1,4 @@
-// Passing over the matches that reach into no stretch from the lowest to the highest newly found cut.
+// Passing over matches that do not reach into the stretch from the lowest to the highest newly found cut.
 ghost use mathlib.Core.Path.{_≡_};
 ghost use mathlib.Core.Bool.{false};
 ghost use Prim.Native.Nat.{_+_, _^_, _≤_, _<_};

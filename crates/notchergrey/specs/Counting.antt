@@ -9,7 +9,7 @@ use Rattle.script.specs.Limits.{longestScript}
 use Rattle.notchergrey.specs.declared.Moved.{Moved}
 use Rattle.notchergrey.specs.declared.Output.{Output}
 
--- "The program reads standard input up to 26,635 bytes": one more than the longest admitted script has
+-- SCOPE, "Input": one byte more than the longest admitted script has
 abbrev pub inputRoom : ℕ
 inputRoom = suc longestScript
 

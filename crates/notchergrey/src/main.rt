@@ -88,8 +88,8 @@ fn read_input(bytes: &mut [u8]) -> Moved
     Moved::Bytes(done)
 }
 
-// The text that is printed for these bytes, at the buffer's start; the answer is its length. There is room for every
-// text, so none is too short.
+// The text that is printed for these bytes, at the buffer's start; the answer is its length. The buffer has room for
+// every text, so the second case is never met.
 fn make_text(script: &[u8], text: &mut [u8]) -> usize
     requires { ⌜ longestText ≤ length (now text) ⌝ }
     ensures { λ r. ⌜ Counts r (now (text .exit)) ⌝ }

@@ -8,6 +8,7 @@ use mathlib.Core.List.{List, [], _∷_, _++_}
 use native.Mathlib.Omega.{arith}
 use borrow.Author.Tests.{lt-ltb, le-ltb, le-leb, lt-leb, ne-eqb}
 use lib.ListN.{length, length-append}
+use Rattle.script.specs.Commands.{lengthsWidth, matchWidth}
 use Rattle.script.specs.Reading.{Reading, admitted, refused, readFrom, readScript}
 use Rattle.script.specs.declared.command.Match.{Match}
 use Rattle.script.specs.declared.refusal.Refusal.{Refusal}
@@ -19,12 +20,12 @@ one = record { «left_a» = 0; «left_b» = 0; length = 1; reversed = false }
 
 -- such a match is taken while there is room for one
 taken : (fuel at : ℕ) (ms : List Match) (s : List ℕ) → length ms < 2048
-    → readFrom (suc fuel) 1 1 at ms (direct 0 0 1 ++ s) ≡ readFrom fuel 1 1 (at + 13) (ms ++ one ∷ []) s
+    → readFrom (suc fuel) 1 1 at ms (direct 0 0 1 ++ s) ≡ readFrom fuel 1 1 (at + matchWidth) (ms ++ one ∷ []) s
 unfolding readFrom
 taken fuel at ms s room =
     rw (
       ne-eqb (length (direct 0 0 1 ++ s)) 0 (λ e. omega arith),
-      le-ltb (length (direct 0 0 1 ++ s)) 13 (omega arith),
+      le-ltb (length (direct 0 0 1 ++ s)) matchWidth (omega arith),
       lt-leb 2048 (length ms) room,
     )
 
@@ -41,19 +42,19 @@ passed n zero at ms enough e = absurd (omega arith)
 passed zero (suc fuel) at ms enough e = record { matches = ms; is = refl; most = omega arith }
 passed (suc n) (suc fuel) at ms enough e =
     rw (taken fuel at ms (many n ++ end) (omega arith))
-    (passed n fuel (at + 13) (ms ++ one ∷ []) (omega arith) (omega (arith, length-append ms (one ∷ []))))
+    (passed n fuel (at + matchWidth) (ms ++ one ∷ []) (omega arith) (omega (arith, length-append ms (one ∷ []))))
 
 -- and one more
 crowded : (n fuel at : ℕ) (ms : List Match) → n < fuel → length ms + n ≡ 2048
-    → readFrom fuel 1 1 at ms (many n ++ (direct 0 0 1 ++ end)) ≡ refused (Refusal.TooManyMatches (at + 13 * n))
+    → readFrom fuel 1 1 at ms (many n ++ (direct 0 0 1 ++ end)) ≡ refused (Refusal.TooManyMatches (at + matchWidth * n))
 unfolding readFrom many
 crowded n zero at ms enough e = absurd (omega arith)
 crowded zero (suc fuel) at ms enough e =
-    let here : at + 13 * 0 ≡ at = omega arith in
+    let here : at + matchWidth * 0 ≡ at = omega arith in
     rw (le-leb 2048 (length ms) (omega arith), here)
 crowded (suc n) (suc fuel) at ms enough e =
     taken fuel at ms (many n ++ (direct 0 0 1 ++ end)) (omega arith)
-    ∙ crowded n fuel (at + 13) (ms ++ one ∷ []) (omega arith) (omega (arith, length-append ms (one ∷ [])))
+    ∙ crowded n fuel (at + matchWidth) (ms ++ one ∷ []) (omega arith) (omega (arith, length-append ms (one ∷ [])))
     ∙ ap (λ (k : ℕ). refused (Refusal.TooManyMatches k)) (omega arith)
 
 -- ---- the whole script
@@ -63,12 +64,12 @@ unfolding many
 length-many zero s = omega arith
 length-many (suc n) s = omega (arith, length-many n s)
 
-opened : (s : List ℕ) → readScript (lengths 1 1 ++ s) ≡ readFrom (length (lengths 1 1 ++ s)) 1 1 9 [] s
+opened : (s : List ℕ) → readScript (lengths 1 1 ++ s) ≡ readFrom (length (lengths 1 1 ++ s)) 1 1 lengthsWidth [] s
 unfolding readScript
 opened s =
     rw (
       ne-eqb (length (lengths 1 1 ++ s)) 0 (λ e. omega arith),
-      le-ltb (length (lengths 1 1 ++ s)) 9 (omega arith),
+      le-ltb (length (lengths 1 1 ++ s)) lengthsWidth (omega arith),
     )
 
 module _ (n : ℕ) (most : n ≡ 2048) where
@@ -76,13 +77,14 @@ module _ (n : ℕ) (most : n ≡ 2048) where
   passes =
       let s = many n ++ end in
       rw (opened s)
-      (passed n (length (lengths 1 1 ++ s)) 9 [] (omega (arith, length-many n end)) (omega arith))
+      (passed n (length (lengths 1 1 ++ s)) lengthsWidth [] (omega (arith, length-many n end)) (omega arith))
 
-  crowds : readScript (lengths 1 1 ++ (many n ++ (direct 0 0 1 ++ end))) ≡ refused (Refusal.TooManyMatches (9 + 13 * n))
+  crowds : readScript (lengths 1 1 ++ (many n ++ (direct 0 0 1 ++ end)))
+      ≡ refused (Refusal.TooManyMatches (lengthsWidth + matchWidth * n))
   crowds =
       let more = direct 0 0 1 ++ end in
       let s = many n ++ more in
-      opened s ∙ crowded n (length (lengths 1 1 ++ s)) 9 [] (omega (arith, length-many n more)) (omega arith)
+      opened s ∙ crowded n (length (lengths 1 1 ++ s)) lengthsWidth [] (omega (arith, length-many n more)) (omega arith)
 
 most-pass : mostPass .comes ≡ mostPass .leaves
 most-pass = let p = passes 2048 refl in rw (p .is, p .most)

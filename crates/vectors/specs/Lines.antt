@@ -134,14 +134,14 @@ apartText =
     ∷ (99 ∷ 108 ∷ 97 ∷ 115 ∷ 115 ∷ 32 ∷ 50 ∷ 32 ∷ 50 ∷ 10 ∷ [])
     ∷ [])
 
--- direct 1 0 10, and "as `refused 8 9`"
+-- direct 1 0 10, and its line, refused 8 9
 abbrev beyond : List ℕ
 beyond = lengths 10 10 ++ direct 1 0 10 ++ end
 
 abbrev beyondText : List ℕ
 beyondText = 114 ∷ 101 ∷ 102 ∷ 117 ∷ 115 ∷ 101 ∷ 100 ∷ 32 ∷ 56 ∷ 32 ∷ 57 ∷ 10 ∷ []
 
--- "arbitrary contents": the run of 2 broken off and resumed, lengths that fit no class, directions of 7, a piece twice,
+-- SCOPE, "Any contents": the run of 2 broken off and resumed, lengths in no class, directions of 7, a piece twice,
 -- numbers at the end that form no row
 abbrev anything : List ℕ
 anything =
@@ -245,7 +245,7 @@ lines =
           ∷ [])
           11;
     })
-    -- the program on the run above, and on direct 1 0 10: "as `refused 8 9`"
+    -- the program on the run above, and on direct 1 0 10
     ∷ prints run runText
     ∷ prints beyond beyondText
     -- (from here on not M) a class of one piece is printed, an empty one between others is not; p before q
@@ -337,10 +337,10 @@ unfoldable pub many : ℕ → List ℕ
 many zero = []
 many (suc n) = direct 0 0 1 ++ many n
 
--- "2,048 matches pass the reader;
+-- SCOPE, "The edge lines": 2,048 matches pass the reader
 abbrev pub mostPass : Line
 mostPass = reads (lengths 1 1 ++ (many 2048 ++ end)) 1 1 2048
 
--- one more gives 6 at 26633."
+-- SCOPE, "The edge lines": one match more is 6, where its command stands
 abbrev pub oneMore : Line
 oneMore = refuses (lengths 1 1 ++ (many 2048 ++ (direct 0 0 1 ++ end))) 6 26633
