@@ -4,13 +4,14 @@
 --     rows-back          a table that holds the numbers of rs, and behind them too few for a row, has the rows rs
 --     rows-whole         and one that holds nothing behind them
 -- Assumes nothing.
-use Prim.Native.Nat.{ℕ, _*_, _/_, _<_}
+use Prim.Native.Nat.{ℕ, _*_, _<_}
 use mathlib.Core.Path.{_≡_, refl, sym, ap, _∙_}
 use mathlib.Core.List.{List, [], _∷_, _++_, append-nil}
 use native.Mathlib.Omega.{arith}
 use lib.ListN.{length, length-append}
 use Rattle.rows.specs.declared.Row.{Row}
 use Rattle.rows.specs.Rows.{rowWidth, firstRows, rowsOf, rowNumbers, numbersOf}
+use Rattle.rows.proofs.TableRows.{rows-length}
 
 pub numbers-length : (rs : List Row) → length (numbersOf rs) ≡ rowWidth * length rs
 unfolding numbersOf
@@ -30,9 +31,10 @@ first-rows-back (r ∷ rs) rest = ap (λ (qs : List Row). r ∷ qs) (first-rows-
 pub rows-back : (rs : List Row) (rest : List ℕ) → length rest < rowWidth → rowsOf (numbersOf rs ++ rest) ≡ rs
 unfolding rowsOf
 rows-back rs rest short =
-    let counted : length (numbersOf rs ++ rest) / rowWidth ≡ length rs =
-    omega (arith, length-append (numbersOf rs) rest, numbers-length rs) in
-    rw counted (first-rows-back rs rest)
+    let t = numbersOf rs ++ rest in
+    let long = length-append (numbersOf rs) rest in
+    let counted : length (rowsOf t) ≡ length rs = omega (arith, rows-length t, long, numbers-length rs) in
+    ap (λ (n : ℕ). firstRows n t) (sym (rows-length t) ∙ counted) ∙ first-rows-back rs rest
 
 pub rows-whole : (rs : List Row) → rowsOf (numbersOf rs) ≡ rs
 rows-whole rs = ap rowsOf (sym (append-nil (numbersOf rs))) ∙ rows-back rs [] (omega arith)
