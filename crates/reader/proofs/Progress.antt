@@ -3,10 +3,9 @@
 --     Columns             the columns hold these matches, and blanks behind them
 --     columns-taken       one more match, stored at the count
 --     next-reach          the match that a step takes leads one good command further
---     opening-reach, opening-refused     what the first command comes to
---     Progress            the invariant: both at once
---     comes               the loop's two calls compute the step at the offset
---     progress-refused, progress-finished, progress-taken     what each step makes of it
+--     opens-script, refuses-script     what the two calls on the first command bring
+--     Progress            both together, between two commands
+--     step-refused, step-finished, progress-taken     what the loop's two calls bring
 -- Assumes nothing.
 use Prim.Native.Nat.{ℕ, suc, _+_, _-_, _<_}
 use mathlib.Core.Path.{_≡_, refl, sym, ap, subst, _∙_}
@@ -27,6 +26,7 @@ use Rattle.script.specs.declared.command.Match.{Match}
 use Rattle.script.specs.declared.command.Command.{Command}
 use Rattle.script.specs.declared.step.Opening.{Opening}
 use Rattle.script.specs.declared.step.Step.{Step}
+use Rattle.script.specs.declared.Script.{Script}
 use Rattle.script.specs.declared.Verdict.{Verdict}
 use Rattle.script.proofs.Seen.{Seen, seen}
 use Rattle.script.proofs.Outcome.{reach-place, reach-ends, opening-at}
@@ -132,6 +132,18 @@ opening-reach {s} e = subst (Begins (λ p q. Reach s p q lengthsWidth [])) e (op
 pub opening-refused : (s : List ℕ) {r : Refusal} → openingOf (commandOf s) ≡ Opening.Refuse r → readScript s ≡ refused r
 opening-refused s e = opening-at s (seen s 0) e
 
+-- the two calls on the first command compute what it opens, and refuse what it refuses
+module _ (s : List ℕ) {c : Command} {o : Opening} (ec : c ≡ commandOf s) (eo : o ≡ openingOf c) where
+  opening-is : {o′ : Opening} → o ≡ o′ → openingOf (commandOf s) ≡ o′
+  opening-is e = rw (← ec) (sym eo ∙ e)
+
+  pub opens-script : {p q : ℕ} → o ≡ Opening.Open p q → Reach s p q 9 []
+  opens-script e = opening-reach (opening-is e)
+
+  pub refuses-script : {f : Refusal} {r : Script} → o ≡ Opening.Refuse f → r ≡ scriptOf (refused f)
+      → r ≡ scriptOf (readScript s)
+  refuses-script e is = is ∙ ap scriptOf (sym (opening-refused s (opening-is e)))
+
 -- ---- both together, between two commands
 
 pub record Progress (s : List ℕ) (p q : ℕ) (left-a left-b letters : List ℕ) (reversed : List Bool)
@@ -182,3 +194,21 @@ module _ {s : List ℕ} {p q : ℕ} {left-a left-b letters : List ℕ} {reversed
         columns = columns-taken (h .columns) m
             (omega (arith, reach-place (next-reach (h .reach) e) .1, length-append (h .matches) (m ∷ [])));
       }
+
+  -- the same from what the loop's two calls ensure
+  module _ {c : Command} {t : Step} (ec : c ≡ commandOf (take (length s - at) (drop at s)))
+      (et : t ≡ stepOf p q count at c) where
+    pub step-refused : {f : Refusal} {r : Script} → t ≡ Step.Refuse f → r ≡ scriptOf (refused f)
+        → r ≡ scriptOf (readScript s)
+    step-refused e is = is ∙ ap scriptOf (sym (progress-refused (comes ec et e)))
+
+    pub step-finished : t ≡ Step.Finish
+        → record {
+          verdict = Verdict.Admitted p q count;
+          «left_a» = left-a;
+          «left_b» = left-b;
+          length = letters;
+          reversed = reversed;
+        }
+        ≡ scriptOf (readScript s)
+    step-finished e = progress-finished (comes ec et e)

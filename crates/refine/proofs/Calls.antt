@@ -1,19 +1,27 @@
 -- From what the inner functions ensure to what the refining call ensures.
---     told-cuts          what the closure's answer tells
---     column-reaches, column-few     the columns hold as many numbers as there are matches
+--     told-good, crowded-tabled
+--                        what the closure's answer tells: a good set of cuts, or that no table has room
+--     left-a-reaches, left-b-reaches, length-reaches, reversed-reaches, prefix-length, columns-few, columns-fit
+--                        the columns of an admitted script hold as many numbers as there are matches, and they fit
+--     refining-met, read-refused, read-refined
+--                        the contract, by one equation, which holds of a refused script and of an admitted one
 --     cuts-writable      a set that holds all cuts of A, joined into one run, is what writing the rows needs
 --     rows-tabled        the rows written are the least table
---     tabled-refined     the rows written and the work buffer cleared are the call's outcome
+--     cleared-refined    the rows written and the work buffer cleared are the call's outcome
 -- Assumes nothing.
 use Prim.Native.Nat.{ℕ, _+_, _≤_, _<_}
-use mathlib.Core.Path.{_≡_, sym, ap, subst, _∙_}
+use mathlib.Core.Path.{_≡_, refl, sym, ap, subst, _∙_}
 use mathlib.Core.Logic.{_↔_}
 use mathlib.Core.Bool.{Bool}
 use mathlib.Core.List.{List, [], map}
 use native.Mathlib.Omega.{arith}
-use lib.ListN.{length, getD, take, length-take, length-map}
+use lib.ListN.{length, getD, take, replicate, length-take, length-map}
 use lib.Seq.{slice, sets}
-use Rattle.script.specs.Limits.{mostMatches}
+use Rattle.script.specs.Reading.{readScript, scriptOf}
+use Rattle.script.specs.declared.Script.{Script}
+use Rattle.script.specs.declared.Verdict.{Verdict}
+use Rattle.script.specs.declared.refusal.Refusal.{Refusal}
+use Rattle.script.specs.declared.refusal.Refusal.the-variants.{TooManyPieces}
 use Rattle.script.specs.declared.command.Match.{Match as ScriptMatch}
 use Rattle.refinement.specs.declared.Side.{Side}
 use Rattle.refinement.specs.Order.{_∈_}
@@ -21,45 +29,86 @@ use Rattle.refinement.specs.Match.{Match}
 use Rattle.refinement.specs.Cut.{Cut, end, left-end, right-end}
 use Rattle.refinement.specs.Refinement.{Matches}
 use Rattle.refinement.specs.Least.{leastTable}
-use Rattle.cut_set.specs.Store.{Joined}
+use Rattle.cut_set.specs.Store.{Good, Joined}
 use Rattle.cut_set.specs.declared.CutSet.{CutSet}
 use Rattle.refining.specs.Columns.{Fit, matchesOf}
 use Rattle.stepping.specs.Engine.{at}
 use Rattle.closing.specs.AllCuts.{AllCuts, Closure}
 use Rattle.refining.specs.Rows.{piecesCut, pieceNumbers}
-use Rattle.refining.specs.Refining.{capacityOf, workNeeded, zeroed}
+use Rattle.refining.specs.Refining.{capacityOf, workNeeded, zeroed, Refining, refiningOf}
+use Rattle.refining.specs.Demands.{answerOf, Demand1, Demand2, Demand3}
 use Rattle.writing_rows.specs.Writing.{Writable, Written}
 use Rattle.refine.specs.Calls.{Tabled, MatchesRefined}
 use Rattle.closing.specs.declared.Closed.{Closed}
 use Rattle.refining.specs.declared.answers.Refined.{Refined}
-use Rattle.stepping.proofs.Indexed.{∈-matches}
+use Rattle.stepping.proofs.Indexed.{∈-matches, matches-good}
 use Rattle.carrying_match.proofs.RunLists.{slice-in, in-slice, slice-rising}
+use Rattle.script.proofs.Admitted.{Holds, holds-admitted, reading-refused}
+use Rattle.refining.proofs.Numbered.{held-admitted, held-fit}
+use Rattle.refining.proofs.Demands.{refining-contract}
 use Rattle.refine.proofs.RowsLeast.{rows-least}
 use Rattle.refining.proofs.RefiningCases.{exceeds-many, written-sets, matches-crowded, matches-written}
+use Rattle.refining.proofs.RefiningCases.{refining-refused, refining-admitted}
 
 -- what the closure's answer tells
-pub told-cuts :
+told-cuts :
     {ms : List Match} {cap : ℕ} {ys : List ℕ} {answer : Closed} {s : CutSet} → Closure ms cap ys answer
     → answer ≡ Closed.CutsOfA s → AllCuts ms cap ys s
 told-cuts {ms} {cap} {ys} h e = subst (Closure ms cap ys) e h
 
--- a column whose first numbers are the fields of the matches reaches that far
-pub column-reaches :
-    {X : Type 0} (column : List X) (field : ScriptMatch → X) (ms : List ScriptMatch) (count : ℕ)
-    → take count column ≡ map field ms → length ms ≡ count
-    → (count ≤ length column) × (count ≡ length (take count column))
-column-reaches column field ms count e n =
-    let all : length (take count column) ≡ count = ap length e ∙ length-map ms field ∙ n in
-    (omega (arith, length-take count column), sym all)
+pub told-good :
+    (ms : List Match) (cap : ℕ) (ys : List ℕ) {answer : Closed} {s : CutSet} → answer ≡ Closed.CutsOfA s
+    → Closure ms cap ys answer → Good ys s
+told-good ms cap ys e h = told-cuts h e .good
 
-pub column-few :
-    (column : List ℕ) (field : ScriptMatch → ℕ) (ms : List ScriptMatch) (count : ℕ)
-    → take count column ≡ map field ms → length ms ≡ count → count ≤ mostMatches
-    → length (take count column) < 4294967296
-column-few column field ms count e n few = omega (arith, column-reaches column field ms count e n .1)
+pub crowded-tabled :
+    (ms : List Match) (table ys : List ℕ) {answer : Closed} → answer ≡ Closed.TooMany
+    → Closure ms (capacityOf table) ys answer → Tabled ms table table (Refined.Refused TooManyPieces)
+crowded-tabled ms table ys e h = (refl, subst (Closure ms (capacityOf table) ys) e h, refl)
+
+-- the first numbers of a column, of one that reaches that far
+pub prefix-length : {X : Type 0} (column : List X) {count : ℕ} → count ≤ length column
+    → count ≡ length (take count column)
+prefix-length column {count} reaches = omega (arith, length-take count column)
+
+-- a column whose first numbers are the fields of the matches reaches that far
+column-reaches :
+    {X : Type 0} (column : List X) (field : ScriptMatch → X) (ms : List ScriptMatch) {count : ℕ}
+    → take count column ≡ map field ms → length ms ≡ count → count ≤ length column
+column-reaches column field ms {count} e n =
+    omega (arith, length-take count column, ap length e ∙ length-map ms field ∙ n)
+
+-- the columns of an admitted script, by the reader's stated result
+module _ (script : List ℕ) {r : Script} {p q count : ℕ} (e : r ≡ scriptOf (readScript script))
+    (v : r .verdict ≡ Verdict.Admitted p q count) where
+  held : Holds script r p q count
+  held = holds-admitted script e v
+
+  pub left-a-reaches : count ≤ length (r .«left_a»)
+  left-a-reaches = column-reaches (r .«left_a») (λ m. m .«left_a») (held .matches) (held .left-a) (held .counted)
+
+  pub left-b-reaches : count ≤ length (r .«left_b»)
+  left-b-reaches = column-reaches (r .«left_b») (λ m. m .«left_b») (held .matches) (held .left-b) (held .counted)
+
+  pub length-reaches : count ≤ length (r .length)
+  length-reaches = column-reaches (r .length) (λ m. m .length) (held .matches) (held .letters) (held .counted)
+
+  pub reversed-reaches : count ≤ length (r .reversed)
+  reversed-reaches = column-reaches (r .reversed) (λ m. m .reversed) (held .matches) (held .reversed) (held .counted)
+
+  pub columns-few : length (take count (r .length)) < 4294967296
+  columns-few = omega (arith, prefix-length (r .length) length-reaches, held .few)
+
+  pub columns-fit :
+      Fit (take count (r .«left_a»)) (take count (r .«left_b»)) (take count (r .length)) (take count (r .reversed))
+  columns-fit = held-fit held
 
 module _ {a b d : List ℕ} {r : List Bool} (fit : Fit a b d r) (table : List ℕ) {xs ys : List ℕ} {s t : CutSet}
-    (cuts : AllCuts (matchesOf a b d r) (capacityOf table) xs s) (joined : Joined xs s ys t) where
+    {answer : Closed} (told : answer ≡ Closed.CutsOfA s) (joined : Joined xs s ys t)
+    (closed : Closure (matchesOf a b d r) (capacityOf table) xs answer) where
+  cuts : AllCuts (matchesOf a b d r) (capacityOf table) xs s
+  cuts = told-cuts closed told
+
   ordered : t .base ≤ t .used
   ordered =
       let good = joined .kept .good in
@@ -102,11 +151,10 @@ module _ {a b d : List ℕ} {r : List Bool} (fit : Fit a b d r) (table : List �
   rows-tabled w = (
     w .count ∙ ap length rows-are,
     cuts .fits,
-    w .table
-        ∙ ap (λ (rs : List Match). sets table 0 (pieceNumbers rs)) rows-are,
+    w .table ∙ ap (λ (rs : List Match). sets table 0 (pieceNumbers rs)) rows-are,
   )
 
-pub tabled-refined :
+tabled-refined :
     {ms : List Match} → Matches ms → (table table′ work : List ℕ) (r : Refined) → workNeeded table ≤ length work
     → Tabled ms table table′ r
     → MatchesRefined ms table work r table′ (zeroed work)
@@ -114,3 +162,45 @@ tabled-refined {ms} M table table′ work (Refined.Rows n) room t =
     rw (t .0, t .2 ∙ written-sets (leastTable ms []) table (t .1)) (sym (matches-written ms table work room (t .1)))
 tabled-refined {ms} M table table′ work (Refined.Refused f) room t =
     rw (t .0, t .2) (sym (matches-crowded ms table work room (exceeds-many M (t .1))))
+
+pub cleared-refined :
+    {a b d : List ℕ} {reversed : List Bool} → Fit a b d reversed → (table table′ work work′ : List ℕ)
+    {ended : List ℕ} {r : Refined}
+    → workNeeded table ≤ length work
+    → Tabled (matchesOf a b d reversed) table table′ r
+    → length work′ ≡ length work
+    → ended ≡ zeroed work′
+    → MatchesRefined (matchesOf a b d reversed) table work r table′ ended
+cleared-refined {a} {b} {d} {reversed} fit table table′ work work′ {r = r} room tabled same cleared =
+    rw (cleared ∙ ap (λ (n : ℕ). replicate n 0) same)
+    (tabled-refined (matches-good a b d reversed fit) table table′ work r room tabled)
+
+-- the contract of `refine`, by the one equation of what the call leaves
+pub refining-met :
+    {script table work : List ℕ} {reply : Refined} {table′ work′ : List ℕ}
+    → _≡_ {A = Refining} (record { reply = reply; table = table′; work = work′ }) (refiningOf script table work)
+    → (reply ≡ refiningOf script table work .reply)
+    × ((table′ ≡ refiningOf script table work .table)
+    × ((work′ ≡ refiningOf script table work .work)
+    × (Demand1 script table work (answerOf reply) table′ work′
+    × (Demand2 script table work (answerOf reply) table′
+    × Demand3 script table work (answerOf reply) table′))))
+refining-met {script} {table} {work} e = refining-contract script table work (sym e)
+
+pub read-refused :
+    (script table work : List ℕ) {r : Script} {f : Refusal} {reply : Refined} → r ≡ scriptOf (readScript script)
+    → r .verdict ≡ Verdict.Refused f
+    → reply ≡ Refined.Refused f
+    → _≡_ {A = Refining} (record { reply = reply; table = table; work = work }) (refiningOf script table work)
+read-refused script table work e v is =
+    rw is (sym (refining-refused script table work (reading-refused script e v)))
+
+pub read-refined :
+    (script table work : List ℕ) {r : Script} {p q count : ℕ} {reply : Refined} {table′ work′ : List ℕ}
+    → r ≡ scriptOf (readScript script)
+    → r .verdict ≡ Verdict.Admitted p q count
+    → MatchesRefined (matchesOf (take count (r .«left_a»)) (take count (r .«left_b»)) (take count (r .length))
+    (take count (r .reversed))) table work reply table′ work′
+    → _≡_ {A = Refining} (record { reply = reply; table = table′; work = work′ }) (refiningOf script table work)
+read-refined script table work e v refined =
+    refined ∙ sym (refining-admitted script table work (held-admitted (holds-admitted script e v)))

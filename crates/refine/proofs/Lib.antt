@@ -1,2 +1,3 @@
 pub mod RowsLeast
 pub mod Calls
+pub mod Carried

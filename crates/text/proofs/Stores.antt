@@ -2,6 +2,7 @@
 --     sets-append     storing joined lists
 --     sets-next       storing one element more
 --     sets-whole      storing all of them
+--     stored-next, stored-whole     the two as a loop meets them
 --     put-then        so bytes put behind bytes are their join
 --     put-same        and may be named otherwise
 -- Assumes nothing.
@@ -19,15 +20,24 @@ sets-append l i [] vs = ap (λ (k : ℕ). sets l k vs) (omega arith)
 sets-append l i (u ∷ us) vs = sets-append (set l i u) (suc i) us vs
     ∙ ap (λ (k : ℕ). sets (sets (set l i u) (suc i) us) k vs) (omega arith)
 
-pub sets-next : (l : List ℕ) (i : ℕ) (vs : List ℕ) (k : ℕ) → k < length vs
+sets-next : (l : List ℕ) (i : ℕ) (vs : List ℕ) (k : ℕ) → k < length vs
     → sets l i (take (k + 1) vs) ≡ set (sets l i (take k vs)) (i + k) (getD vs k 0)
 sets-next l i vs k h =
     rw (add-one, take-suc vs k 0)
     (sets-append l i (take k vs) (getD vs k 0 ∷ [])
     ∙ ap (λ (n : ℕ). set (sets l i (take k vs)) (i + n) (getD vs k 0)) (length-take-le k vs (omega arith)))
 
-pub sets-whole : (l : List ℕ) (i : ℕ) (vs : List ℕ) (k : ℕ) → length vs ≤ k → sets l i (take k vs) ≡ sets l i vs
+sets-whole : (l : List ℕ) (i : ℕ) (vs : List ℕ) (k : ℕ) → length vs ≤ k → sets l i (take k vs) ≡ sets l i vs
 sets-whole l i vs k h = ap (sets l i) (take-all k vs h)
+
+-- the two as a loop meets them: one byte more is stored, and all of them are
+pub stored-next : (l vs : List ℕ) (i k : ℕ) {t t′ : List ℕ} → k < length vs → t ≡ sets l i (take k vs)
+    → t′ ≡ set t (i + k) (getD vs k 0) → t′ ≡ sets l i (take (k + 1) vs)
+stored-next l vs i k below e stored =
+    stored ∙ ap (λ t. set t (i + k) (getD vs k 0)) e ∙ sym (sets-next l i vs k below)
+
+pub stored-whole : (l vs : List ℕ) (i k : ℕ) {t : List ℕ} → length vs ≤ k → t ≡ sets l i (take k vs) → t ≡ sets l i vs
+stored-whole l vs i k all e = e ∙ sets-whole l i vs k all
 
 pub put-then : {xs ys t t′ t″ : List ℕ} {at at′ at″ : ℕ} → Put xs t at t′ at′ → Put ys t′ at′ t″ at″
     → Put (xs ++ ys) t at t″ at″

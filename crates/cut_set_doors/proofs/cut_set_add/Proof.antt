@@ -1,5 +1,4 @@
--- `cut_set_doors::cut_set_add` meets its contract, as `cut_set::add` does, arm by arm.
--- Assumes nothing.
+-- `cut_set_doors::cut_set_add` meets its contract, as `cut_set::add` does, arm by arm. Assumes nothing.
 use mathlib.Core.Path.{refl, sym}
 use mathlib.Core.Bool.{true≢false}
 use borrow.Author.Needs.{needs}
@@ -10,7 +9,7 @@ read-set-requires : tie.Need-read-set-requires
 read-set-requires c κs = search needs
 
 add-requires : tie.Need-add-requires
-add-requires c κs = rw (c .read-set .ensures) (c .before .before .before .before .before .pre .good)
+add-requires c κs = rw (c .read-set .ensures) (search needs)
 
 enum-known-added : tie.Need-enum-known-added
 enum-known-added c = search needs

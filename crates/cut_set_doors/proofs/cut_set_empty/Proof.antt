@@ -1,5 +1,4 @@
--- `cut_set_doors::cut_set_empty` meets its contract, as `cut_set::empty` does.
--- Assumes nothing.
+-- `cut_set_doors::cut_set_empty` meets its contract, as `cut_set::empty` does. Assumes nothing.
 use borrow.Author.Needs.{needs}
 use Rattle.cut_set_doors.proofs.cut_set_empty.Statement.{statement}
 use Rattle.cut_set_doors.proofs.cut_set_empty.Tie as tie

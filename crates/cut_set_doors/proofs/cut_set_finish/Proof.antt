@@ -1,6 +1,6 @@
--- `cut_set_doors::cut_set_finish` meets its contract, as `cut_set::finish` does.
--- Assumes nothing.
+-- `cut_set_doors::cut_set_finish` meets its contract, as `cut_set::finish` does. Assumes nothing.
 use borrow.Author.Needs.{needs}
+use Rattle.cut_set_doors.proofs.Through.{finished-through}
 use Rattle.cut_set_doors.proofs.cut_set_finish.Statement.{statement}
 use Rattle.cut_set_doors.proofs.cut_set_finish.Tie as tie
 
@@ -8,7 +8,7 @@ read-set-requires : tie.Need-read-set-requires
 read-set-requires c κs = search needs
 
 finish-requires : tie.Need-finish-requires
-finish-requires c κs = rw (c .read-set .ensures) (c .before .before .before .before .before .pre .good)
+finish-requires c κs = rw (c .read-set .ensures) (search needs)
 
 write-set-requires : tie.Need-write-set-requires
 write-set-requires c κs = search needs
@@ -20,10 +20,7 @@ same-length-2 : tie.Need-same-length-2
 same-length-2 c = search needs
 
 returns : tie.Need-returns
-returns c =
-    let read = c .before .before .before .before .before .before .before .read-set .ensures in
-    rw (c .before .before .write-set .ensures, ← read)
-    (c .before .before .before .before .before .before .finish .ensures)
+returns c = search (needs, finished-through)
 
 pub cut-set-finish-spec : {M : Type 1} → statement M
 cut-set-finish-spec =

@@ -1,5 +1,4 @@
--- `cut_set_doors::cut_set_first_found` meets its contract, as `cut_set::first_found` does.
--- Assumes nothing.
+-- `cut_set_doors::cut_set_first_found` meets its contract, as `cut_set::first_found` does. Assumes nothing.
 use borrow.Author.Needs.{needs}
 use Rattle.cut_set_doors.proofs.cut_set_first_found.Statement.{statement}
 use Rattle.cut_set_doors.proofs.cut_set_first_found.Tie as tie
@@ -8,9 +7,7 @@ read-set-requires : tie.Need-read-set-requires
 read-set-requires c κs = search needs
 
 first-found-requires : tie.Need-first-found-requires
-first-found-requires c κs =
-    let pre = c .before .before .before .pre in
-    rw (c .read-set .ensures) (pre .0 .good, pre .1)
+first-found-requires c κs = rw (c .read-set .ensures) (search needs, search needs)
 
 returns : tie.Need-returns
 returns c = rw (c .before .read-set .ensures) at (c .first-found .ensures)

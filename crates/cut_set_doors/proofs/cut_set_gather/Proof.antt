@@ -1,6 +1,6 @@
--- `cut_set_doors::cut_set_gather` meets its contract, as `cut_set::gather` does.
--- Assumes nothing.
+-- `cut_set_doors::cut_set_gather` meets its contract, as `cut_set::gather` does. Assumes nothing.
 use borrow.Author.Needs.{needs}
+use Rattle.cut_set_doors.proofs.Through.{gathered-through}
 use Rattle.cut_set_doors.proofs.cut_set_gather.Statement.{statement}
 use Rattle.cut_set_doors.proofs.cut_set_gather.Tie as tie
 
@@ -8,7 +8,7 @@ read-set-requires : tie.Need-read-set-requires
 read-set-requires c κs = search needs
 
 gather-requires : tie.Need-gather-requires
-gather-requires c κs = rw (c .read-set .ensures) (c .before .before .before .before .before .pre .good)
+gather-requires c κs = rw (c .read-set .ensures) (search needs)
 
 write-set-requires : tie.Need-write-set-requires
 write-set-requires c κs = search needs
@@ -20,10 +20,7 @@ same-length-2 : tie.Need-same-length-2
 same-length-2 c = search needs
 
 returns : tie.Need-returns
-returns c =
-    let read = c .before .before .before .before .before .before .before .read-set .ensures in
-    rw (c .before .before .write-set .ensures, ← read)
-    (c .before .before .before .before .before .before .gather .ensures)
+returns c = search (needs, gathered-through)
 
 pub cut-set-gather-spec : {M : Type 1} → statement M
 cut-set-gather-spec =

@@ -1,5 +1,4 @@
--- `cut_set_doors::cut_set_member` meets its contract, as `cut_set::member` does.
--- Assumes nothing.
+-- `cut_set_doors::cut_set_member` meets its contract, as `cut_set::member` does. Assumes nothing.
 use borrow.Author.Needs.{needs}
 use Rattle.cut_set_doors.proofs.cut_set_member.Statement.{statement}
 use Rattle.cut_set_doors.proofs.cut_set_member.Tie as tie
@@ -8,7 +7,7 @@ read-set-requires : tie.Need-read-set-requires
 read-set-requires c κs = search needs
 
 member-requires : tie.Need-member-requires
-member-requires c κs = rw (c .read-set .ensures) (c .before .before .before .pre .good)
+member-requires c κs = rw (c .read-set .ensures) (search needs)
 
 returns : tie.Need-returns
 returns c = rw (c .before .read-set .ensures) at (c .member .ensures)

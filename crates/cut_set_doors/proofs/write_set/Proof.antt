@@ -1,5 +1,4 @@
--- `cut_set_doors::write_set` meets its contract: six stores one after the other.
--- Assumes nothing.
+-- `cut_set_doors::write_set` meets its contract: six stores one after the other. Assumes nothing.
 use Rattle.cut_set_doors.proofs.Written.{written}
 use lib.ListN.{length-set}
 use borrow.Author.Needs.{needs}

@@ -1,10 +1,7 @@
 -- `read` meets its contract: the first command decides, or opens the loop. The demand follows from the equation.
 -- Assumes nothing.
 use borrow.Author.Needs.{needs}
-use mathlib.Core.Path.{sym, ap, _∙_}
-use Rattle.script.specs.Steps.{openingOf}
-use Rattle.script.specs.Reading.{scriptOf}
-use Rattle.reader.proofs.Progress.{opening-reach, opening-refused}
+use Rattle.reader.proofs.Progress.{opens-script, refuses-script}
 use Rattle.script.proofs.Demands.{reading-contract}
 use Rattle.reader.proofs.read.Statement.{statement}
 use Rattle.reader.proofs.read.Tie as tie
@@ -25,19 +22,10 @@ enum-known-p : tie.Need-enum-known-p
 enum-known-p c = search needs
 
 read-matches-requires : tie.Need-read-matches-requires
-read-matches-requires c κs =
-    let called = c .before .before .before in
-    opening-reach (ap openingOf (sym (called .before .read-command .ensures)) ∙ sym (called .judge-opening .ensures)
-    ∙ c .before .p .given .1)
+read-matches-requires c κs = search (needs, opens-script)
 
 returns : tie.Need-returns
-returns c =
-    let called = c .before .before .before .before in
-    let bytes = called .before .before .before .args .script .now in
-    let opening = ap openingOf (sym (called .before .read-command .ensures)) ∙ sym (called .judge-opening .ensures) in
-    reading-contract bytes
-    (c .refused .ensures ∙ ap scriptOf
-    (sym (opening-refused bytes (opening ∙ c .before .before .refusal .given .1))))
+returns c = reading-contract _ (search (needs, refuses-script))
 
 returns-2 : tie.Need-returns-2
 returns-2 c = reading-contract _ (c .read-matches .ensures)

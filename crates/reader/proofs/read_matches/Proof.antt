@@ -1,13 +1,12 @@
--- `read_matches` meets its contract. The loop keeps `Progress`: good commands alone stand before `at`, and the columns
--- hold their matches. The measure is what is left of the script. Assumes nothing.
+-- `read_matches` meets its contract. The loop keeps `Progress`: good commands alone stand before `at`, and the
+-- columns hold their matches. The measure is what is left of the script. Assumes nothing.
 use Prim.Native.Nat.{_-_}
 use lib.ListN as List
-use mathlib.Core.Path.{refl, sym, ap, _∙_}
+use mathlib.Core.Path.{refl}
 use mathlib.Core.List.{[]}
 use native.Mathlib.Omega.{arith}
-use Rattle.reader.proofs.Progress.{Progress, comes, progress-refused, progress-finished, progress-taken}
+use Rattle.reader.proofs.Progress.{Progress, comes, progress-taken, step-refused, step-finished}
 use Rattle.script.proofs.Outcome.{reach-place, reach-inside}
-use Rattle.script.specs.Reading.{scriptOf}
 use borrow.Author.Needs.{needs}
 use Rattle.reader.proofs.read_matches.Statement.{statement}
 use Rattle.reader.proofs.read_matches.Tie as tie
@@ -36,10 +35,10 @@ loop-holds : tie.Need-loop-holds Inv-loop μ-loop
 loop-holds c =
     record {
       matches = [];
-      reach = c .before .before .before .before .before .pre;
+      reach = search needs;
       columns = record {
         counted = refl;
-        left-a-held = c .before .before .before .zeros .ensures;
+        left-a-held = search needs;
         left-b-held = c .before .before .zeros2 .ensures;
         letters-held = c .before .zeros3 .ensures;
         reversed-held = c .unset .ensures;
@@ -68,22 +67,13 @@ refused-requires : tie.Need-refused-requires Inv-loop μ-loop
 refused-requires c κs = search needs
 
 returns : tie.Need-returns Inv-loop μ-loop
-returns c =
-    let called = c .before .before .before .before in
-    let progress = called .before .before .before .loop .inv in
-    let step = comes progress (called .before .read-command .ensures) (called .judge .ensures)
-    (c .before .before .refusal .given .1) in
-    c .refused .ensures ∙ ap scriptOf (sym (progress-refused progress step))
+returns c = search (needs, step-refused)
 
 enum-told : tie.Need-enum-told Inv-loop μ-loop
 enum-told c = search needs
 
 returns-2 : tie.Need-returns-2 Inv-loop μ-loop
-returns-2 c =
-    let called = c .before .before in
-    let progress = called .before .before .before .loop .inv in
-    progress-finished progress
-    (comes progress (called .before .read-command .ensures) (called .judge .ensures) (c .enum-told .given .1))
+returns-2 c = search (needs, step-finished)
 
 enum-known-found : tie.Need-enum-known-found Inv-loop μ-loop
 enum-known-found c = search needs

@@ -16,13 +16,7 @@ unset-requires : tie.Need-unset-requires
 unset-requires c κs = search needs
 
 returns : tie.Need-returns
-returns c =
-    rw (
-      c .before .before .before .zeros .ensures,
-      c .before .before .zeros2 .ensures,
-      c .before .zeros3 .ensures,
-      c .unset .ensures,
-    )
+returns c = cc
 
 pub refused-spec : {M : Type 1} → statement M
 refused-spec =

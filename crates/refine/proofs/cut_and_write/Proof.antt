@@ -1,8 +1,6 @@
 -- `cut_and_write` meets its contract: the closure's set holds all cuts of A, and the rows between them are the least
--- table.
--- Assumes nothing.
-use mathlib.Core.Path.{refl}
-use Rattle.refine.proofs.Calls.{told-cuts, cuts-writable, rows-tabled}
+-- table. Assumes nothing.
+use Rattle.refine.proofs.Calls.{told-good, crowded-tabled, cuts-writable, rows-tabled}
 use borrow.Author.Needs.{needs}
 use Rattle.refine.proofs.cut_and_write.Statement.{statement}
 use Rattle.refine.proofs.cut_and_write.Tie as tie
@@ -17,9 +15,7 @@ enum-known-set : tie.Need-enum-known-set
 enum-known-set c = search needs
 
 join-requires : tie.Need-join-requires
-join-requires c κs =
-    let answered = c .before .before .before .before .before .before in
-    told-cuts (answered .close .ensures) (c .before .before .set .given .1) .good
+join-requires c κs = search (needs, told-good)
 
 write-rows-requires : tie.Need-write-rows-requires
 write-rows-requires c κs =
@@ -27,18 +23,17 @@ write-rows-requires c κs =
     let set = joined .before .before .before in
     let answered = set .before .before .before .before in
     let start = answered .before .before .before .before .before .before .before .before in
-    let cuts = told-cuts (answered .close .ensures) (set .set .given .1) in (
-      start .pre .0,
-      cuts-writable (start .pre .0) (start .args .table .now) cuts (joined .join .ensures) (start .pre .1 .1),
+    let fit = start .pre .0 in (
+      fit,
+      cuts-writable fit (start .args .table .now) (set .set .given .1) (joined .join .ensures)
+          (answered .close .ensures) (start .pre .1 .1),
     )
 
 same-length : tie.Need-same-length
 same-length c = search needs
 
 returns : tie.Need-returns
-returns c =
-    let answered = c .before .before .before .before in
-    (refl, rw (c .enum-told .given .1) at (answered .close .ensures), refl)
+returns c = search (needs, crowded-tabled)
 
 same-length-2 : tie.Need-same-length-2
 same-length-2 c = search needs
@@ -53,8 +48,8 @@ returns-2 c =
     let set = joined .before .before .before in
     let answered = set .before .before .before .before in
     let start = answered .before .before .before .before .before .before .before .before in
-    let cuts = told-cuts (answered .close .ensures) (set .set .given .1) in
-    rows-tabled (start .pre .0) (start .args .table .now) cuts (joined .join .ensures) (written .write-rows .ensures)
+    rows-tabled (start .pre .0) (start .args .table .now) (set .set .given .1) (joined .join .ensures)
+    (answered .close .ensures) (written .write-rows .ensures)
 
 pub cut-and-write-spec : {M : Type 1} → statement M
 cut-and-write-spec =

@@ -15,13 +15,7 @@ count-classes-requires : tie.Need-count-classes-requires
 count-classes-requires c κs = search needs
 
 returns : tie.Need-returns
-returns c =
-    rw (
-      c .before .before .before .row-count .ensures,
-      c .before .before .count-distinct .ensures,
-      c .before .add-lengths .ensures,
-      c .count-classes .ensures,
-    )
+returns c = cc
 
 pub sum-up-spec : {M : Type 1} → statement M
 sum-up-spec =

@@ -1,11 +1,11 @@
 -- `put_bytes` meets its contract. The loop has stored the first k bytes; the measure is what is left of them.
 -- Assumes nothing.
-use mathlib.Core.Path.{_≡_, sym, ap, _∙_}
-use Prim.Native.Nat.{_+_, _-_, _≤_, _<_}
+use mathlib.Core.Path.{_≡_, ap, _∙_}
+use Prim.Native.Nat.{_-_, _≤_}
 use native.Mathlib.Omega.{arith}
-use lib.ListN.{length, getD, take, set}
+use lib.ListN.{length, take}
 use lib.Seq.{sets, length-sets}
-use Rattle.text.proofs.Stores.{sets-next, sets-whole}
+use Rattle.text.proofs.Stores.{stored-next, stored-whole}
 use borrow.Author.Needs.{needs}
 use Rattle.text.proofs.put_bytes.Statement.{statement}
 use Rattle.text.proofs.put_bytes.Tie as tie
@@ -35,16 +35,7 @@ loop-less : tie.Need-loop-less Inv-loop μ-loop
 loop-less c = search needs
 
 loop-again : tie.Need-loop-again Inv-loop μ-loop
-loop-again c =
-    let turn = c .before .before .before .before .before .before in
-    let start = turn .before .before .before in
-    let more : turn .loop .k < length (start .args .bytes .now) = omega arith in (
-      omega arith,
-      c .before .before .put-byte .ensures .stored
-          ∙ ap (λ l. set l (start .args .at + turn .loop .k) (getD (start .args .bytes .now) (turn .loop .k) 0))
-          (turn .loop .inv .1)
-          ∙ sym (sets-next (start .args .text .now) (start .args .at) (start .args .bytes .now) (turn .loop .k) more),
-    )
+loop-again c = (omega arith, search (needs, stored-next))
 
 add-result : tie.Need-add-result Inv-loop μ-loop
 add-result c = search needs
@@ -53,14 +44,7 @@ same-length : tie.Need-same-length Inv-loop μ-loop
 same-length c = ap length (c .before .loop .inv .1) ∙ simp length-sets
 
 returns : tie.Need-returns Inv-loop μ-loop
-returns c =
-    let start = c .before .before .before .before in
-    record {
-      place = omega arith;
-      stored = c .before .loop .inv .1
-          ∙ sets-whole (start .args .text .now) (start .args .at) (start .args .bytes .now) (c .before .loop .k)
-          (c .loop-test .left);
-    }
+returns c = record { place = omega arith; stored = search (needs, stored-whole) }
 
 pub put-bytes-spec : {M : Type 1} → statement M
 put-bytes-spec =
