@@ -18,7 +18,8 @@ use lib.Dec.{lit<}
 use lib.Seq.{getD-append-seam, getD-set-same, getD-set-other}
 use Rattle.rows.specs.Rows.{rowAt}
 use Rattle.table.specs.Distinct.{same, occurs}
-use Rattle.distinct_pieces.specs.Store.{mostShares, storeSize, spot, shareOf, bucketOf, Last, bucketAt, Store, storedRows}
+use Rattle.distinct_pieces.specs.Store.{mostShares, storeSize, spot, shareOf, bucketOf, Last}
+use Rattle.distinct_pieces.specs.Store.{bucketAt, Store, storedRows}
 use Rattle.rows.specs.declared.Row.{Row}
 use Rattle.table.proofs.Pieces.{false-of, never-both, same-fields, occurs-at, occurs-where}
 

@@ -4,16 +4,16 @@
 --     put-refused          the line of a refusal
 --     put-parts            the text of a table
 --     row-lines-more       the lines of the first rows, with one more
---     class-lines-more     and of the first classes
+--     classes-put-more, classes-put-all     and of the first classes, and of all
 -- Assumes nothing.
-use Prim.Native.Nat.{ℕ, suc, _+_, _<_}
+use Prim.Native.Nat.{ℕ, suc, _+_, _≤_, _<_}
 use mathlib.Core.Path.{_≡_, refl, sym, ap, _∙_}
 use mathlib.Core.List.{List, [], _∷_, _++_, append-assoc, append-nil}
 use native.Mathlib.Omega.{arith}
 use native.Mathlib.Nat.{add-zero}
 use native.Mathlib.Numerals.{add-one}
 use lib.ListN.{length, getD, take}
-use lib.Seq.{take-suc, length-take-le}
+use lib.Seq.{take-suc, take-all, length-take-le}
 use Rattle.script.specs.Refusals.{numberOf, placeOf}
 use Rattle.script.specs.declared.refusal.Refusal.{Refusal}
 use Rattle.rows.specs.Rows.{rowAt}
@@ -96,10 +96,23 @@ class-lines-last c (x ∷ ns) n =
     (sym (append-assoc (classLine c x) (classLines (suc c) ns) (classLine (suc c + length ns) n))
     ∙ ap (λ (k : ℕ). classLine c x ++ classLines (suc c) ns ++ classLine k n) (omega arith))
 
-pub class-lines-more : (ns : List ℕ) (k : ℕ) → k < length ns
+class-lines-more : (ns : List ℕ) (k : ℕ) → k < length ns
     → classLines 0 (take k ns) ++ classLine k (getD ns k 0) ≡ classLines 0 (take (k + 1) ns)
 class-lines-more ns k h =
     let here : 0 + length (take k ns) ≡ k = omega (arith, length-take-le k ns (omega arith)) in
     rw (add-one, take-suc ns k 0)
     (sym (class-lines-last 0 (take k ns) (getD ns k 0)
     ∙ ap (λ (j : ℕ). classLines 0 (take k ns) ++ classLine j (getD ns k 0)) here))
+
+-- ---- one line more, as a loop meets it
+
+pub classes-put-more :
+    (ns : List ℕ) (k : ℕ) {t₀ t₁ t₂ : List ℕ} {k₀ k₁ k₂ : ℕ} → k < length ns
+    → Put (classLines 0 (take k ns)) t₀ k₀ t₁ k₁
+    → Put (classLine k (getD ns k 0)) t₁ k₁ t₂ k₂
+    → Put (classLines 0 (take (k + 1) ns)) t₀ k₀ t₂ k₂
+classes-put-more ns k h p q = put-same (class-lines-more ns k h) (put-then p q)
+
+pub classes-put-all : (ns : List ℕ) (k : ℕ) {t t′ : List ℕ} {at at′ : ℕ} → length ns ≤ k
+    → Put (classLines 0 (take k ns)) t at t′ at′ → Put (classLines 0 ns) t at t′ at′
+classes-put-all ns k h p = put-same (ap (classLines 0) (take-all k ns h)) p

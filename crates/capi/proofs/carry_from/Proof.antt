@@ -1,6 +1,6 @@
 -- `carry_from` meets its contract: it hands out what `carry` answers. Assumes nothing.
-use mathlib.Core.Path.{sym, _∙_}
 use borrow.Author.Needs.{needs}
+use Rattle.capi.proofs.Handed.{carry-given, carry-refused}
 use Rattle.capi.proofs.carry_from.Statement.{statement}
 use Rattle.capi.proofs.carry_from.Tie as tie
 
@@ -20,18 +20,10 @@ number-of-requires : tie.Need-number-of-requires
 number-of-requires c κs = search needs
 
 returns : tie.Need-returns
-returns c =
-    let called = c .before .before .before in
-    rw (sym (called .carry .ensures .0) ∙ c .before .x .given .1)
+returns c = search (needs, carry-given)
 
 returns-2 : tie.Need-returns-2
-returns-2 c =
-    let told = c .before .before .before in
-    rw (
-      sym (told .before .before .carry .ensures .0) ∙ told .refusal .given .1,
-      c .before .place-of .ensures,
-      c .number-of .ensures,
-    )
+returns-2 c = search (needs, carry-refused)
 
 pub carry-from-spec : {M : Type 1} → statement M
 carry-from-spec =

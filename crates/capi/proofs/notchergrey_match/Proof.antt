@@ -1,6 +1,7 @@
 -- `notchergrey_match` meets its contract: it hands out what `find_match` finds. Assumes nothing.
 use mathlib.Core.Path.{sym, _∙_}
 use borrow.Author.Needs.{needs}
+use Rattle.capi.proofs.Handed.{match-refused}
 use Rattle.capi.proofs.notchergrey_match.Statement.{statement}
 use Rattle.capi.proofs.notchergrey_match.Tie as tie
 
@@ -28,13 +29,7 @@ returns c =
     rw (sym (found .before .before .find-match .ensures .0) ∙ found .found .given .1, c .bit .ensures)
 
 returns-2 : tie.Need-returns-2
-returns-2 c =
-    let told = c .before .before .before in
-    rw (
-      sym (told .before .before .find-match .ensures .0) ∙ told .refusal .given .1,
-      c .before .place-of .ensures,
-      c .number-of .ensures,
-    )
+returns-2 c = search (needs, match-refused)
 
 pub notchergrey-match-spec : {M : Type 1} → statement M
 notchergrey-match-spec =

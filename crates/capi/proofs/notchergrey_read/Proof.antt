@@ -1,6 +1,6 @@
 -- `notchergrey_read` meets its contract: the verdict tells the reading. Assumes nothing.
 use borrow.Author.Needs.{needs}
-use Rattle.script.proofs.Admitted.{holds-admitted, reading-refused}
+use Rattle.capi.proofs.Handed.{read-given, read-refused}
 use Rattle.capi.proofs.notchergrey_read.Statement.{statement}
 use Rattle.capi.proofs.notchergrey_read.Tie as tie
 
@@ -20,20 +20,10 @@ number-of-requires : tie.Need-number-of-requires
 number-of-requires c κs = search needs
 
 returns : tie.Need-returns
-returns c =
-    let bytes = c .before .before .before .before .before .args .script .now in
-    let held = holds-admitted bytes (c .before .before .before .read .ensures .0) (c .before .verdict .given .1) in
-    rw (held .read, held .counted)
+returns c = search (needs, read-given)
 
 returns-2 : tie.Need-returns-2
-returns-2 c =
-    let told = c .before .before .before in
-    let bytes = told .before .before .before .before .args .script .now in
-    rw (
-      reading-refused bytes (told .before .before .read .ensures .0) (told .verdict2 .given .1),
-      c .before .place-of .ensures,
-      c .number-of .ensures,
-    )
+returns-2 c = search (needs, read-refused)
 
 pub notchergrey-read-spec : {M : Type 1} → statement M
 notchergrey-read-spec =

@@ -1,6 +1,6 @@
 -- `notchergrey_refine` meets its contract: it hands out what `refine` answers and leaves. Assumes nothing.
-use mathlib.Core.Path.{sym, _∙_}
 use borrow.Author.Needs.{needs}
+use Rattle.capi.proofs.Handed.{refine-given, refine-refused}
 use Rattle.capi.proofs.notchergrey_refine.Statement.{statement}
 use Rattle.capi.proofs.notchergrey_refine.Tie as tie
 
@@ -26,10 +26,7 @@ same-length-2 : tie.Need-same-length-2
 same-length-2 c = search needs
 
 returns : tie.Need-returns
-returns c =
-    let called = c .before .before .before .before .before .before .before in
-    let told = sym (called .refine .ensures .0) ∙ c .before .n .given .1 in
-    (rw told, (called .refine .ensures .1 .0, called .refine .ensures .1 .1 .0))
+returns c = search (needs, refine-given)
 
 same-length-3 : tie.Need-same-length-3
 same-length-3 c = search needs
@@ -38,16 +35,7 @@ same-length-4 : tie.Need-same-length-4
 same-length-4 c = search needs
 
 returns-2 : tie.Need-returns-2
-returns-2 c =
-    let refused = c .before .before .before in
-    let called = refused .before .before .before .before .before .before in
-    let told = sym (called .refine .ensures .0) ∙ refused .refusal .given .1 in (
-      rw (told, c .before .place-of .ensures, c .number-of .ensures),
-      (
-        called .refine .ensures .1 .0,
-        called .refine .ensures .1 .1 .0,
-      ),
-    )
+returns-2 c = search (needs, refine-refused)
 
 pub notchergrey-refine-spec : {M : Type 1} → statement M
 notchergrey-refine-spec =

@@ -1,6 +1,6 @@
 -- `notchergrey_report` meets its contract: it hands out what `report` answers and leaves. Assumes nothing.
-use mathlib.Core.Path.{sym, _∙_}
 use borrow.Author.Needs.{needs}
+use Rattle.capi.proofs.Handed.{report-printed, report-short}
 use Rattle.capi.proofs.notchergrey_report.Statement.{statement}
 use Rattle.capi.proofs.notchergrey_report.Tie as tie
 
@@ -17,19 +17,13 @@ same-length : tie.Need-same-length
 same-length c = search needs
 
 returns : tie.Need-returns
-returns c =
-    let called = c .before .before .before .before .before in
-    let told = sym (called .report .ensures .0) ∙ c .before .n .given .1 in
-    (rw told, called .report .ensures .1)
+returns c = search (needs, report-printed)
 
 same-length-2 : tie.Need-same-length-2
 same-length-2 c = search needs
 
 returns-2 : tie.Need-returns-2
-returns-2 c =
-    let called = c .before .before .before .before .before in
-    let told = sym (called .report .ensures .0) ∙ c .before .n2 .given .1 in
-    (rw told, called .report .ensures .1)
+returns-2 c = search (needs, report-short)
 
 pub notchergrey-report-spec : {M : Type 1} → statement M
 notchergrey-report-spec =

@@ -1,3 +1,5 @@
+-- `count_distinct` meets its contract. The loop has counted the pieces of the shares so far; the measure is how many
+-- shares are left. Assumes nothing.
 use Prim.Native.Nat.{_+_, _-_, _≤_, zero-le}
 use mathlib.Core.Path.{_≡_, sym, _∙_}
 use mathlib.Core.List.{[]}

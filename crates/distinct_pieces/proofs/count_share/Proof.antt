@@ -1,3 +1,5 @@
+-- `count_share` meets its contract. The loop keeps `Dealt`: the share's pieces among the first k rows are counted, and
+-- the store holds them as far as it has room; the measure is how many rows are left. Assumes nothing.
 use Prim.Native.Nat.{_-_}
 use mathlib.Core.Path.{sym, _∙_}
 use native.Mathlib.Omega.{arith}

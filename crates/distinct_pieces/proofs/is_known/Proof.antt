@@ -1,3 +1,4 @@
+-- `is_known` meets its contract: a piece of the share is stored, or the rows before are searched. Assumes nothing.
 use mathlib.Core.Path.{sym, _∙_}
 use borrow.Author.Needs.{needs}
 use Rattle.distinct_pieces.proofs.Passes.{known-stored, known-missing}

@@ -1,3 +1,5 @@
+-- `is_stored` meets its contract. The loop keeps `Walk`: no stored row from `next` on is the piece; the measure is
+-- `next`, which falls. Assumes nothing.
 use Prim.Native.Nat.{_-_}
 use mathlib.Core.Path.{_≡_, sym, _∙_}
 use native.Mathlib.Omega.{arith}

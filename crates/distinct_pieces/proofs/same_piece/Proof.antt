@@ -1,3 +1,4 @@
+-- `same_piece` meets its contract: field by field. Assumes nothing.
 use borrow.Author.Tests.{eq-eqb, ne-eqb}
 use Rattle.distinct_pieces.proofs.same_piece.Statement.{statement}
 use Rattle.distinct_pieces.proofs.same_piece.Tie as tie

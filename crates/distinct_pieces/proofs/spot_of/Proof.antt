@@ -1,3 +1,4 @@
+-- `spot_of` meets its contract: no product leaves 64 bits. Assumes nothing.
 use native.Mathlib.Omega.{arith}
 use borrow.Author.Needs.{needs}
 use Rattle.distinct_pieces.proofs.Buckets.{spot-fits}

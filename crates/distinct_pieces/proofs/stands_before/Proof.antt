@@ -1,3 +1,5 @@
+-- `stands_before` meets its contract. No row before j is the same piece; the measure is how many rows are left.
+-- Assumes nothing.
 use Prim.Native.Nat.{ℕ, _-_, _≤_, _<_}
 use mathlib.Core.Bool.{true}
 use mathlib.Core.Path.{_≡_, sym, _∙_}

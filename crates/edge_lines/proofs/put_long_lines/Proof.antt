@@ -23,12 +23,7 @@ same-length c = search needs
 
 returns : tie.Need-returns
 unfolding placesWithin
-returns c =
-    let second = c .before .before in
-    let first = second .before .before .before .before .before .before in (
-      put-then (first .put-read .ensures .0) (second .put-read2 .ensures .0),
-      omega (arith, first .put-read .ensures .1),
-    )
+returns c = (search (needs, put-then), omega arith)
 
 pub put-long-lines-spec : {M : Type 1} → statement M
 put-long-lines-spec =

@@ -38,15 +38,7 @@ same-length c = search needs
 
 returns : tie.Need-returns
 unfolding placesWithin
-returns c =
-    let on-b = c .before .before in
-    let on-a = on-b .before .before .before .before .before .before .before in
-    let rows = on-a .before .before .before .before .before .before .before .before in (
-      put-then
-          (put-then (rows .put-refined .ensures .0) (on-a .put-carried-lines .ensures .0))
-          (on-b .put-carried-lines2 .ensures .0),
-      omega (arith, rows .put-refined .ensures .1, on-a .put-carried-lines .ensures .1),
-    )
+returns c = (search (needs, put-then), omega arith)
 
 pub put-touching-lines-spec : {M : Type 1} → statement M
 put-touching-lines-spec =

@@ -29,12 +29,7 @@ same-length c = search needs
 
 returns : tie.Need-returns
 unfolding placesWithin
-returns c =
-    let second = c .before .before .before in
-    let first = second .before .before .before .before .before .before .before .before in (
-      put-then (first .put-refined .ensures .0) (second .put-refined2 .ensures .0),
-      omega (arith, first .put-refined .ensures .1),
-    )
+returns c = (search (needs, put-then), omega arith)
 
 pub put-work-lines-spec : {M : Type 1} → statement M
 put-work-lines-spec =

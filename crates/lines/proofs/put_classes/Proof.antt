@@ -1,16 +1,15 @@
 -- `put_classes` meets its contract. The loop has put the lines of the first classes; the measure is how many are left.
 -- Assumes nothing.
-use Prim.Native.Nat.{_-_, _≤_, _<_}
+use Prim.Native.Nat.{_-_, _≤_}
 use mathlib.Core.Path.{ap, _∙_}
 use native.Mathlib.Omega.{arith}
 use lib.ListN.{length, take}
-use lib.Seq.{take-all, length-sets, length-take-le}
+use lib.Seq.{length-sets, length-take-le}
 use borrow.Author.Needs.{needs}
 use Rattle.text.specs.Putting.{Put}
-use Rattle.text.proofs.Stores.{put-then, put-same}
 use Rattle.reporting.specs.Lines.{classLines}
 use Rattle.reporting.proofs.Bounds.{class-lines-short}
-use Rattle.lines.proofs.Putting.{put-none, class-lines-more}
+use Rattle.lines.proofs.Putting.{put-none, classes-put-more, classes-put-all}
 use Rattle.lines.proofs.put_classes.Statement.{statement}
 use Rattle.lines.proofs.put_classes.Tie as tie
 
@@ -45,24 +44,13 @@ loop-less : tie.Need-loop-less Inv-loop μ-loop
 loop-less c = search needs
 
 loop-again : tie.Need-loop-again Inv-loop μ-loop
-loop-again c =
-    let called = c .before .before in
-    let turn = called .before .before .before .before in
-    let counts = turn .before .before .before .args .counts .now in
-    let more : turn .loop .class < length counts = omega arith in (
-      omega arith,
-      put-same (class-lines-more counts (turn .loop .class) more)
-          (put-then (turn .loop .inv .1) (called .put-class .ensures)),
-    )
+loop-again c = (omega arith, search (needs, classes-put-more))
 
 same-length : tie.Need-same-length Inv-loop μ-loop
 same-length c = ap length (c .before .loop .inv .1 .stored) ∙ simp length-sets
 
 returns : tie.Need-returns Inv-loop μ-loop
-returns c =
-    let counts = c .before .before .before .before .args .counts .now in
-    put-same (ap (classLines 0) (take-all (c .before .loop .class) counts (c .loop-test .left)))
-    (c .before .loop .inv .1)
+returns c = search (needs, classes-put-all)
 
 pub put-classes-spec : {M : Type 1} → statement M
 put-classes-spec =

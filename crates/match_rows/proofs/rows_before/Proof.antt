@@ -1,3 +1,5 @@
+-- `rows_before` meets its contract. The rows before k are before the match's, and the rest is counted from k on; the
+-- measure is how many rows are left. Assumes nothing.
 use Prim.Native.Nat.{_+_, _-_, _≤_}
 use mathlib.Core.Bool.{not}
 use mathlib.Core.Path.{_≡_, ap}

@@ -1,3 +1,4 @@
+-- `rows_of` meets its contract: the part of the table that `span_of` names. Assumes nothing.
 use Prim.Native.Nat.{ℕ, _+_, _-_, _≤_}
 use mathlib.Core.Path.{_≡_, ap, ap₂}
 use native.Mathlib.Omega.{arith}

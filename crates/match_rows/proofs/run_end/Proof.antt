@@ -1,3 +1,5 @@
+-- `run_end` meets its contract. Counted from k on, the run ends where it does from the start; the measure is how
+-- many rows are left. Assumes nothing.
 use Prim.Native.Nat.{_+_, _-_, _≤_}
 use mathlib.Core.Path.{_≡_}
 use native.Mathlib.Omega.{arith}

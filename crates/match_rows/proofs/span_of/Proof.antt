@@ -1,3 +1,5 @@
+-- `span_of` meets its contract: the rows of a match stand from the first of them to the end of their run.
+-- Assumes nothing.
 use Prim.Native.Nat.{_*_, _≤_}
 use native.Mathlib.Omega.{arith}
 use lib.ListN.{length, drop, length-drop}

@@ -1,3 +1,4 @@
+-- `row_at` meets its contract: a row that is there has all its numbers in the table. Assumes nothing.
 use native.Mathlib.Omega.{arith}
 use Prim.Native.Nat.{_≤_, _+_, _*_}
 use lib.ListN.{length}

@@ -1,3 +1,4 @@
+-- `row_count` meets its contract: as many rows as the table has whole ones. Assumes nothing.
 use mathlib.Core.Path.{sym}
 use Rattle.rows.proofs.TableRows.{rows-length}
 use Rattle.rows.proofs.row_count.Statement.{statement}

@@ -1,3 +1,5 @@
+-- `add_lengths` meets its contract. The loop has added the lengths of the first k rows, modulo 2^64; the measure is how
+-- many rows are left. Assumes nothing.
 use Prim.Native.Nat.{_-_, _%_, _^_, _≤_, zero-le}
 use mathlib.Core.Path.{_≡_, refl, _∙_}
 use native.Mathlib.Omega.{arith}

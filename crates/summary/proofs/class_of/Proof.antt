@@ -1,3 +1,4 @@
+-- `class_of` meets its contract: the leading zeros of a length tell its class. Assumes nothing.
 use Prim.Native.Nat.{_-_}
 use mathlib.Core.Path.{sym, _∙_}
 use native.Mathlib.Omega.{arith}

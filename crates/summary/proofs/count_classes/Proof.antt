@@ -1,3 +1,5 @@
+-- `count_classes` meets its contract. The loop has counted the classes of the first k rows; the measure is how many
+-- rows are left. Assumes nothing.
 use Prim.Native.Nat.{ℕ, _-_, _≤_, zero-le}
 use mathlib.Core.List.{List}
 use mathlib.Core.Path.{_≡_, refl, ap, _∙_}

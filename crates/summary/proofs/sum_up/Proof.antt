@@ -1,3 +1,4 @@
+-- `sum_up` meets its contract: each field is what its call counts. Assumes nothing.
 use borrow.Author.Needs.{needs}
 use Rattle.summary.proofs.sum_up.Statement.{statement}
 use Rattle.summary.proofs.sum_up.Tie as tie

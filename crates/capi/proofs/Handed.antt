@@ -1,0 +1,81 @@
+-- What a door hands out, by what the call of the library says.
+--     read-given, read-refused                  the door for reading
+--     match-refused                             the door for one match
+--     refine-given, refine-refused              the door for refining
+--     carry-given, carry-refused                the doors for carrying
+--     report-printed, report-short              the door for the text
+-- Assumes nothing.
+use Prim.Native.Nat.{ℕ}
+use mathlib.Core.Path.{_≡_, sym, _∙_}
+use mathlib.Core.List.{List}
+use Rattle.script.specs.Refusals.{numberOf, placeOf}
+use Rattle.script.specs.Reading.{readScript, scriptOf}
+use Rattle.script.specs.Finding.{findingOf}
+use Rattle.script.specs.declared.refusal.Refusal.{Refusal}
+use Rattle.script.specs.declared.Finding.{Finding}
+use Rattle.script.specs.declared.Script.{Script}
+use Rattle.script.specs.declared.Verdict.{Verdict}
+use Rattle.script.proofs.Admitted.{holds-admitted, reading-refused}
+use Rattle.refinement.specs.declared.Side.{Side}
+use Rattle.refining.specs.Refining.{refiningOf}
+use Rattle.refining.specs.Carrying.{carryingOf}
+use Rattle.refining.specs.declared.answers.Refined.{Refined}
+use Rattle.refining.specs.declared.answers.Carried.{Carried}
+use Rattle.capi.specs.Doors.{Reply, Read, OneMatch, readDoor, matchDoor, refineDoor, carryDoor, reportDoor}
+use Rattle.capi.specs.Doors.{ReportReply}
+use Rattle.reporting.specs.Reporting.{reportingOf}
+use Rattle.reporting.specs.declared.Reported.{Reported}
+
+module _ (script : List ℕ) (was-place : ℕ) (was : Read) {r : Script} (reads : r ≡ scriptOf (readScript script)) where
+  pub read-given : {p q count : ℕ} → r .verdict ≡ Verdict.Admitted p q count
+      → _≡_ {A = Reply Read} (record { number = 0; place = was-place; given = record { p = p; q = q; count = count } })
+      (readDoor script was-place was)
+  read-given v = let held = holds-admitted script reads v in rw (held .read, held .counted)
+
+  pub read-refused : {f : Refusal} {number place : ℕ} → r .verdict ≡ Verdict.Refused f → number ≡ numberOf f
+      → place ≡ placeOf f
+      → _≡_ {A = Reply Read} (record { number = number; place = place; given = was }) (readDoor script was-place was)
+  read-refused v n p = rw (reading-refused script reads v, n, p)
+
+module _ (script : List ℕ) (index was-place : ℕ) (was : OneMatch) {finding : Finding}
+    (finds : finding ≡ findingOf (readScript script) index) where
+  pub match-refused : {f : Refusal} {number place : ℕ} → finding ≡ Finding.Refused f → number ≡ numberOf f
+      → place ≡ placeOf f
+      → _≡_ {A = Reply OneMatch} (record { number = number; place = place; given = was })
+      (matchDoor script index was-place was)
+  match-refused e n p = rw (sym finds ∙ e, n, p)
+
+module _ (script table work : List ℕ) (was-place was : ℕ) {reply : Refined}
+    (replies : reply ≡ refiningOf script table work .reply) where
+  pub refine-given : {rows : ℕ} → reply ≡ Refined.Rows rows
+      → _≡_ {A = Reply ℕ} (record { number = 0; place = was-place; given = rows })
+      (refineDoor script table work was-place was)
+  refine-given e = rw (sym replies ∙ e)
+
+  pub refine-refused : {f : Refusal} {number place : ℕ} → reply ≡ Refined.Refused f → number ≡ numberOf f
+      → place ≡ placeOf f
+      → _≡_ {A = Reply ℕ} (record { number = number; place = place; given = was })
+      (refineDoor script table work was-place was)
+  refine-refused e n p = rw (sym replies ∙ e, n, p)
+
+module _ (side : Side) (script : List ℕ) (index position was-place was : ℕ) {reply : Carried}
+    (replies : reply ≡ carryingOf script index side position) where
+  pub carry-given : {to : ℕ} → reply ≡ Carried.To to
+      → _≡_ {A = Reply ℕ} (record { number = 0; place = was-place; given = to })
+      (carryDoor side script index position was-place was)
+  carry-given e = rw (sym replies ∙ e)
+
+  pub carry-refused : {f : Refusal} {number place : ℕ} → reply ≡ Carried.Refused f → number ≡ numberOf f
+      → place ≡ placeOf f
+      → _≡_ {A = Reply ℕ} (record { number = number; place = place; given = was })
+      (carryDoor side script index position was-place was)
+  carry-refused e n p = rw (sym replies ∙ e, n, p)
+
+module _ (script text : List ℕ) {reply : Reported} (replies : reply ≡ reportingOf script text .reply) {n : ℕ} where
+  pub report-printed : reply ≡ Reported.Printed n
+      → _≡_ {A = ReportReply} (record { number = 0; length = n }) (reportDoor script text)
+  report-printed e = rw (sym replies ∙ e)
+
+  pub report-short : reply ≡ Reported.TextTooShort n
+      → _≡_ {A = ReportReply} (record { number = 16; length = n }) (reportDoor script text)
+  report-short e = rw (sym replies ∙ e)
