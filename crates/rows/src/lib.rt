@@ -16,7 +16,7 @@ pub struct Row {
     pub direction: u32,
 }
 
-// Numbers at the end that form no row are none.
+// How many rows the table has. Up to four numbers at its end that form no row are ignored.
 pub fn row_count(table: &[u32]) -> usize
     ensures { λ r. ⌜ r ≡ length (rowsOf (now (table .entry))) ⌝ }
 {
