@@ -17,7 +17,7 @@ ghost use Rattle.text.specs.Putting.{Put};
 ghost use Rattle.edge_lines.specs.Scripts.{many};
 ghost use Rattle.edge_lines.specs.Lines.{carriedLine, workLines, touchingLines, longLines, manyLines, edgeLines};
 
-// "With 40 numbers of table, 32 of work pass and 31 give 11."
+// With a table of 40 numbers, 32 of work are enough and 31 are not.
 fn put_work_lines(text: &mut [u8], at: usize) -> usize
     requires { ⌜ at ≤ 200 ⌝ }
     ensures { λ r. ⌜ Put workLines (now (text .entry)) at (now (text .exit)) r ⌝ }
@@ -51,7 +51,7 @@ fn put_carried_lines(
     put_carried(text, next, second, script, 2, side, 4)
 }
 
-// "Lengths 8 8, direct 0 0 4, direct 4 4 4: 2 pieces; position 4 belongs to both."
+// Two matches that touch at the position 4, which belongs to both.
 fn put_touching_lines(text: &mut [u8], at: usize) -> usize
     requires { ⌜ at ≤ 200 ⌝ }
     ensures { λ r. ⌜ Put touchingLines (now (text .entry)) at (now (text .exit)) r ⌝ }
@@ -79,7 +79,7 @@ fn put_touching_lines(text: &mut [u8], at: usize) -> usize
     )
 }
 
-// "Lengths 1000000000 1, end: passes. Lengths 1000000001 1: 5 at 0."
+// The longest sequence, and one letter more.
 fn put_long_lines(text: &mut [u8], at: usize) -> usize
     requires { ⌜ at ≤ 600 ⌝ }
     ensures { λ r. ⌜ Put longLines (now (text .entry)) at (now (text .exit)) r ⌝ }
@@ -106,7 +106,7 @@ fn put_many(script: &mut [u8], count: usize)
     put_byte(script, at, b'E');
 }
 
-// "2,048 matches pass the reader; one more gives 6 at 26633."
+// The most matches, and one more.
 fn put_many_lines(text: &mut [u8], at: usize) -> usize
     requires { ⌜ at ≤ 800 ⌝ }
     ensures { λ r. ⌜ Put manyLines (now (text .entry)) at (now (text .exit)) r ⌝ }

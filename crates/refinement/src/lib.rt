@@ -5,7 +5,7 @@ ghost use mathlib.Core.Bool.{true};
 ghost use Prim.Native.Nat.{_+_, _<_, _^_};
 ghost use Rattle.refinement.specs.Match.{other, onSide, spanned, carryOver};
 
-// 01: "The side is a choice of two, and no third can be given."
+// SCOPE, "Sides": a choice of two.
 pub enum Side {
     A,
     B,

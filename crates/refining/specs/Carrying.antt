@@ -26,12 +26,12 @@ use Rattle.refining.specs.Demands.{Admitted}
 use Rattle.refining.specs.declared.answers.Carried.{Carried}
 use Rattle.refining.specs.declared.answers.Carried.the-variants.{To, Refused}
 
--- over one match: carried if the match spans the position on the side named, "both ends included", and else 14
+-- SCOPE, "Spans": over one match, carried if it spans the position on the side named, its two ends too, and else 14
 abbrev pub carryingOver : Match → Side → ℕ → Carried
 carryingOver m side position =
     cond (spanned (left m side) (m .length) position) (To (carry m side position)) (Refused OffTheMatch)
 
--- "Carrying: the script, 13, 14.": the first two are the finding's
+-- SCOPE, "Order of carrying": the script's refusals and 13 are the finding's, and 14 comes last
 abbrev pub carryingOfFinding : Finding → ℕ → Side → ℕ → Carried
 carryingOfFinding (Finding.Refused r) number side position = Refused r
 carryingOfFinding (Finding.Found m) number side position = carryingOver (withNumber number m) side position

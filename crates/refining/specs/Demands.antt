@@ -36,20 +36,20 @@ use Rattle.refining.specs.Rows.{pieceNumbers}
 use Rattle.refining.specs.Refining.{numbered, capacityOf, workNeeded, zeroed}
 use Rattle.refining.specs.declared.answers.Refined.{Refined}
 
--- "Success returns the count of rows"; "A refusal returns its number and a place."
+-- SCOPE, "Success" and "Place": the count of rows, or a number and a place
 abbrev pub answerOf : Refined → Answer ℕ
 answerOf (Refined.Rows n) = value n
 answerOf (Refined.Refused r) = refusal (numberOf r) (placeOf r)
 
 -- ==== of matches
 
--- "A lent table has room for as many pieces as its capacity."
+-- SCOPE, "Capacity": some resolved refinement has no more rows than there is room for
 pub record Fits (ms : List Match) (capacity : ℕ) : Type 0 where
   pub rows : List Match
   pub resolved : ResolvedRefinement ms [] rows
   pub room : length rows ≤ capacity
 
--- "every resolved refinement exceeds the capacity"; "every refinement, whether or not it would fit a lent table"
+-- SCOPE, "Every refinement": none has so few, also among those that no lent table would hold
 abbrev pub EveryExceeds : List Match → ℕ → Type 0
 EveryExceeds ms capacity = (rs : List Match) → ResolvedRefinement ms [] rs → capacity < length rs
 
@@ -68,13 +68,13 @@ pub data MatchesOutcome (ms : List Match) (table work : List ℕ) : Answer ℕ �
       → length rs ≤ capacityOf table → MatchesOutcome ms table work (value (length rs))
 
 pub record Leaves (table work : List ℕ) (answer : Answer ℕ) (table′ work′ : List ℕ) : Type 0 where
-  -- "Apart from the work buffer under 12 .. a refused call leaves each lent number unaltered."
+  -- SCOPE, "Kept when refused": a refused call alters nothing but the work buffer, and that under 12 alone
   pub refused-table : (number place : ℕ) → answer ≡ refusal number place → table′ ≡ table
   pub refused-work : (number place : ℕ) → answer ≡ refusal number place → number ≢ 12 → work′ ≡ work
-  -- "The work buffer is all zero after success and after refusal 12."
+  -- SCOPE, "Work after": zero after success and after 12
   pub crowded-work : (place : ℕ) → answer ≡ refusal 12 place → work′ ≡ zeroed work
   pub success-work : (n : ℕ) → answer ≡ value n → work′ ≡ zeroed work
-  -- "Numbers past the last row keep their old values."
+  -- SCOPE, "Past the rows": the numbers behind the rows stay
   pub past-rows : (n : ℕ) → answer ≡ value n → drop (rowWidth * n) table′ ≡ drop (rowWidth * n) table
   -- a lent buffer stays as long as it was
   pub table-length : length table′ ≡ length table
@@ -90,7 +90,7 @@ pub record MatchesDemand1 (ms : List Match) (table work : List ℕ) (answer : An
 
 -- ---- demand 2: a resolved refinement of all matches that have room
 
--- "the table produced is that many rows from the lent table's start"
+-- SCOPE, "Success": the rows stand from the start of the lent table on
 pub record Stand (rs : List Match) (n : ℕ) (table : List ℕ) : Type 0 where
   pub count : n ≡ length rs
   pub numbers : take (rowWidth * n) table ≡ pieceNumbers rs
@@ -99,7 +99,7 @@ pub record Stand (rs : List Match) (n : ℕ) (table : List ℕ) : Type 0 where
 pub record Pieces (ms : List Match) (n : ℕ) (table : List ℕ) : Type 0 where
   pub rows : List Match
   pub stand : Stand rows n table
-  -- "Rows rise by match number, then by left-A."
+  -- SCOPE, "Order": by match number, and for one match by left-A
   pub in-order : Rising Before rows
   -- by 01's words, and by the source's Definitions 1 and 2
   pub resolved : ResolvedRefinement ms [] rows
@@ -136,12 +136,11 @@ pub record MatchesDemand3 (ms : List Match) (table work : List ℕ) (answer : An
 
 -- ==== of a script
 
--- "A script is admitted if its bytes meet no condition of refusals 1 to 10"; "Matches are numbered from 1 in script
--- order."
+-- SCOPE, "Admitted" and "Numbering": no refusal's condition is met, and the matches have the numbers from 1 on
 pub data Admitted (script : List ℕ) : List Match → Type 0 where
   reads : {p q : ℕ} {ms : List ScriptMatch} → Outcome script (value (contents p q ms)) → Admitted script (numbered 1 ms)
 
--- what may come of a call: "Refining: the script, 11, 12."
+-- what may come of a call. SCOPE, "Order of refining": the script's refusals, 11, 12
 pub data RefiningOutcome (script table work : List ℕ) : Answer ℕ → Type 0 where
   -- 1 to 10: the script's own refusal
   script-refused :

@@ -25,16 +25,16 @@ use Rattle.refining.specs.declared.answers.Refined.the-variants.{Rows, R
 abbrev pub withNumber : ℕ → ScriptMatch → Match
 withNumber n m = matchAB n (m .«left_a») (m .«left_b») (m .length) (m .reversed)
 
--- "Matches are numbered from 1 in script order."
+-- SCOPE, "Numbering": in the order of the script, from 1 on
 abbrev pub numbered : ℕ → List ScriptMatch → List Match
 numbered n [] = []
 numbered n (m ∷ ms) = withNumber n m ∷ numbered (suc n) ms
 
--- "The table's capacity is its length divided by five, rounded down."
+-- SCOPE, "Capacity": as many rows as the table has whole ones
 abbrev pub capacityOf : List ℕ → ℕ
 capacityOf table = length table / rowWidth
 
--- "The work buffer needs four numbers for each row of the capacity"
+-- SCOPE, "Work": four numbers for each of these rows
 abbrev pub workNeeded : List ℕ → ℕ
 workNeeded table = 4 * capacityOf table
 
@@ -47,8 +47,8 @@ pub record Refining : Type 0 where
   pub table : List ℕ
   pub work : List ℕ
 
--- the matches of an admitted script: 11, then 12, then the rows of the least table. "Numbers past the last row keep
--- their old values. The work buffer is all zero after success and after refusal 12."
+-- the matches of an admitted script: 11, then 12, then the rows of the least table. SCOPE, "Past the rows" and "Work
+-- after": the numbers behind the rows stay, and the work buffer is zero after success and after 12.
 unfoldable pub refiningOfMatches : List Match → List ℕ → List ℕ → Refining
 refiningOfMatches ms table work =
     let least = leastTable ms [] in
@@ -59,7 +59,7 @@ refiningOfMatches ms table work =
     let written : Refining = record { reply = Rows (length least); table = over; work = zeroed work } in
     cond (ltb (length work) (workNeeded table)) short (cond (ltb (capacityOf table) (length least)) crowded written)
 
--- "Refining: the script, 11, 12."; "a refused call leaves each lent number unaltered"
+-- SCOPE, "Order of refining" and "Kept when refused": the script's own refusal comes first, and alters nothing
 abbrev pub refiningOfReading : Reading → List ℕ → List ℕ → Refining
 refiningOfReading (refused r) table work = record { reply = Refused r; table = table; work = work }
 refiningOfReading (admitted p q ms) table work = refiningOfMatches (numbered 1 ms) table work

@@ -14,12 +14,12 @@ use Rattle.refinement.specs.Match.{Match, spanned}
 use Rattle.refinement.specs.Least.{piecesBetween}
 use Rattle.refining.specs.Columns.{matchAt}
 
--- "direction (0 direct, 1 reversed)"
+-- SCOPE, "Rows": 0 direct, 1 reversed
 abbrev pub direction : Bool → ℕ
 direction false = 0
 direction true = 1
 
--- "match number, left-A, left-B, length, direction"
+-- SCOPE, "Rows": what a piece puts into each number of its row
 abbrev pub rowOfPiece : Match → Row
 rowOfPiece r =
     record {

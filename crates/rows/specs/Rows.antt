@@ -11,11 +11,11 @@ use mathlib.Core.List.{List, [], _∷_, _++_}
 use lib.ListN.{length, getD, drop}
 use Rattle.rows.specs.declared.Row.{Row}
 
--- "A row is five 32-bit numbers"
+-- SCOPE, "Rows": five of them
 abbrev pub rowWidth : ℕ
 rowWidth = 5
 
--- "match number, left-A, left-B, length, direction": the row that the numbers t start with
+-- SCOPE, "Rows": the row that the numbers t start with
 abbrev pub rowOf : List ℕ → Row
 rowOf t =
     record {
@@ -31,7 +31,7 @@ unfoldable pub firstRows : ℕ → List ℕ → List Row
 firstRows zero t = []
 firstRows (suc n) t = rowOf t ∷ firstRows n (drop rowWidth t)
 
--- "numbers at the end that form no row are ignored"
+-- SCOPE, "Any contents": numbers at the end that form no row are left out
 unfoldable pub rowsOf : List ℕ → List Row
 rowsOf t = firstRows (length t / rowWidth) t
 

@@ -22,7 +22,7 @@ pub enum Closing {
     TooMany,
 }
 
-// "A new cut on A is carried over to B by every match that spans it". The budget bounds the stack.
+// SCOPE, "Least cuts": the new cuts on A are carried to B by every match that spans them. The budget bounds the stack.
 pub fn a_step(
     left_a: &[u32],
     left_b: &[u32],
@@ -81,7 +81,7 @@ pub fn a_step(
     }
 }
 
-// "and each new cut on B is carried over to A in the same way, until neither side gains one"
+// The new cuts on B are carried to A in the same way, until neither side gains one.
 pub fn b_step(
     left_a: &[u32],
     left_b: &[u32],
