@@ -86,7 +86,15 @@ says 1 '' bash "$run" two-matches.script >&5
 # A check that fails leaves no program. rt is played by a script that builds one, proves one crate and fails.
 copy=$made/copy
 mkdir -p "$copy/target/bin" "$copy/tools"
-cp -r ../run ../crates ../crates.txt "$copy"
+cp -r ../run ../crates "$copy"
+cat >"$copy/crates.txt" <<'END'
+# a floor: with a comment
+script:
+text:
+
+refine: script
+notchergrey: script refine io
+END
 cat >"$copy/tools/rt" <<'END'
 #!/bin/sh
 cp /bin/true target/bin/notchergrey
@@ -95,8 +103,8 @@ echo 'rt: FAILED: refine'
 exit 1
 END
 chmod +x "$copy/tools/rt"
-said='run: proving and building the program; the first time this takes about four minutes
-run: proved 1 of 8 crates: script
+said='run: proving and building the program; the first time this takes some six minutes
+run: proved 1 of 3 crates: script
 rt: script proved (1 s)
 rt: FAILED: refine
 run: not proved, so there is no program to run'
