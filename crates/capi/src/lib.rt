@@ -14,8 +14,8 @@ use script::Verdict;
 use summary::sum_up;
 use table::CLASSES;
 ghost use mathlib.Core.Path.{_≡_};
-ghost use Rattle.capi.specs.Doors.{bitOf, readDoor, matchDoor, refineDoor, carryDoor, carryFromA, carryFromB};
-ghost use Rattle.capi.specs.Doors.{rowsDoor, summaryDoor, reportDoor};
+ghost use Rattle.doors.specs.Doors.{bitOf, readDoor, matchDoor, refineDoor, carryDoor, carryFromA, carryFromB};
+ghost use Rattle.doors.specs.Doors.{rowsDoor, summaryDoor, reportDoor};
 ghost use Rattle.refining.specs.Refining.{refiningOf};
 ghost use Rattle.reporting.specs.Reporting.{reportingOf};
 

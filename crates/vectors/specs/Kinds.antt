@@ -15,8 +15,8 @@ use Rattle.table.specs.Summing.{summaryOf}
 use Rattle.refining.specs.Refining.{refiningOf}
 use Rattle.refining.specs.declared.answers.Refined.{Refined}
 use Rattle.reporting.specs.Reporting.{reportOf, reportingOf}
-use Rattle.capi.specs.Doors.{Reply, Read, OneMatch, RowsReply, SummaryReply, ReportReply, readDoor, matchDoor}
-use Rattle.capi.specs.Doors.{refineDoor, carryFromA, carryFromB, rowsDoor, summaryDoor, reportDoor}
+use Rattle.doors.specs.Doors.{Reply, Read, OneMatch, RowsReply, SummaryReply, ReportReply, readDoor, matchDoor}
+use Rattle.doors.specs.Doors.{refineDoor, carryFromA, carryFromB, rowsDoor, summaryDoor, reportDoor}
 
 -- the number returned and all that stands behind the pointers and in the lent buffers after the call; of refining also
 -- the distinct pieces of the rows it counts

@@ -1,6 +1,6 @@
 -- `carry_from` meets its contract: it hands out what `carry` answers. Assumes nothing.
 use borrow.Author.Needs.{needs}
-use Rattle.capi.proofs.Handed.{carry-given, carry-refused}
+use Rattle.doors.proofs.Handed.{carry-given, carry-refused}
 use Rattle.capi.proofs.carry_from.Statement.{statement}
 use Rattle.capi.proofs.carry_from.Tie as tie
 

@@ -1,7 +1,7 @@
 -- `notchergrey_match` meets its contract: it hands out what `find_match` finds. Assumes nothing.
 use mathlib.Core.Path.{sym, _∙_}
 use borrow.Author.Needs.{needs}
-use Rattle.capi.proofs.Handed.{match-refused}
+use Rattle.doors.proofs.Handed.{match-refused}
 use Rattle.capi.proofs.notchergrey_match.Statement.{statement}
 use Rattle.capi.proofs.notchergrey_match.Tie as tie
 

@@ -1,6 +1,6 @@
 -- `notchergrey_read` meets its contract: the verdict tells the reading. Assumes nothing.
 use borrow.Author.Needs.{needs}
-use Rattle.capi.proofs.Handed.{read-given, read-refused}
+use Rattle.doors.proofs.Handed.{read-given, read-refused}
 use Rattle.capi.proofs.notchergrey_read.Statement.{statement}
 use Rattle.capi.proofs.notchergrey_read.Tie as tie
 

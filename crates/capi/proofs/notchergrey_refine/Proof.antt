@@ -1,6 +1,6 @@
 -- `notchergrey_refine` meets its contract: it hands out what `refine` answers and leaves. Assumes nothing.
 use borrow.Author.Needs.{needs}
-use Rattle.capi.proofs.Handed.{refine-given, refine-refused}
+use Rattle.doors.proofs.Handed.{refine-given, refine-refused}
 use Rattle.capi.proofs.notchergrey_refine.Statement.{statement}
 use Rattle.capi.proofs.notchergrey_refine.Tie as tie
 

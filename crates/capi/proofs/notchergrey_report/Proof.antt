@@ -1,6 +1,6 @@
 -- `notchergrey_report` meets its contract: it hands out what `report` answers and leaves. Assumes nothing.
 use borrow.Author.Needs.{needs}
-use Rattle.capi.proofs.Handed.{report-printed, report-short}
+use Rattle.doors.proofs.Handed.{report-printed, report-short}
 use Rattle.capi.proofs.notchergrey_report.Statement.{statement}
 use Rattle.capi.proofs.notchergrey_report.Tie as tie
 

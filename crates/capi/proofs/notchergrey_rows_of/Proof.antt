@@ -1,7 +1,7 @@
 -- `notchergrey_rows_of` meets its contract: it hands out what `span_of` finds. Assumes nothing.
 use mathlib.Core.Path.{ap}
 use borrow.Author.Needs.{needs}
-use Rattle.capi.specs.Doors.{ofSpan}
+use Rattle.doors.specs.Doors.{ofSpan}
 use Rattle.capi.proofs.notchergrey_rows_of.Statement.{statement}
 use Rattle.capi.proofs.notchergrey_rows_of.Tie as tie
 

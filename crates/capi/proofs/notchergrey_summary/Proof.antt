@@ -1,7 +1,7 @@
 -- `notchergrey_summary` meets its contract: it hands out what `sum_up` counts. Assumes nothing.
 use mathlib.Core.Path.{ap}
 use borrow.Author.Needs.{needs}
-use Rattle.capi.specs.Doors.{ofSummary}
+use Rattle.doors.specs.Doors.{ofSummary}
 use Rattle.capi.proofs.notchergrey_summary.Statement.{statement}
 use Rattle.capi.proofs.notchergrey_summary.Tie as tie
 

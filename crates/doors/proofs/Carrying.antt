@@ -18,8 +18,8 @@ use Rattle.refining.specs.Carrying.{carryingOver, carryingOfFinding, carryingOf
 use Rattle.refining.specs.Refining.{withNumber}
 use Rattle.refining.specs.declared.answers.Carried.{Carried}
 use Rattle.refining.specs.declared.answers.Carried.the-variants.{To, Refused}
-use Rattle.capi.specs.Doors.{Reply, door, ofCarried, carryDoor, carryFromA, carryFromB}
-use Rattle.capi.proofs.Agreement.{number-some}
+use Rattle.doors.specs.Doors.{Reply, door, ofCarried, carryDoor, carryFromA, carryFromB}
+use Rattle.doors.proofs.Agreement.{number-some}
 
 over-back : (m : Match) (s : Side) (h x : ℕ) → carryingOver m s h ≡ To x → carryingOver m (other s) x ≡ To h
 over-back m s h x e = go (spanned (left m s) (m .length) h) refl

@@ -21,8 +21,8 @@ use Rattle.refining.specs.Refining.{refiningOf}
 use Rattle.refining.specs.Carrying.{carryingOf}
 use Rattle.refining.specs.declared.answers.Refined.{Refined}
 use Rattle.refining.specs.declared.answers.Carried.{Carried}
-use Rattle.capi.specs.Doors.{Reply, Read, OneMatch, readDoor, matchDoor, refineDoor, carryDoor, reportDoor}
-use Rattle.capi.specs.Doors.{ReportReply}
+use Rattle.doors.specs.Doors.{Reply, Read, OneMatch, readDoor, matchDoor, refineDoor, carryDoor, reportDoor}
+use Rattle.doors.specs.Doors.{ReportReply}
 use Rattle.reporting.specs.Reporting.{reportingOf}
 use Rattle.reporting.specs.declared.Reported.{Reported}
 

@@ -33,9 +33,9 @@ use Rattle.refining.specs.declared.answers.Carried.{Carried}
 use Rattle.reporting.specs.Reporting.{reportOf, reportingOfText, reportingOf}
 use Rattle.table.specs.Finding.{sizeOf, partOf}
 use Rattle.table.specs.Summing.{summaryOf}
-use Rattle.capi.specs.Doors.{Reply, gives, refuses, door, Read, ofReading, readDoor, bitOf, OneMatch, ofFinding}
-use Rattle.capi.specs.Doors.{matchDoor, ofRefined, refineDoor, ofCarried, carryDoor, carryFromA, carryFromB}
-use Rattle.capi.specs.Doors.{rowsDoor, summaryDoor, ReportReply, ofReported, reportDoor}
+use Rattle.doors.specs.Doors.{Reply, gives, refuses, door, Read, ofReading, readDoor, bitOf, OneMatch, ofFinding}
+use Rattle.doors.specs.Doors.{matchDoor, ofRefined, refineDoor, ofCarried, carryDoor, carryFromA, carryFromB}
+use Rattle.doors.specs.Doors.{rowsDoor, summaryDoor, ReportReply, ofReported, reportDoor}
 
 -- ---- what the doors on scripts share
 
