@@ -20,8 +20,7 @@ use Rattle.refinement.proofs.Geometry.{spanned-bounds}
 use Rattle.runs.specs.Runs.{Same}
 use Rattle.cut_set.specs.Store.{Found, FoundRun, Stored}
 use Rattle.cut_set.specs.declared.CutSet.{CutSet}
-use Rattle.runs.proofs.Moving.{lt-or-le}
-use Rattle.runs.proofs.Membership.{in-same}
+use Rattle.runs.proofs.Membership.{lt-or-le, in-same}
 use Rattle.cut_set.proofs.Laws.{stored-none, stored-same, stored-then}
 use Rattle.near_matches.specs.Near.{reaching, Passable}
 use Rattle.carrying_match.specs.OneMatch.{ImageBy, hitsOn, TooMuch, Ready}

@@ -18,8 +18,7 @@ use lib.Seq.{slice, length-slice}
 use Rattle.runs.specs.Runs.{Run, Same}
 use Rattle.cut_set.specs.Store.{Good, Member, Outside, Stored, Crowded}
 use Rattle.cut_set.specs.declared.CutSet.{CutSet}
-use Rattle.runs.proofs.Membership.{in-wide, in-parts}
-use Rattle.runs.proofs.Rearranging.{run-same}
+use Rattle.runs.proofs.Membership.{in-wide, in-parts, run-same}
 use Rattle.carrying_match.specs.OneMatch.{Overflow, TooMuch, Apart, Ready}
 use Rattle.carrying_match.proofs.RunLists.{slice-in, slice-rising}
 

@@ -17,8 +17,7 @@ use Rattle.refinement.proofs.Geometry.{spanned-bounds, spanned-below, spanned-f
 use Rattle.runs.specs.Runs.{In, Bound}
 use Rattle.cut_set.specs.Store.{Found, FoundRun, Stored}
 use Rattle.cut_set.specs.declared.CutSet.{CutSet}
-use Rattle.runs.proofs.Moving.{lt-or-le}
-use Rattle.runs.proofs.Membership.{in-wide, in-parts}
+use Rattle.runs.proofs.Membership.{lt-or-le, in-wide, in-parts}
 use Rattle.cut_set.proofs.Laws.{stored-none, stored-same, stored-then}
 use Rattle.carrying_match.specs.OneMatch.{ImageBy, hitsOn, TooMuch, Ready}
 use Rattle.carrying_match.proofs.RunLists.{hits-past, hits-none}

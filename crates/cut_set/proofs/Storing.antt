@@ -20,14 +20,14 @@ use mathlib.Core.Logic.{_⊎_, inl, inr, ⊎-elim, Iff·rfl, Iff·trans}
 use mathlib.Core.Bool.{Bool}
 use lib.ListN.{length, getD, set, length-set}
 use Rattle.runs.specs.Runs.{In, Run, Rising, Distinct, Same, Bound, Answers}
-use Rattle.runs.specs.Steps.{Put, Mergeable, Merged}
+use Rattle.merging.specs.Steps.{Put, Mergeable, Merged}
 use Rattle.cut_set.specs.Store.{Good, Member, FoundRun, Kept, Gathered, AllFinished, Joined, AddedTo, Growing}
 use Rattle.cut_set.specs.declared.CutSet.{CutSet}
-use Rattle.runs.proofs.Moving.{lt-or-le, put-end}
-use Rattle.runs.proofs.Membership.{in-wide, in-parts, in-same, rising-distinct, distinct-part}
+use Rattle.runs.proofs.Membership.{lt-or-le, in-wide, in-parts, in-same, rising-distinct, distinct-part, run-same}
 use Rattle.runs.proofs.Searching.{answers-from, answers-later}
-use Rattle.runs.proofs.Merging.{InGapped, Putting, gapped-closed, put-gapped, put-here, put-kept, put-only}
-use Rattle.runs.proofs.Rearranging.{run-same, merged-none, merged-wide, merged-distinct}
+use Rattle.merging.proofs.Moving.{put-end}
+use Rattle.merging.proofs.Merging.{InGapped, Putting, gapped-closed, put-gapped, put-here, put-kept, put-only}
+use Rattle.merging.proofs.Rearranging.{merged-none, merged-wide, merged-distinct}
 
 abbrev pub withEnds : CutSet → ℕ → ℕ → ℕ → CutSet
 withEnds s long done fresh =

@@ -75,7 +75,7 @@ fn grow(a: &mut [u32], s: CutSet, at: usize, x: u32) -> CutSet
 {
     let used = s.used;
     if used - s.fresh < 512 {
-        runs::put(a, at, used, 1, x);
+        merging::put(a, at, used, 1, x);
         return CutSet {
             base: s.base,
             long: s.long,
@@ -85,7 +85,7 @@ fn grow(a: &mut [u32], s: CutSet, at: usize, x: u32) -> CutSet
             limit: s.limit,
         };
     }
-    runs::merge(a, s.done, s.fresh, used);
+    merging::merge(a, s.done, s.fresh, used);
     a[used] = x;
     CutSet {
         base: s.base,
@@ -134,7 +134,7 @@ pub fn gather(a: &mut [u32], s: CutSet) -> CutSet
     if s.done == s.fresh {
         return t;
     }
-    runs::merge(a, s.done, s.fresh, s.used);
+    merging::merge(a, s.done, s.fresh, s.used);
     t
 }
 
@@ -155,7 +155,7 @@ fn settle(a: &mut [u32], s: CutSet) -> CutSet
     ensures { λ r. ⌜ AllFinished (now (a .entry)) s (now (a .exit)) r ⌝ }
 {
     if s.used - s.long <= 512 {
-        runs::merge(a, s.long, s.done, s.used);
+        merging::merge(a, s.long, s.done, s.used);
         return CutSet {
             base: s.base,
             long: s.long,
@@ -165,7 +165,7 @@ fn settle(a: &mut [u32], s: CutSet) -> CutSet
             limit: s.limit,
         };
     }
-    runs::merge(a, s.base, s.long, s.done);
+    merging::merge(a, s.base, s.long, s.done);
     if s.used - s.done <= 512 {
         return CutSet {
             base: s.base,
@@ -176,7 +176,7 @@ fn settle(a: &mut [u32], s: CutSet) -> CutSet
             limit: s.limit,
         };
     }
-    runs::merge_long(a, s.base, s.done, s.used);
+    merging::merge_long(a, s.base, s.done, s.used);
     CutSet {
         base: s.base,
         long: s.used,
@@ -202,7 +202,7 @@ pub fn join(a: &mut [u32], s: CutSet) -> CutSet
     ensures { λ r. ⌜ Joined (now (a .entry)) s (now (a .exit)) r ⌝ }
 {
     let t = finish(a, s);
-    runs::merge(a, t.base, t.long, t.done);
+    merging::merge(a, t.base, t.long, t.done);
     CutSet {
         base: t.base,
         long: t.used,

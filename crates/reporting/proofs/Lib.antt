@@ -5,6 +5,7 @@ pub mod Letters
 pub mod Fits
 pub mod Lent
 pub mod Prefix
+pub mod Room
 pub mod ReadBack
 pub mod SameReports
 pub mod Shown

@@ -1,21 +1,27 @@
 -- What the program prints, and what the call that makes its text does. TO READ: contracts mean what stands here.
+--     inputRoom                so many bytes are read at most
 --     lentTable, lentWork      what the program lends for refining
 --     reportOf script          what the program prints for an input
 --     Reporting                the reply of the call, and what the text buffer holds after it
 --     reportingOf script text  both, by what the script and the text buffer hold before it
 --     longestText              so many bytes are room for every report; that they are is a law
 -- 01, "One run, complete". Assumes nothing.
-use Prim.Native.Nat.{ℕ, _*_}
+use Prim.Native.Nat.{ℕ, suc, _*_}
 use mathlib.Core.Bool.{cond}
 use mathlib.Core.List.{List, _++_}
 use lib.ListN.{length, take, drop, replicate}
 use lib.Dec.{ltb}
+use Rattle.script.specs.Limits.{longestScript}
 use Rattle.script.specs.Reading.{Reading, admitted, refused, readScript}
 use Rattle.rows.specs.Rows.{rowWidth, rowsOf}
 use Rattle.refining.specs.Refining.{Refining, numbered, refiningOfMatches}
 use Rattle.refining.specs.declared.answers.Refined.{Refined}
 use Rattle.reporting.specs.Lines.{refusalText, tableText}
 use Rattle.reporting.specs.declared.Reported.{Reported}
+
+-- SCOPE, "Input": one byte more than the longest admitted script has
+abbrev pub inputRoom : ℕ
+inputRoom = suc longestScript
 
 -- SCOPE, "Program's table": so many rows
 abbrev pub lentRows : ℕ

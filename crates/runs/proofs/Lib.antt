@@ -1,6 +1,3 @@
 -- The lemmas that belong to no one function. Each file cites only those before it.
-pub mod Moving
 pub mod Membership
 pub mod Searching
-pub mod Merging
-pub mod Rearranging

@@ -3,7 +3,7 @@
 -- Assumes nothing.
 use borrow.Author.Needs.{needs}
 use mathlib.Core.Path.{_∙_}
-use Rattle.runs.proofs.Rearranging.{merged-then}
+use Rattle.merging.proofs.Rearranging.{merged-then}
 use Rattle.cut_set.proofs.Storing.{settled-short, settled-apart, settled-long}
 use Rattle.cut_set.proofs.Storing.{finished-mergeable, short-mergeable, long-mergeable}
 use Rattle.cut_set.proofs.settle.Statement.{statement}
