@@ -1,13 +1,11 @@
 -- What is put is a text, if its words and lines are put one behind the other.
---     put-none             nothing is put
---     put-three, put-five, put-eight     lines of so many words
+--     put-three, put-eight     lines of so many words
 --     put-refused          the line of a refusal
 --     put-parts            the text of a table
---     row-lines-more       the lines of the first rows, with one more
---     classes-put-more, classes-put-all     and of the first classes, and of all
+--     classes-put-more, classes-put-all     the lines of the first classes with one more, and of all
 -- Assumes nothing.
 use Prim.Native.Nat.{ℕ, suc, _+_, _≤_, _<_}
-use mathlib.Core.Path.{_≡_, refl, sym, ap, _∙_}
+use mathlib.Core.Path.{_≡_, sym, ap, _∙_}
 use mathlib.Core.List.{List, [], _∷_, _++_, append-assoc, append-nil}
 use native.Mathlib.Omega.{arith}
 use native.Mathlib.Nat.{add-zero}
@@ -16,19 +14,14 @@ use lib.ListN.{length, getD, take}
 use lib.Seq.{take-suc, take-all, length-take-le}
 use Rattle.script.specs.Refusals.{numberOf, placeOf}
 use Rattle.script.specs.declared.refusal.Refusal.{Refusal}
-use Rattle.rows.specs.Rows.{rowAt}
 use Rattle.table.specs.Summing.{summaryOfRows}
 use Rattle.rows.specs.declared.Row.{Row}
 use Rattle.table.specs.declared.summing.Summary.{Summary}
-use Rattle.rows.proofs.TableRows.{take-more}
 use Rattle.text.specs.Decimal.{decimal}
 use Rattle.text.specs.Putting.{Put}
 use Rattle.text.proofs.Stores.{put-then, put-same}
-use Rattle.reporting.specs.Lines.{refused, line, refusalText, lengthsLine, summaryLine, rowLine, rowLines}
+use Rattle.reporting.specs.Lines.{refused, line, refusalText, lengthsLine, summaryLine, rowLines}
 use Rattle.reporting.specs.Lines.{classLine, classLines, tableText}
-
-pub put-none : (t : List ℕ) (at : ℕ) → Put [] t at t at
-put-none t at = record { place = omega arith; stored = refl }
 
 -- ---- lines
 
@@ -44,15 +37,6 @@ pub put-refused :
     → Put (refusalText r) t₀ k₀ t₂ k₂
 put-refused r {n} {p} number place x y =
     rw (← number, ← place) (put-three refused (decimal n) (decimal p) _ _ _ _ _ _ x y)
-
-pub put-five :
-    {t₀ t₁ t₂ t₃ t₄ t₅ : List ℕ} {k₀ k₁ k₂ k₃ k₄ k₅ : ℕ} (a b c d e : List ℕ) → Put (a ++ 32 ∷ []) t₀ k₀ t₁ k₁
-    → Put (b ++ 32 ∷ []) t₁ k₁ t₂ k₂
-    → Put (c ++ 32 ∷ []) t₂ k₂ t₃ k₃
-    → Put (d ++ 32 ∷ []) t₃ k₃ t₄ k₄
-    → Put (e ++ 10 ∷ []) t₄ k₄ t₅ k₅
-    → Put (line (a ∷ b ∷ c ∷ d ∷ e ∷ [])) t₀ k₀ t₅ k₅
-put-five a b c d e p q r s u = put-same (simp append-assoc) (put-then (put-then (put-then (put-then p q) r) s) u)
 
 pub put-eight :
     (v w x y a b c d t₀ t₁ t₂ t₃ t₄ : List ℕ) (k₀ k₁ k₂ k₃ k₄ : ℕ)
@@ -77,15 +61,6 @@ put-parts p q count rs e a b c d =
     put-same (ap text e) (put-then (put-then (put-then a b) c) d)
 
 -- ---- one line more
-
-row-lines-last : (rs : List Row) (r : Row) → rowLines (rs ++ r ∷ []) ≡ rowLines rs ++ rowLine r
-unfolding rowLines
-row-lines-last [] r = append-nil (rowLine r)
-row-lines-last (x ∷ rs) r = rw (row-lines-last rs r) (sym (append-assoc (rowLine x) (rowLines rs) (rowLine r)))
-
-pub row-lines-more : (rs : List Row) (k : ℕ) {r : Row} → k < length rs → r ≡ rowAt rs k
-    → rowLines (take k rs) ++ rowLine r ≡ rowLines (take (k + 1) rs)
-row-lines-more rs k h e = rw (e, take-more rs k h) (sym (row-lines-last (take k rs) (rowAt rs k)))
 
 class-lines-last : (c : ℕ) (ns : List ℕ) (n : ℕ)
     → classLines c (ns ++ n ∷ []) ≡ classLines c ns ++ classLine (c + length ns) n

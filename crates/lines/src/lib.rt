@@ -1,15 +1,12 @@
-// The lines of the text. Each is put into a lent buffer from a place on, and the place behind it is returned; what does
-// not fit is passed over and only counted.
+// The text of a table, and the line of a refusal. Each line is put into a lent buffer from a place on, and the place
+// behind it is returned; what does not fit is passed over and only counted. The lines of the rows are `row_lines`'.
 use refusals::number_of;
 use refusals::place_of;
-use rows::Row;
-use rows::row_at;
-use rows::row_count;
+use row_lines::put_field;
+use row_lines::put_rows;
 use script::Refusal;
 use table::Summary;
-use text::put_byte;
 use text::put_bytes;
-use text::put_number;
 ghost use mathlib.Core.Path.{_≡_};
 ghost use mathlib.Core.List.{[], _∷_, _++_};
 ghost use Prim.Native.Nat.{_+_, _*_, _≤_};
@@ -18,19 +15,8 @@ ghost use Rattle.rows.specs.Rows.{rowsOf};
 ghost use Rattle.table.specs.Summing.{summaryOf};
 ghost use Rattle.text.specs.Decimal.{decimal};
 ghost use Rattle.text.specs.Putting.{Put};
-ghost use Rattle.reporting.specs.Lines.{refusalText, sign, lengthsLine, summaryLine, rowLine, rowLines, classLine};
-ghost use Rattle.reporting.specs.Lines.{classLines, tableText};
+ghost use Rattle.reporting.specs.Lines.{refusalText, lengthsLine, summaryLine, classLine, classLines, tableText};
 ghost use Rattle.reporting.specs.Reporting.{lentRows, longestText};
-
-// A number in decimal, and a byte behind it.
-fn put_field(text: &mut [u8], at: usize, number: u64, after: u8) -> usize
-    requires { ⌜ at + 21 ≤ longestText ⌝ }
-    ensures { λ r. ⌜ Put (decimal number ++ after ∷ []) (now (text .entry)) at (now (text .exit)) r ⌝ }
-    ensures { λ r. ⌜ r ≤ at + 21 ⌝ }
-{
-    let next = put_number(text, at, number);
-    put_byte(text, next, after)
-}
 
 // A word, a number in decimal, and a byte behind it.
 fn put_entry(text: &mut [u8], at: usize, word: &[u8], number: u64, after: u8) -> usize
@@ -70,45 +56,6 @@ fn put_summary(text: &mut [u8], at: usize, count: usize, summary: Summary) -> us
     let pieces = put_entry(text, matches, b"pieces ", summary.pieces as u64, b' ');
     let distinct = put_entry(text, pieces, b"distinct ", summary.distinct as u64, b' ');
     put_entry(text, distinct, b"letters ", summary.letters, b'\n')
-}
-
-// The last word of a row's line.
-fn put_sign(text: &mut [u8], at: usize, direction: u32) -> usize
-    requires { ⌜ at + 2 ≤ longestText ⌝ }
-    ensures { λ r. ⌜ Put (sign direction ++ 10 ∷ []) (now (text .entry)) at (now (text .exit)) r ⌝ }
-{
-    if direction == 0 {
-        return put_bytes(text, at, b"+\n");
-    }
-    put_bytes(text, at, b"-\n")
-}
-
-// The line of a row.
-fn put_row(text: &mut [u8], at: usize, row: Row) -> usize
-    requires { ⌜ at + 86 ≤ longestText ⌝ }
-    ensures { λ r. ⌜ Put (rowLine row) (now (text .entry)) at (now (text .exit)) r ⌝ }
-{
-    let number = put_field(text, at, row.number as u64, b' ');
-    let left_a = put_field(text, number, row.left_a as u64, b' ');
-    let left_b = put_field(text, left_a, row.left_b as u64, b' ');
-    let length = put_field(text, left_b, row.length as u64, b' ');
-    put_sign(text, length, row.direction)
-}
-
-// The lines of all rows of a table.
-fn put_rows(text: &mut [u8], at: usize, table: &[u32]) -> usize
-    requires { ⌜ at + 86 * length (rowsOf (now table)) ≤ longestText ⌝ }
-    ensures { λ r. ⌜ Put (rowLines (rowsOf (now (table .entry)))) (now (text .entry)) at (now (text .exit)) r ⌝ }
-    ensures { λ r. ⌜ r ≤ at + 86 * length (rowsOf (now (table .entry))) ⌝ }
-{
-    let rows = row_count(table);
-    let mut next = at;
-    let mut k: usize = 0;
-    while k < rows {
-        next = put_row(text, next, row_at(table, k));
-        k += 1;
-    }
-    next
 }
 
 // The line of a class, if it has pieces.

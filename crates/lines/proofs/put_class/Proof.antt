@@ -2,7 +2,8 @@
 use borrow.Author.Needs.{needs}
 use borrow.Author.Tests.{eq-eqb, ne-eqb}
 use Rattle.reporting.specs.Lines.{class}
-use Rattle.lines.proofs.Putting.{put-none, put-three}
+use Rattle.row_lines.proofs.PuttingRows.{put-none}
+use Rattle.lines.proofs.Putting.{put-three}
 use Rattle.lines.proofs.put_class.Statement.{statement}
 use Rattle.lines.proofs.put_class.Tie as tie
 

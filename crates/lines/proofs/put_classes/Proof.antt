@@ -9,7 +9,8 @@ use borrow.Author.Needs.{needs}
 use Rattle.text.specs.Putting.{Put}
 use Rattle.reporting.specs.Lines.{classLines}
 use Rattle.reporting.proofs.Bounds.{class-lines-short}
-use Rattle.lines.proofs.Putting.{put-none, classes-put-more, classes-put-all}
+use Rattle.row_lines.proofs.PuttingRows.{put-none}
+use Rattle.lines.proofs.Putting.{classes-put-more, classes-put-all}
 use Rattle.lines.proofs.put_classes.Statement.{statement}
 use Rattle.lines.proofs.put_classes.Tie as tie
 

@@ -11,9 +11,9 @@ use Rattle.text.specs.Putting.{Put}
 use Rattle.text.proofs.Stores.{put-then, put-same}
 use Rattle.reporting.specs.Lines.{rowLines}
 use Rattle.reporting.proofs.Bounds.{row-lines-short}
-use Rattle.lines.proofs.Putting.{put-none, row-lines-more}
-use Rattle.lines.proofs.put_rows.Statement.{statement}
-use Rattle.lines.proofs.put_rows.Tie as tie
+use Rattle.row_lines.proofs.PuttingRows.{put-none, row-lines-more}
+use Rattle.row_lines.proofs.put_rows.Statement.{statement}
+use Rattle.row_lines.proofs.put_rows.Tie as tie
 
 abbrev Inv-loop : tie.InvT-loop
 Inv-loop text₀ at table rows next₀ k₀ text next k =

@@ -1,8 +1,8 @@
 -- `put_sign` meets its contract: a direct row has +, any other -. Assumes nothing.
 use borrow.Author.Needs.{needs}
 use borrow.Author.Tests.{eq-eqb, ne-eqb}
-use Rattle.lines.proofs.put_sign.Statement.{statement}
-use Rattle.lines.proofs.put_sign.Tie as tie
+use Rattle.row_lines.proofs.put_sign.Statement.{statement}
+use Rattle.row_lines.proofs.put_sign.Tie as tie
 
 slice-aggregate-put-bytes : tie.Need-slice-aggregate-put-bytes
 slice-aggregate-put-bytes c = search needs

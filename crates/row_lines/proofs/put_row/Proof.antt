@@ -1,8 +1,8 @@
 -- `put_row` meets its contract: a line of five words. Assumes nothing.
 use borrow.Author.Needs.{needs}
-use Rattle.lines.proofs.Putting.{put-five}
-use Rattle.lines.proofs.put_row.Statement.{statement}
-use Rattle.lines.proofs.put_row.Tie as tie
+use Rattle.row_lines.proofs.PuttingRows.{put-five}
+use Rattle.row_lines.proofs.put_row.Statement.{statement}
+use Rattle.row_lines.proofs.put_row.Tie as tie
 
 cast-put-field : tie.Need-cast-put-field
 cast-put-field c = search needs
