@@ -4,7 +4,7 @@
 A place gives rows: a number, a word, or both. Words are compared without case and without what parts them, so that
 TooManyMatches, TOO_MANY_MATCHES, too-many-matches and "too many matches" are one. Each row must be one of the
 definition's, and each of the definition's must be there once. Number 16, which only the door for the program's text
-returns, has its word in the header for C and its number in crates/capi/specs/Doors.antt.
+returns, has its word in the header for C and its number in crates/doors/specs/Doors.antt.
 
 Prints a line for each difference. The last line is 'refusals: N places, 0 differences', and the exit status 0, only if
 there is none.
@@ -17,7 +17,7 @@ from pathlib import Path
 ROOT = Path(__file__).resolve().parent.parent
 DEFINITION = "crates/script/specs/Refusals.antt"
 READING = "crates/script/specs/Outcomes.antt"
-DOORS = "crates/capi/specs/Doors.antt"
+DOORS = "crates/doors/specs/Doors.antt"
 HEADER = "include/notchergrey.h"
 CODE = "crates/refusals/src/lib.rt"
 TEXT_WORD = "buffer too short"

@@ -1,10 +1,8 @@
 // Runs the lines of 01, "Small scripts at the edges", that carry no M, and prints what the library answers to each.
 // The slow program prints the same lines, and the two are compared: a line that a failed write loses shows there.
-mod answers;
-
-use answers::put_carried;
-use answers::put_read;
-use answers::put_refined;
+use edge_answers::put_carried;
+use edge_answers::put_read;
+use edge_answers::put_refined;
 use libc::STDOUT_FILENO;
 use refinement::Side;
 use text::put_byte;
@@ -15,7 +13,8 @@ ghost use Prim.Native.Nat.{_+_, _*_, _≤_};
 ghost use lib.ListN.{length};
 ghost use Rattle.text.specs.Putting.{Put};
 ghost use Rattle.edge_lines.specs.Scripts.{many};
-ghost use Rattle.edge_lines.specs.Lines.{carriedLine, workLines, touchingLines, longLines, manyLines, edgeLines};
+ghost use Rattle.edge_answers.specs.Lines.{carriedLine};
+ghost use Rattle.edge_lines.specs.AllLines.{workLines, touchingLines, longLines, manyLines, edgeLines};
 
 // With a table of 40 numbers, 32 of work are enough and 31 are not.
 fn put_work_lines(text: &mut [u8], at: usize) -> usize

@@ -3,7 +3,7 @@
 --     room-decides     what an input has behind them changes nothing of what is printed
 -- 01, "One run, complete": "up to 26,635 bytes, which decides the outcome of longer input too". Assumes nothing.
 use Prim.Native.Nat.{ℕ}
-use mathlib.Core.Path.{_≡_, refl}
+use mathlib.Core.Path.{_≡_, refl, sym, subst}
 use mathlib.Core.List.{List}
 use lib.ListN.{take}
 use Rattle.reporting.specs.Reporting.{inputRoom, reportOf}
@@ -13,4 +13,4 @@ pub room-exact : inputRoom ≡ 26635
 room-exact = refl
 
 pub room-decides : (s : List ℕ) → reportOf (take inputRoom s) ≡ reportOf s
-room-decides s = report-decided s
+room-decides s = subst (λ (n : ℕ). reportOf (take n s) ≡ reportOf s) (sym room-exact) (report-decided s)

@@ -23,9 +23,12 @@ same-length c = search needs
 returns : tie.Need-returns
 returns c =
     let many = c .before .before in
-    let long = many .before .before .before .before in
-    let touching = long .before .before .before .before in
-    let work = touching .before .before .before .before in (
+    let after-long = many .before .before in
+    let long = after-long .before .before in
+    let after-touching = long .before .before in
+    let touching = after-touching .before .before in
+    let after-work = touching .before .before in
+    let work = after-work .before .before in (
       put-then
           (put-then
           (put-then (work .put-work-lines .ensures .0) (touching .put-touching-lines .ensures .0))

@@ -7,7 +7,7 @@ use lib.ListN.{length-append}
 use Rattle.text.specs.Putting.{Put}
 use Rattle.text.proofs.Stores.{put-then, put-same}
 use Rattle.edge_lines.specs.Scripts.{directs, many}
-use Rattle.edge_lines.proofs.Putting.{put-length, put-whole, directs-next, directs-length}
+use Rattle.edge_lines.proofs.WholeScripts.{put-length, put-whole, directs-next, directs-length}
 use borrow.Author.Needs.{needs}
 use Rattle.edge_lines.proofs.put_many.Statement.{statement}
 use Rattle.edge_lines.proofs.put_many.Tie as tie
@@ -33,8 +33,10 @@ slice-aggregate-put-bytes-2 c = search needs
 
 put-bytes-requires-2 : tie.Need-put-bytes-requires-2 Inv-loop μ-loop
 put-bytes-requires-2 c κs =
-    let turn = c .before .before .before in
-    let first = turn .before .before .before in
+    let after-turn = c .before .before in
+    let turn = after-turn .before in
+    let after-first = turn .before .before in
+    let first = after-first .before in
     omega (arith, first .put-bytes .ensures, directs-length (turn .loop .k))
 
 add-k : tie.Need-add-k Inv-loop μ-loop
@@ -46,7 +48,8 @@ loop-less c = search needs
 loop-again : tie.Need-loop-again Inv-loop μ-loop
 loop-again c =
     let called = c .before .before in
-    let turn = called .before .before .before .before in (
+    let after-turn = called .before .before in
+    let turn = after-turn .before .before in (
       omega arith,
       put-same (directs-next (turn .loop .k)) (put-then (turn .loop .inv .1) (called .put-bytes2 .ensures)),
     )
@@ -54,22 +57,28 @@ loop-again c =
 put-byte-requires : tie.Need-put-byte-requires Inv-loop μ-loop
 put-byte-requires c κs =
     let turn = c .before .before in
-    let first = turn .before .before .before in
+    let after-first = turn .before .before in
+    let first = after-first .before in
     omega (arith, first .put-bytes .ensures, directs-length (turn .loop .k))
 
 same-length : tie.Need-same-length Inv-loop μ-loop
 same-length c =
     let called = c .before .before in
-    let turn = called .before .before .before in
-    let first = turn .before .before .before in
+    let after-turn = called .before .before in
+    let turn = after-turn .before in
+    let after-first = turn .before .before in
+    let first = after-first .before in
     put-length (put-then (put-then (first .put-bytes .ensures) (turn .loop .inv .1)) (called .put-byte .ensures))
 
 returns : tie.Need-returns Inv-loop μ-loop
 returns c =
     let called = c .before .before in
-    let turn = called .before .before .before in
-    let first = turn .before .before .before in
-    let count = first .before .before .before .before .args .count in
+    let after-turn = called .before .before in
+    let turn = after-turn .before in
+    let after-first = turn .before .before in
+    let first = after-first .before in
+    let start = first .before .before in
+    let count = start .before .before .args .count in
     let all : turn .loop .k ≡ count = omega arith in
     let put = put-then (put-then (first .put-bytes .ensures) (turn .loop .inv .1)) (called .put-byte .ensures) in
     put-whole (put-same (ap many all) put) (simp length-append (omega (arith, directs-length count)))

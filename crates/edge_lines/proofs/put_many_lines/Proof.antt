@@ -4,7 +4,8 @@ use mathlib.Core.Path.{ap}
 use native.Mathlib.Omega.{arith}
 use Rattle.text.specs.Decimal.{placesWithin}
 use Rattle.text.proofs.Stores.{put-then, put-same}
-use Rattle.edge_lines.specs.Lines.{entry, readLine, matchesWord}
+use Rattle.edge_answers.specs.Lines.{entry, readLine}
+use Rattle.edge_lines.specs.AllLines.{matchesWord}
 use borrow.Author.Needs.{needs}
 use Rattle.edge_lines.proofs.put_many_lines.Statement.{statement}
 use Rattle.edge_lines.proofs.put_many_lines.Tie as tie
@@ -46,9 +47,14 @@ returns : tie.Need-returns
 unfolding placesWithin
 returns c =
     let last = c .before .before in
-    let first = last .before .before .before .before .before .before in
-    let more = first .before .before .before .before .before in
-    let most = more .before .before .before in (
+    let behind-first = last .before .before in
+    let after-first = behind-first .before .before in
+    let first = after-first .before .before in
+    let behind-more = first .before .before in
+    let after-more = behind-more .before .before in
+    let more = after-more .before in
+    let after-most = more .before .before in
+    let most = after-most .before in (
       put-then
           (put-same (ap (readLine (entry matchesWord 2048)) (most .put-many .ensures)) (first .put-read .ensures .0))
           (put-same (ap (readLine (entry matchesWord 2049)) (more .put-many2 .ensures)) (last .put-read2 .ensures .0)),

@@ -33,8 +33,10 @@ shared-slice-read-put-class c = search needs
 
 put-class-requires : tie.Need-put-class-requires Inv-loop μ-loop
 put-class-requires c κs =
-    let turn = c .before .before .before in
-    let counts = turn .before .before .before .args .counts .now in
+    let after-turn = c .before .before in
+    let turn = after-turn .before in
+    let start = turn .before .before in
+    let counts = start .before .args .counts .now in
     let k = turn .loop .class in
     omega (arith, class-lines-short 0 (take k counts), length-take-le k counts (turn .loop .inv .0))
 

@@ -25,9 +25,15 @@ slice-aggregate-put-classes c = search needs
 
 put-classes-requires : tie.Need-put-classes-requires
 put-classes-requires c κs =
-    let rows-put = c .before .before .before .before .before in
-    let summary-put = rows-put .before .before .before .before in
-    let start = summary-put .before .before .before .before .before .before .before .before in
+    let behind-rows-put = c .before .before in
+    let after-rows-put = behind-rows-put .before .before in
+    let rows-put = after-rows-put .before in
+    let after-summary-put = rows-put .before .before in
+    let summary-put = after-summary-put .before .before in
+    let after-lengths-put = summary-put .before .before in
+    let lengths-put = after-lengths-put .before .before in
+    let after-start = lengths-put .before .before in
+    let start = after-start .before .before in
     let all = ap (λ (s : Summary). length (s .classes)) (start .pre .0) in
     omega (arith, all, classes-length classCount 0 (rowsOf (start .args .table .now)))
 

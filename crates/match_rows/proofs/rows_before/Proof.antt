@@ -33,7 +33,8 @@ returns : tie.Need-returns Inv-loop μ-loop
 returns c =
     let row = c .before .before in
     let now = row .before .before in
-    let at = now .before .before .before .args in
+    let start = now .before .before in
+    let at = start .before .args in
     let rs = rowsOf (at .table .now) in
     let stop = ap not (eq-eqb (row .row-at .result .number) (at .number) (c .if1 .taken)) in
     omega (arith, leading-stop (numberedElse (at .number)) rs (now .loop .k) (omega arith) (row .row-at .ensures) stop)
@@ -48,7 +49,8 @@ loop-again : tie.Need-loop-again Inv-loop μ-loop
 loop-again c =
     let row = c .before .before in
     let now = row .before .before in
-    let at = now .before .before .before .args in
+    let start = now .before .before in
+    let at = start .before .args in
     let rs = rowsOf (at .table .now) in
     let else = numberedElse (at .number) in
     let more = ap not (ne-eqb (row .row-at .result .number) (at .number) (c .if1 .left)) in (
@@ -59,7 +61,8 @@ loop-again c =
 returns-2 : tie.Need-returns-2 Inv-loop μ-loop
 returns-2 c =
     let now = c .before in
-    let at = now .before .before .before .args in
+    let start = now .before .before in
+    let at = start .before .args in
     let rs = rowsOf (at .table .now) in
     omega (arith, leading-none (numberedElse (at .number)) rs (now .loop .k) (omega arith))
 

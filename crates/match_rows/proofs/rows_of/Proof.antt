@@ -47,10 +47,11 @@ part-result-end c = omega (arith, ends c, inside c)
 
 returns : tie.Need-returns
 returns c =
-    let at = c .before .before .before .args in
+    let found = c .before in
+    let at = found .before .before .args in
     let t = at .table .now in
-    let begun = starts (c .before) in (
-      ap₂ (λ (n i : ℕ). take n (drop i t)) (sized (c .before)) begun,
+    let begun = starts found in (
+      ap₂ (λ (n i : ℕ). take n (drop i t)) (sized found) begun,
       ap (λ (i : ℕ). (at .table .ptr .0, i)) (omega (arith, begun)),
     )
 

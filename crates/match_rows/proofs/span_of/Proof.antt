@@ -21,11 +21,13 @@ run-end-requires : tie.Need-run-end-requires
 run-end-requires c κs = search needs
 
 -- the run ends in the table
-inside : (c : tie.After-run-end)
-    → c .run-end .result * rowWidth ≤ length (c .before .before .before .before .before .args .table .now)
+inside : (c : tie.After-run-end) → let found = c .before .before in let start = found .before .before in
+    c .run-end .result * rowWidth ≤ length (start .before .args .table .now)
 inside c =
-    let at = c .before .before .before .before .before .args in
-    let first = c .before .before .rows-before .result in
+    let found = c .before .before in
+    let start = found .before .before in
+    let at = start .before .args in
+    let first = found .rows-before .result in
     let rs = rowsOf (at .table .now) in
     omega
     (arith, rows-length (at .table .now), leading-inside (numbered (at .number)) (drop first rs), length-drop first rs)
@@ -38,9 +40,11 @@ mul-t8 c = omega (arith, inside c)
 
 returns : tie.Need-returns
 returns c =
-    let at = c .before .before .before .before .before .args in
+    let found = c .before .before in
+    let start = found .before .before in
+    let at = start .before .args in
     let t = at .table .now in
-    let first = c .before .before .rows-before in
+    let first = found .rows-before in
     rw (
       start-found (at .number) t (first .ensures) (omega arith),
       end-found (at .number) t (first .ensures) (omega arith) (c .run-end .ensures),
@@ -48,7 +52,8 @@ returns c =
 
 returns-2 : tie.Need-returns-2
 returns-2 c =
-    let at = c .before .before .before .before .args in
+    let start = c .before .before in
+    let at = start .before .before .args in
     let t = at .table .now in
     let none : length (rowsOf t) ≤ before (at .number) (rowsOf t) = omega arith in
     rw (start-missing (at .number) t none, size-missing (at .number) t none)

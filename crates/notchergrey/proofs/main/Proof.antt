@@ -29,12 +29,15 @@ enum-known-count c = search needs
 
 array-share-prefix-bytes : tie.Need-array-share-prefix-bytes
 array-share-prefix-bytes c =
-    let called = c .before .before .before .before in
+    let after-called = c .before .before in
+    let called = after-called .before .before in
     rw (c .before .count .given .1) at (called .read-input .ensures)
 
 slice-aggregate-print-report : tie.Need-slice-aggregate-print-report
 slice-aggregate-print-report c =
-    let called = c .before .before .before .before .before in
+    let behind-called = c .before .before in
+    let after-called = behind-called .before .before in
+    let called = after-called .before in
     sym (length-take-le _ _ (rw (c .before .before .count .given .1) at (called .read-input .ensures)))
 
 print-report-requires : tie.Need-print-report-requires

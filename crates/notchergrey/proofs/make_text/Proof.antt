@@ -34,8 +34,11 @@ same-length c = search needs
 
 returns : tie.Need-returns
 returns c =
-    let called = c .before .before .before .before .before in
-    let start = called .before .before .before .before in
+    let behind-called = c .before .before in
+    let after-called = behind-called .before .before in
+    let called = after-called .before in
+    let after-start = called .before .before in
+    let start = after-start .before .before in
     let text = start .args .text .now in
     let printed = reportOf (start .args .script .now) in
     let whole = report-printed (start .args .script .now) text (start .pre) in
@@ -53,8 +56,10 @@ same-length-2 c = search needs
 
 returns-2 : tie.Need-returns-2
 returns-2 c =
-    let called = c .before .before .before .before in
-    let start = called .before .before .before .before in
+    let after-called = c .before .before in
+    let called = after-called .before .before in
+    let after-start = called .before .before in
+    let start = after-start .before .before in
     let whole = report-printed (start .args .script .now) (start .args .text .now) (start .pre) in
     let told = sym (c .enum-told .given .1) ∙ called .report .ensures .0 ∙ ap (λ x. x .reply) whole in
     absurd (true≢false (sym (ap isPrinted told)))

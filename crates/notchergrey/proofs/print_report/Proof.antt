@@ -19,7 +19,10 @@ write-text-requires : tie.Need-write-text-requires
 write-text-requires c κs = search needs
 
 returns : tie.Need-returns
-returns c = rw (c .before .before .before .make-text .ensures .1) at (c .write-text .ensures)
+returns c =
+    let after-made = c .before .before in
+    let made = after-made .before in
+    rw (made .make-text .ensures .1) at (c .write-text .ensures)
 
 pub print-report-spec : {M : Type 1} → statement M
 print-report-spec =

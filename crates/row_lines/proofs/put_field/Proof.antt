@@ -11,16 +11,22 @@ put-number-requires c κs = search needs
 
 put-byte-requires : tie.Need-put-byte-requires
 put-byte-requires c κs =
-    let digits = c .before .before .before in
-    omega (arith, decimal-short (digits .before .before .before .args .number))
+    let after-digits = c .before .before in
+    let digits = after-digits .before in
+    let after-start = digits .before .before in
+    let start = after-start .before in
+    omega (arith, decimal-short (start .args .number))
 
 same-length : tie.Need-same-length
 same-length c = search needs
 
 returns : tie.Need-returns
 returns c =
-    let digits = c .before .before .before .before .before .before in
-    let start = digits .before .before .before in
+    let behind-digits = c .before .before in
+    let after-digits = behind-digits .before .before in
+    let digits = after-digits .before .before in
+    let after-start = digits .before .before in
+    let start = after-start .before in
     (search (needs, put-then), omega (arith, decimal-short (start .args .number)))
 
 pub put-field-spec : {M : Type 1} → statement M

@@ -34,8 +34,10 @@ row-at-requires c κs = search needs
 
 put-row-requires : tie.Need-put-row-requires Inv-loop μ-loop
 put-row-requires c κs =
-    let turn = c .before .before .before in
-    let rs = rowsOf (turn .before .before .before .before .args .table .now) in
+    let after-turn = c .before .before in
+    let turn = after-turn .before in
+    let start = turn .before .before in
+    let rs = rowsOf (start .before .before .args .table .now) in
     let k = turn .loop .k in
     omega (arith, row-lines-short (take k rs), length-take-le k rs (turn .loop .inv .0))
 
@@ -48,8 +50,10 @@ loop-less c = search needs
 loop-again : tie.Need-loop-again Inv-loop μ-loop
 loop-again c =
     let called = c .before .before in
-    let turn = called .before .before .before .before in
-    let rs = rowsOf (turn .before .before .before .before .args .table .now) in
+    let after-turn = called .before .before in
+    let turn = after-turn .before .before in
+    let start = turn .before .before in
+    let rs = rowsOf (start .before .before .args .table .now) in
     let more : turn .loop .k < length rs = omega arith in (
       omega arith,
       put-same (row-lines-more rs (turn .loop .k) more (called .before .row-at .ensures))
@@ -61,7 +65,9 @@ same-length c = ap length (c .before .loop .inv .1 .stored) ∙ simp length-sets
 
 returns : tie.Need-returns Inv-loop μ-loop
 returns c =
-    let rs = rowsOf (c .before .before .before .before .before .args .table .now) in
+    let after-start = c .before .before in
+    let start = after-start .before .before in
+    let rs = rowsOf (start .before .args .table .now) in
     let whole = put-same (ap rowLines (take-all (c .before .loop .k) rs (omega arith))) (c .before .loop .inv .1) in
     (whole, omega (arith, whole .place, row-lines-short rs))
 

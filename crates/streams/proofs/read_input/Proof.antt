@@ -32,7 +32,8 @@ returns c = search needs
 add-done : tie.Need-add-done Inv-loop μ-loop
 add-done c =
     let bound = c .before .before in
-    let called = bound .before .before .before .before in
+    let after-called = bound .before .before in
+    let called = after-called .before .before in
     omega (arith, rw (bound .more .given .1) at (called .read-more .ensures .1))
 
 loop-less : tie.Need-loop-less Inv-loop μ-loop
@@ -41,7 +42,8 @@ loop-less c = omega arith
 loop-again : tie.Need-loop-again Inv-loop μ-loop
 loop-again c =
     let bound = c .before .before in
-    let called = bound .before .before .before .before in
+    let after-called = bound .before .before in
+    let called = after-called .before .before in
     (search needs, omega (arith, rw (bound .more .given .1) at (called .read-more .ensures .1)))
 
 enum-told : tie.Need-enum-told Inv-loop μ-loop

@@ -30,8 +30,10 @@ same-length c = search needs
 
 returns : tie.Need-returns
 returns c =
-    let called = c .before .before .before in
-    let start = called .before .before .before in
+    let after-called = c .before .before in
+    let called = after-called .before in
+    let after-start = called .before .before in
+    let start = after-start .before in
     (kept (start .args .bytes .now) (called .read .last .1 .0) (start .pre), omega (arith, start .pre))
 
 sub-count : tie.Need-sub-count
@@ -51,8 +53,11 @@ same-length-2 c = search needs
 
 returns-2 : tie.Need-returns-2
 returns-2 c =
-    let called = c .before .before .before .before .before .before in
-    let start = called .before .before .before in
+    let behind-called = c .before .before in
+    let after-called = behind-called .before .before in
+    let called = after-called .before .before in
+    let after-start = called .before .before in
+    let start = after-start .before in
     (kept (start .args .bytes .now) (called .read .last .1 .0) (start .pre), search needs)
 
 pub read-more-spec : {M : Type 1} → statement M

@@ -33,7 +33,8 @@ part-write-rest-end c = omega arith
 write-rest-requires : tie.Need-write-rest-requires Inv-loop μ-loop
 write-rest-requires c κs =
     let turn = c .before .before in
-    let start = turn .before .before .before in
+    let after-start = turn .before .before in
+    let start = after-start .before in
     let text = start .args .text .now in
     let done = turn .loop .done in
     take-all (length text - done) (drop done text) (omega (arith, length-drop done text)) ∙ ap (drop done) (start .pre)

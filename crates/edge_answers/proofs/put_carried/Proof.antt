@@ -1,11 +1,11 @@
 -- `put_carried` meets its contract: the heading, and the answer behind it. Assumes nothing.
 use native.Mathlib.Omega.{arith}
 use Rattle.text.proofs.Stores.{put-then}
-use Rattle.edge_lines.specs.Lines.{carriedText}
-use Rattle.edge_lines.proofs.Putting.{put-answered}
+use Rattle.edge_answers.specs.Lines.{carriedText}
+use Rattle.edge_answers.proofs.Putting.{put-answered}
 use borrow.Author.Needs.{needs}
-use Rattle.edge_lines.proofs.answers.put_carried.Statement.{statement}
-use Rattle.edge_lines.proofs.answers.put_carried.Tie as tie
+use Rattle.edge_answers.proofs.put_carried.Statement.{statement}
+use Rattle.edge_answers.proofs.put_carried.Tie as tie
 
 put-bytes-requires : tie.Need-put-bytes-requires
 put-bytes-requires c κs = search needs

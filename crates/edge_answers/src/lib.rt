@@ -14,7 +14,7 @@ ghost use Prim.Native.Nat.{_+_, _≤_};
 ghost use lib.ListN.{length, replicate};
 ghost use Rattle.refining.specs.Refining.{refiningOf};
 ghost use Rattle.text.specs.Putting.{Put};
-ghost use Rattle.edge_lines.specs.Lines.{entry, refusedText, readLine, refinedLine, carriedLine};
+ghost use Rattle.edge_answers.specs.Lines.{entry, refusedText, readLine, refinedLine, carriedLine};
 
 // A word and a number in decimal.
 fn put_entry(text: &mut [u8], at: usize, word: &[u8], number: u64) -> usize

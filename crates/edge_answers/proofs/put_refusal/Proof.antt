@@ -1,9 +1,9 @@
 -- `put_refusal` meets its contract. Assumes nothing.
 use native.Mathlib.Omega.{arith}
-use Rattle.edge_lines.proofs.Putting.{put-refused}
+use Rattle.edge_answers.proofs.Putting.{put-refused}
 use borrow.Author.Needs.{needs}
-use Rattle.edge_lines.proofs.answers.put_refusal.Statement.{statement}
-use Rattle.edge_lines.proofs.answers.put_refusal.Tie as tie
+use Rattle.edge_answers.proofs.put_refusal.Statement.{statement}
+use Rattle.edge_answers.proofs.put_refusal.Tie as tie
 
 slice-aggregate-put-entry : tie.Need-slice-aggregate-put-entry
 slice-aggregate-put-entry c = search needs

@@ -3,8 +3,8 @@ use native.Mathlib.Omega.{arith}
 use Rattle.text.proofs.Digits.{decimal-short}
 use Rattle.text.proofs.Stores.{put-then}
 use borrow.Author.Needs.{needs}
-use Rattle.edge_lines.proofs.answers.put_entry.Statement.{statement}
-use Rattle.edge_lines.proofs.answers.put_entry.Tie as tie
+use Rattle.edge_answers.proofs.put_entry.Statement.{statement}
+use Rattle.edge_answers.proofs.put_entry.Tie as tie
 
 put-bytes-requires : tie.Need-put-bytes-requires
 put-bytes-requires c κs = search needs
@@ -18,8 +18,10 @@ same-length c = search needs
 returns : tie.Need-returns
 returns c =
     let number = c .before .before in
-    let word = number .before .before .before .before in
-    let start = word .before .before .before .before in (
+    let after-word = number .before .before in
+    let word = after-word .before .before in
+    let after-start = word .before .before in
+    let start = after-start .before .before in (
       put-then (word .put-bytes .ensures) (number .put-number .ensures),
       omega (arith, word .put-bytes .ensures, decimal-short (start .args .number)),
     )

@@ -1,9 +1,9 @@
 -- `put_read` meets its contract: the heading, and the answer behind it. Assumes nothing.
 use native.Mathlib.Omega.{arith}
-use Rattle.edge_lines.proofs.Putting.{put-read}
+use Rattle.edge_answers.proofs.Putting.{put-read}
 use borrow.Author.Needs.{needs}
-use Rattle.edge_lines.proofs.answers.put_read.Statement.{statement}
-use Rattle.edge_lines.proofs.answers.put_read.Tie as tie
+use Rattle.edge_answers.proofs.put_read.Statement.{statement}
+use Rattle.edge_answers.proofs.put_read.Tie as tie
 
 put-bytes-requires : tie.Need-put-bytes-requires
 put-bytes-requires c κs = search needs
