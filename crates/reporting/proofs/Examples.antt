@@ -8,11 +8,11 @@ use Rattle.script.specs.declared.refusal.Refusal.the-variants.{BeyondA}
 use Rattle.text.specs.Decimal.{placesWithin}
 use Rattle.reporting.specs.Lines.{refused, class, refusalText, classLines}
 
-refused-line : refusalText (BeyondA 9) ≡ refused ++ 32 ∷ 56 ∷ 32 ∷ 57 ∷ 10 ∷ []
+pub refused-line : refusalText (BeyondA 9) ≡ refused ++ 32 ∷ 56 ∷ 32 ∷ 57 ∷ 10 ∷ []
 unfolding placesWithin
 refused-line = refl
 
-class-lines : classLines 0 (5 ∷ 3 ∷ 0 ∷ [])
+pub class-lines : classLines 0 (5 ∷ 3 ∷ 0 ∷ [])
     ≡ class ++ 32 ∷ 48 ∷ 32 ∷ 53 ∷ 10 ∷ class ++ 32 ∷ 49 ∷ 32 ∷ 51 ∷ 10 ∷ []
 unfolding placesWithin classLines
 class-lines = refl
