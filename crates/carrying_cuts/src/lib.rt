@@ -7,7 +7,7 @@ ghost use Prim.Native.Nat.{_≤_};
 ghost use lib.ListN.{length};
 ghost use lib.Seq.{slice};
 ghost use Rattle.cut_set.specs.Store.{FoundRun};
-ghost use Rattle.refining.specs.Columns.{Fit};
+ghost use Rattle.refining.specs.Columns.{columnsOf, Fit};
 ghost use Rattle.carrying_match.specs.OneMatch.{Ready};
 ghost use Rattle.carrying_cuts.specs.Worker.{Working, Turning};
 
@@ -32,12 +32,12 @@ fn carry_found(
     hits: usize,
     most: usize,
 ) -> Worked
-    requires { ⌜ Fit (now lefts) (now others) (now lengths) (now reversed) ⌝ }
+    requires { ⌜ Fit (columnsOf (now lefts) (now others) (now lengths) (now reversed)) ⌝ }
     requires { ⌜ Ready (now work) from to ⌝ }
     requires { ⌜ FoundRun (now work) from ⌝ }
     requires { ⌜ hits ≤ most ⌝ }
     ensures { λ r. ⌜
-        Working (now (lefts .entry)) (now (others .entry)) (now (lengths .entry)) (now (reversed .entry))
+        Working (columnsOf (now (lefts .entry)) (now (others .entry)) (now (lengths .entry)) (now (reversed .entry)))
         (length (now (lengths .entry))) (now (work .entry)) from to
         (slice (from .done) (from .used) (now (work .entry))) hits most (now (work .exit)) r ⌝ }
 {
@@ -89,11 +89,11 @@ pub fn take_turn(
     hits: usize,
     most: usize,
 ) -> Turn
-    requires { ⌜ Fit (now lefts) (now others) (now lengths) (now reversed) ⌝ }
+    requires { ⌜ Fit (columnsOf (now lefts) (now others) (now lengths) (now reversed)) ⌝ }
     requires { ⌜ Ready (now work) from to ⌝ }
     requires { ⌜ hits ≤ most ⌝ }
     ensures { λ r. ⌜
-        Turning (now (lefts .entry)) (now (others .entry)) (now (lengths .entry)) (now (reversed .entry))
+        Turning (columnsOf (now (lefts .entry)) (now (others .entry)) (now (lengths .entry)) (now (reversed .entry)))
         (now (work .entry)) from to hits most (now (work .exit)) r ⌝ }
 {
     let gathered = cut_set::gather(work, from);

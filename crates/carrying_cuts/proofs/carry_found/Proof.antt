@@ -2,6 +2,7 @@
 use Prim.Native.Nat.{_-_}
 use native.Mathlib.Omega.{arith}
 use lib.ListN as List
+use Rattle.refining.specs.Columns.{columnsOf}
 use Rattle.carrying_match.proofs.Storing.{done-used}
 use Rattle.carrying_cuts.proofs.Passing.{Passed, pass-start, pass-step, pass-too-much, pass-end, pass-ready, pass-run}
 use Rattle.carrying_cuts.proofs.Passing.{pass-over, pass-none}
@@ -11,7 +12,7 @@ use Rattle.carrying_cuts.proofs.carry_found.Tie as tie
 
 abbrev Inv-loop : tie.InvT-loop
 Inv-loop lefts others lengths reversed work₀ from hits most first end lowest highest set₀ count₀ k₀ work set count k =
-    Passed lefts others lengths reversed work₀ from set₀ hits most work set count k
+    Passed (columnsOf lefts others lengths reversed) work₀ from set₀ hits most work set count k
 
 abbrev μ-loop : tie.MeasureT-loop
 μ-loop lefts others lengths reversed work₀ from hits most first end lowest highest set₀ count₀ k₀ work set count k =
