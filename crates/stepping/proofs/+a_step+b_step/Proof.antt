@@ -7,6 +7,7 @@ use borrow.Author.Needs.{needs}
 use borrow.Fn.Kinds.{In}
 use borrow.Fn.PlainCycle.{Measures, is, falls, and}
 use Rattle.refinement.specs.declared.Side.the-variants.{A, B}
+use Rattle.refining.specs.Columns.{columnsOf}
 use Rattle.stepping.specs.Engine.{unused}
 use Rattle.stepping.proofs.Indexed.{fit-other}
 use Rattle.stepping.proofs.Stepping.{after, too-many, turn-ready, turned-open, turned-less, finished, stepped-on}
@@ -125,8 +126,8 @@ a-step-returns-4 t c =
     let args = at-start .args in
     let step = c .before .before .b-step in
     let more = c .before .before .before .before .before .if1 .left in
-    stepped-on (args .left-a .now) (args .left-b .now) (args .lengths .now) (args .reversed .now) (args .capacity) _
-    (args .cuts) next (turned-less was next turned more) (step .result) (step .ensures)
+    stepped-on (columnsOf (args .left-a .now) (args .left-b .now) (args .lengths .now) (args .reversed .now))
+    (args .capacity) _ (args .cuts) next (turned-less was next turned more) (step .result) (step .ensures)
 
 b-step-add-most : (t : ℕ) → b-step-lts.Need-add-most (b-step-calls t) (b-step-at t) b-step.Post
 b-step-add-most t c = search needs
@@ -206,8 +207,8 @@ b-step-returns-4 t c =
     let args = at-start .args in
     let step = c .before .before .a-step in
     let more = c .before .before .before .before .before .if1 .left in
-    stepped-on (args .left-a .now) (args .left-b .now) (args .lengths .now) (args .reversed .now) (args .capacity) _
-    (args .cuts) next (turned-less was next turned more) (step .result) (step .ensures)
+    stepped-on (columnsOf (args .left-a .now) (args .left-b .now) (args .lengths .now) (args .reversed .now))
+    (args .capacity) _ (args .cuts) next (turned-less was next turned more) (step .result) (step .ensures)
 
 pub +a-step+b-step-spec : {M : Type 1} → statement M
 +a-step+b-step-spec =
