@@ -12,10 +12,9 @@
 use Prim.Native.Nat.{ℕ, _+_, _≤_, _<_}
 use mathlib.Core.Path.{_≡_, refl, sym, ap, subst, _∙_}
 use mathlib.Core.Logic.{_↔_}
-use mathlib.Core.Bool.{Bool}
-use mathlib.Core.List.{List, [], map}
+use mathlib.Core.List.{List, map}
 use native.Mathlib.Omega.{arith}
-use lib.ListN.{length, getD, take, replicate, length-take, length-map}
+use lib.ListN.{length, take, replicate, length-take, length-map}
 use lib.Seq.{slice, sets}
 use Rattle.script.specs.Reading.{readScript, scriptOf}
 use Rattle.script.specs.declared.Script.{Script}
@@ -26,16 +25,15 @@ use Rattle.script.specs.declared.command.Match.{Match as ScriptMatch}
 use Rattle.refinement.specs.declared.Side.{Side}
 use Rattle.refinement.specs.Order.{_∈_}
 use Rattle.refinement.specs.Match.{Match}
-use Rattle.refinement.specs.Cut.{Cut, end, left-end, right-end}
+use Rattle.refinement.specs.Cut.{end, left-end, right-end}
 use Rattle.refinement.specs.Refinement.{Matches}
-use Rattle.refinement.specs.Least.{leastTable}
 use Rattle.cut_set.specs.Store.{Good, Joined}
 use Rattle.cut_set.specs.declared.CutSet.{CutSet}
-use Rattle.refining.specs.Columns.{Fit, matchesOf}
-use Rattle.stepping.specs.Engine.{at}
+use Rattle.refining.specs.Columns.{Columns, countOf, fromAt, lettersAt, Fit}
+use Rattle.stepping.specs.Engine.{CutOn}
 use Rattle.closing.specs.AllCuts.{AllCuts, Closure}
 use Rattle.refining.specs.Rows.{piecesCut, pieceNumbers}
-use Rattle.refining.specs.Refining.{capacityOf, workNeeded, zeroed, Refining, refiningOf}
+use Rattle.refining.specs.Refining.{Given, heldIn, leastOf, capacityOf, workNeeded, zeroed, Refining, refiningOf}
 use Rattle.refining.specs.Demands.{answerOf, Demand1, Demand2, Demand3}
 use Rattle.writing_rows.specs.Writing.{Writable, Written}
 use Rattle.refine.specs.Calls.{Tabled, MatchesRefined}
@@ -44,7 +42,7 @@ use Rattle.refining.specs.declared.answers.Refined.{Refined}
 use Rattle.stepping.proofs.Indexed.{∈-matches, matches-good}
 use Rattle.carrying_match.proofs.RunLists.{slice-in, in-slice, slice-rising}
 use Rattle.script.proofs.Admitted.{Holds, holds-admitted, reading-refused}
-use Rattle.refining.proofs.Numbered.{held-admitted, held-fit}
+use Rattle.refining.proofs.Numbered.{readColumns, held-admitted, held-fit}
 use Rattle.refining.proofs.Demands.{refining-contract}
 use Rattle.refine.proofs.RowsLeast.{rows-least}
 use Rattle.refining.proofs.RefiningCases.{exceeds-many, written-sets, matches-crowded, matches-written}
@@ -52,19 +50,19 @@ use Rattle.refining.proofs.RefiningCases.{refining-refused, refining-admitted}
 
 -- what the closure's answer tells
 told-cuts :
-    {ms : List Match} {cap : ℕ} {ys : List ℕ} {answer : Closed} {s : CutSet} → Closure ms cap ys answer
-    → answer ≡ Closed.CutsOfA s → AllCuts ms cap ys s
-told-cuts {ms} {cap} {ys} h e = subst (Closure ms cap ys) e h
+    {g : Given} {cap : ℕ} {ys : List ℕ} {answer : Closed} {s : CutSet} → Closure g cap ys answer
+    → answer ≡ Closed.CutsOfA s → AllCuts g cap ys s
+told-cuts {g} {cap} {ys} h e = subst (Closure g cap ys) e h
 
 pub told-good :
-    (ms : List Match) (cap : ℕ) (ys : List ℕ) {answer : Closed} {s : CutSet} → answer ≡ Closed.CutsOfA s
-    → Closure ms cap ys answer → Good ys s
-told-good ms cap ys e h = told-cuts h e .good
+    (g : Given) (cap : ℕ) (ys : List ℕ) {answer : Closed} {s : CutSet} → answer ≡ Closed.CutsOfA s
+    → Closure g cap ys answer → Good ys s
+told-good g cap ys e h = told-cuts h e .good
 
 pub crowded-tabled :
-    (ms : List Match) (table ys : List ℕ) {answer : Closed} → answer ≡ Closed.TooMany
-    → Closure ms (capacityOf table) ys answer → Tabled ms table table (Refined.Refused TooManyPieces)
-crowded-tabled ms table ys e h = (refl, subst (Closure ms (capacityOf table) ys) e h, refl)
+    (g : Given) (table ys : List ℕ) {answer : Closed} → answer ≡ Closed.TooMany
+    → Closure g (capacityOf table) ys answer → Tabled g table table (Refined.Refused TooManyPieces)
+crowded-tabled g table ys e h = (refl, subst (Closure g (capacityOf table) ys) e h, refl)
 
 -- the first numbers of a column, of one that reaches that far
 pub prefix-length : {X : Type 0} (column : List X) {count : ℕ} → count ≤ length column
@@ -99,14 +97,13 @@ module _ (script : List ℕ) {r : Script} {p q count : ℕ} (e : r ≡ scriptOf 
   pub columns-few : length (take count (r .length)) < 4294967296
   columns-few = omega (arith, prefix-length (r .length) length-reaches, held .few)
 
-  pub columns-fit :
-      Fit (take count (r .«left_a»)) (take count (r .«left_b»)) (take count (r .length)) (take count (r .reversed))
+  pub columns-fit : Fit (readColumns r count)
   columns-fit = held-fit held
 
-module _ {a b d : List ℕ} {r : List Bool} (fit : Fit a b d r) (table : List ℕ) {xs ys : List ℕ} {s t : CutSet}
+module _ {columns : Columns} (fit : Fit columns) (table : List ℕ) {xs ys : List ℕ} {s t : CutSet}
     {answer : Closed} (told : answer ≡ Closed.CutsOfA s) (joined : Joined xs s ys t)
-    (closed : Closure (matchesOf a b d r) (capacityOf table) xs answer) where
-  cuts : AllCuts (matchesOf a b d r) (capacityOf table) xs s
+    (closed : Closure (heldIn columns) (capacityOf table) xs answer) where
+  cuts : AllCuts (heldIn columns) (capacityOf table) xs s
   cuts = told-cuts closed told
 
   ordered : t .base ≤ t .used
@@ -124,30 +121,30 @@ module _ {a b d : List ℕ} {r : List Bool} (fit : Fit a b d r) (table : List �
   inside = let good = joined .kept .good in omega (arith, good .room, good .within)
 
   -- the numbers of the run are the cuts of A
-  run-cuts : (x : ℕ) → (x ∈ slice (t .base) (t .used) ys) ↔ Cut (matchesOf a b d r) [] (at Side.A x)
+  run-cuts : (x : ℕ) → (x ∈ slice (t .base) (t .used) ys) ↔ CutOn (heldIn columns) Side.A x
   run-cuts x = (
     λ i. cuts .cuts x .0 (joined .kept .members x .0 (slice-in ys inside ordered i)),
     λ c. in-slice ys inside ordered (joined .kept .members x .1 (cuts .cuts x .1 c)),
   )
 
-  rows-are : piecesCut a b d r (slice (t .base) (t .used) ys) (length d) ≡ leastTable (matchesOf a b d r) []
+  rows-are : piecesCut columns (slice (t .base) (t .used) ys) (countOf columns) ≡ leastOf (heldIn columns)
   rows-are = rows-least fit (slice-rising ys inside ordered _<_ (λ i j l m n. joined .run i j l m n)) run-cuts
 
-  pub cuts-writable : length d < 4294967296 → Writable a b d r ys (t .base) (t .used) table
+  pub cuts-writable : countOf columns < 4294967296 → Writable columns ys (t .base) (t .used) table
   cuts-writable few =
       record {
         run = record { order = ordered; within = inside; rising = joined .run };
-        left-in = λ k h. joined .kept .members (getD a k 0) .1
-            (cuts .cuts (getD a k 0) .1 (end (∈-matches a b d r h) (left-end Side.A)));
+        left-in = λ k h. joined .kept .members (fromAt columns k) .1
+            (cuts .cuts (fromAt columns k) .1 (end (∈-matches columns h) (left-end Side.A)));
         right-in = λ k h.
-            joined .kept .members (getD a k 0 + getD d k 0) .1
-            (cuts .cuts (getD a k 0 + getD d k 0) .1 (end (∈-matches a b d r h) (right-end Side.A)));
+            joined .kept .members (fromAt columns k + lettersAt columns k) .1
+            (cuts .cuts (fromAt columns k + lettersAt columns k) .1 (end (∈-matches columns h) (right-end Side.A)));
         few = few;
         room = omega (arith, ap length rows-are, cuts .fits);
       }
 
-  pub rows-tabled : {after : List ℕ} {n : ℕ} → Written a b d r (slice (t .base) (t .used) ys) table after n
-      → Tabled (matchesOf a b d r) table after (Refined.Rows n)
+  pub rows-tabled : {after : List ℕ} {n : ℕ} → Written columns (slice (t .base) (t .used) ys) table after n
+      → Tabled (heldIn columns) table after (Refined.Rows n)
   rows-tabled w = (
     w .count ∙ ap length rows-are,
     cuts .fits,
@@ -155,25 +152,25 @@ module _ {a b d : List ℕ} {r : List Bool} (fit : Fit a b d r) (table : List �
   )
 
 tabled-refined :
-    {ms : List Match} → Matches ms → (table table′ work : List ℕ) (r : Refined) → workNeeded table ≤ length work
-    → Tabled ms table table′ r
-    → MatchesRefined ms table work r table′ (zeroed work)
-tabled-refined {ms} M table table′ work (Refined.Rows n) room t =
-    rw (t .0, t .2 ∙ written-sets (leastTable ms []) table (t .1)) (sym (matches-written ms table work room (t .1)))
-tabled-refined {ms} M table table′ work (Refined.Refused f) room t =
-    rw (t .0, t .2) (sym (matches-crowded ms table work room (exceeds-many M (t .1))))
+    {g : Given} → Matches (g .matches) → (table table′ work : List ℕ) (r : Refined) → workNeeded table ≤ length work
+    → Tabled g table table′ r
+    → MatchesRefined g table work r table′ (zeroed work)
+tabled-refined {g} M table table′ work (Refined.Rows n) room t =
+    rw (t .0, t .2 ∙ written-sets (leastOf g) table (t .1)) (sym (matches-written g table work room (t .1)))
+tabled-refined {g} M table table′ work (Refined.Refused f) room t =
+    rw (t .0, t .2) (sym (matches-crowded g table work room (exceeds-many M (t .1))))
 
 pub cleared-refined :
-    {a b d : List ℕ} {reversed : List Bool} → Fit a b d reversed → (table table′ work work′ : List ℕ)
+    {columns : Columns} → Fit columns → (table table′ work work′ : List ℕ)
     {ended : List ℕ} {r : Refined}
     → workNeeded table ≤ length work
-    → Tabled (matchesOf a b d reversed) table table′ r
+    → Tabled (heldIn columns) table table′ r
     → length work′ ≡ length work
     → ended ≡ zeroed work′
-    → MatchesRefined (matchesOf a b d reversed) table work r table′ ended
-cleared-refined {a} {b} {d} {reversed} fit table table′ work work′ {r = r} room tabled same cleared =
+    → MatchesRefined (heldIn columns) table work r table′ ended
+cleared-refined {columns} fit table table′ work work′ {r = r} room tabled same cleared =
     rw (cleared ∙ ap (λ (n : ℕ). replicate n 0) same)
-    (tabled-refined (matches-good a b d reversed fit) table table′ work r room tabled)
+    (tabled-refined (matches-good columns fit) table table′ work r room tabled)
 
 -- the contract of `refine`, by the one equation of what the call leaves
 pub refining-met :
@@ -199,8 +196,7 @@ pub read-refined :
     (script table work : List ℕ) {r : Script} {p q count : ℕ} {reply : Refined} {table′ work′ : List ℕ}
     → r ≡ scriptOf (readScript script)
     → r .verdict ≡ Verdict.Admitted p q count
-    → MatchesRefined (matchesOf (take count (r .«left_a»)) (take count (r .«left_b»)) (take count (r .length))
-    (take count (r .reversed))) table work reply table′ work′
+    → MatchesRefined (heldIn (readColumns r count)) table work reply table′ work′
     → _≡_ {A = Refining} (record { reply = reply; table = table′; work = work′ }) (refiningOf script table work)
 read-refined script table work e v refined =
     refined ∙ sym (refining-admitted script table work (held-admitted (holds-admitted script e v)))

@@ -11,8 +11,8 @@ use writing_rows::write_rows;
 ghost use mathlib.Core.Path.{_≡_};
 ghost use Prim.Native.Nat.{_≤_, _<_};
 ghost use lib.ListN.{length};
-ghost use Rattle.refining.specs.Columns.{Fit, matchesOf};
-ghost use Rattle.refining.specs.Refining.{workNeeded, zeroed, refiningOf};
+ghost use Rattle.refining.specs.Columns.{columnsOf, Fit};
+ghost use Rattle.refining.specs.Refining.{heldIn, workNeeded, zeroed, refiningOf};
 ghost use Rattle.refine.specs.Calls.{Tabled, MatchesRefined};
 ghost use Rattle.refining.specs.Demands.{answerOf, Demand1, Demand2, Demand3};
 
@@ -36,12 +36,12 @@ fn cut_and_write(
     table: &mut [u32],
     work: &mut [u32],
 ) -> Refined
-    requires { ⌜ Fit (now «left_a») (now «left_b») (now lengths) (now reversed) ⌝ }
+    requires { ⌜ Fit (columnsOf (now «left_a») (now «left_b») (now lengths) (now reversed)) ⌝ }
     requires { ⌜ workNeeded (now table) ≤ length (now work) ⌝ }
     requires { ⌜ length (now lengths) < 4294967296 ⌝ }
     ensures { λ r. ⌜
         Tabled
-        (matchesOf (now («left_a» .entry)) (now («left_b» .entry)) (now (lengths .entry)) (now (reversed .entry)))
+        (heldIn (columnsOf (now («left_a» .entry)) (now («left_b» .entry)) (now (lengths .entry)) (now (reversed .entry))))
         (now (table .entry)) (now (table .exit)) r ⌝ }
 {
     match close(
@@ -78,11 +78,11 @@ fn refine_matches(
     table: &mut [u32],
     work: &mut [u32],
 ) -> Refined
-    requires { ⌜ Fit (now «left_a») (now «left_b») (now lengths) (now reversed) ⌝ }
+    requires { ⌜ Fit (columnsOf (now «left_a») (now «left_b») (now lengths) (now reversed)) ⌝ }
     requires { ⌜ length (now lengths) < 4294967296 ⌝ }
     ensures { λ r. ⌜
         MatchesRefined
-        (matchesOf (now («left_a» .entry)) (now («left_b» .entry)) (now (lengths .entry)) (now (reversed .entry)))
+        (heldIn (columnsOf (now («left_a» .entry)) (now («left_b» .entry)) (now (lengths .entry)) (now (reversed .entry))))
         (now (table .entry)) (now (work .entry)) r (now (table .exit)) (now (work .exit)) ⌝ }
 {
     if work.len() < 4 * (table.len() / ROW_WIDTH) {
