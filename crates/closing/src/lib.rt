@@ -69,7 +69,8 @@ fn drive(
         Open (columnsOf (now «left_a») (now «left_b») (now lengths) (now reversed)) capacity (now work) cuts Side.A ⌝ }
     ensures { λ r. ⌜
         Closure
-        (heldIn (columnsOf (now («left_a» .entry)) (now («left_b» .entry)) (now (lengths .entry)) (now (reversed .entry))))
+        (heldIn
+        (columnsOf (now («left_a» .entry)) (now («left_b» .entry)) (now (lengths .entry)) (now (reversed .entry))))
         capacity (now (work .exit)) r ⌝ }
 {
     let mut closing = Closing::MoreA(cuts);
@@ -105,7 +106,8 @@ pub fn close(
     requires { ⌜ length (now lengths) ≤ 4294967296 ⌝ }
     ensures { λ r. ⌜
         Closure
-        (heldIn (columnsOf (now («left_a» .entry)) (now («left_b» .entry)) (now (lengths .entry)) (now (reversed .entry))))
+        (heldIn
+        (columnsOf (now («left_a» .entry)) (now («left_b» .entry)) (now (lengths .entry)) (now (reversed .entry))))
         capacity (now (work .exit)) r ⌝ }
 {
     let a = cut_set::empty(work, 0, 2 * capacity);

@@ -152,12 +152,12 @@ module _ {columns : Columns} (fit : Fit columns) (table : List ℕ) {xs ys : Lis
   )
 
 tabled-refined :
-    {g : Given} → Matches (g .matches) → (table table′ work : List ℕ) (r : Refined) → workNeeded table ≤ length work
+    (g : Given) → Matches (g .matches) → (table table′ work : List ℕ) (r : Refined) → workNeeded table ≤ length work
     → Tabled g table table′ r
     → MatchesRefined g table work r table′ (zeroed work)
-tabled-refined {g} M table table′ work (Refined.Rows n) room t =
+tabled-refined g M table table′ work (Refined.Rows n) room t =
     rw (t .0, t .2 ∙ written-sets (leastOf g) table (t .1)) (sym (matches-written g table work room (t .1)))
-tabled-refined {g} M table table′ work (Refined.Refused f) room t =
+tabled-refined g M table table′ work (Refined.Refused f) room t =
     rw (t .0, t .2) (sym (matches-crowded g table work room (exceeds-many M (t .1))))
 
 pub cleared-refined :
@@ -170,7 +170,7 @@ pub cleared-refined :
     → MatchesRefined (heldIn columns) table work r table′ ended
 cleared-refined {columns} fit table table′ work work′ {r = r} room tabled same cleared =
     rw (cleared ∙ ap (λ (n : ℕ). replicate n 0) same)
-    (tabled-refined (matches-good columns fit) table table′ work r room tabled)
+    (tabled-refined (heldIn columns) (matches-good columns fit) table table′ work r room tabled)
 
 -- the contract of `refine`, by the one equation of what the call leaves
 pub refining-met :

@@ -41,7 +41,8 @@ fn cut_and_write(
     requires { ⌜ length (now lengths) < 4294967296 ⌝ }
     ensures { λ r. ⌜
         Tabled
-        (heldIn (columnsOf (now («left_a» .entry)) (now («left_b» .entry)) (now (lengths .entry)) (now (reversed .entry))))
+        (heldIn
+        (columnsOf (now («left_a» .entry)) (now («left_b» .entry)) (now (lengths .entry)) (now (reversed .entry))))
         (now (table .entry)) (now (table .exit)) r ⌝ }
 {
     match close(
@@ -82,7 +83,8 @@ fn refine_matches(
     requires { ⌜ length (now lengths) < 4294967296 ⌝ }
     ensures { λ r. ⌜
         MatchesRefined
-        (heldIn (columnsOf (now («left_a» .entry)) (now («left_b» .entry)) (now (lengths .entry)) (now (reversed .entry))))
+        (heldIn
+        (columnsOf (now («left_a» .entry)) (now («left_b» .entry)) (now (lengths .entry)) (now (reversed .entry))))
         (now (table .entry)) (now (work .entry)) r (now (table .exit)) (now (work .exit)) ⌝ }
 {
     if work.len() < 4 * (table.len() / ROW_WIDTH) {

@@ -12,27 +12,27 @@ use lib.ListN.{length, length-replicate}
 use Rattle.script.specs.Reading.{admitted, readScript}
 use Rattle.script.specs.declared.command.Match.{Match as ScriptMatch}
 use Rattle.refinement.specs.Match.{Match}
-use Rattle.refinement.specs.Least.{leastTable}
 use Rattle.rows.specs.Rows.{rowWidth}
-use Rattle.refining.specs.Refining.{capacityOf, workNeeded, numbered, refiningOfMatches, refiningOf}
+use Rattle.refining.specs.Refining.{Given, givenBy, leastOf, capacityOf, workNeeded, refiningOfMatches}
+use Rattle.refining.specs.Refining.{refiningOf}
 use Rattle.reporting.specs.Reporting.{lentRows, lentTable, lentWork, reportOfRefining, reportOf}
 use Rattle.reporting.proofs.LeastRows.{report-crowded, report-rows}
 
 pub lent-rows : (length lentTable ≡ 15000) × (length lentWork ≡ 12000)
 lent-rows = (length-replicate {A = ℕ} (rowWidth * lentRows) 0, length-replicate {A = ℕ} (4 * lentRows) 0)
 
-pub report-lent : (p q count : ℕ) (ms : List Match) (table table′ work work′ : List ℕ)
+pub report-lent : (p q count : ℕ) (g : Given) (table table′ work work′ : List ℕ)
     → capacityOf table ≡ capacityOf table′ → workNeeded table ≤ length work → workNeeded table′ ≤ length work′
-    → reportOfRefining p q count (refiningOfMatches ms table work)
-    ≡ reportOfRefining p q count (refiningOfMatches ms table′ work′)
-report-lent p q count ms table table′ work work′ same enough enough′ =
-    elim (decLe (length (leastTable ms [])) (capacityOf table)) [
+    → reportOfRefining p q count (refiningOfMatches g table work)
+    ≡ reportOfRefining p q count (refiningOfMatches g table′ work′)
+report-lent p q count g table table′ work work′ same enough enough′ =
+    elim (decLe (length (leastOf g)) (capacityOf table)) [
       | yes room ↦
-          report-rows p q count ms table work enough room
-          ∙ sym (report-rows p q count ms table′ work′ enough′ (omega arith))
+          report-rows p q count g table work enough room
+          ∙ sym (report-rows p q count g table′ work′ enough′ (omega arith))
       | no many ↦
-          report-crowded p q count ms table work enough (omega arith)
-          ∙ sym (report-crowded p q count ms table′ work′ enough′ (omega arith))
+          report-crowded p q count g table work enough (omega arith)
+          ∙ sym (report-crowded p q count g table′ work′ enough′ (omega arith))
     ]
 
 pub report-of-lent : (s table work : List ℕ) {p q : ℕ} {ms : List ScriptMatch} → readScript s ≡ admitted p q ms
@@ -41,5 +41,5 @@ pub report-of-lent : (s table work : List ℕ) {p q : ℕ} {ms : List ScriptMatc
 unfolding reportOf refiningOf
 report-of-lent s table work {p} {q} {ms} read rows numbers =
     rw read
-    (report-lent p q (length ms) (numbered 1 ms) table lentTable work lentWork (omega (arith, lent-rows .0))
+    (report-lent p q (length ms) (givenBy ms) table lentTable work lentWork (omega (arith, lent-rows .0))
     (omega arith) (omega (arith, lent-rows)))

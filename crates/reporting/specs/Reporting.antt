@@ -12,7 +12,7 @@ use lib.ListN.{length, take, drop, replicate}
 use lib.Dec.{ltb}
 use Rattle.script.specs.Reading.{Reading, admitted, refused, readScript}
 use Rattle.rows.specs.Rows.{rowWidth, rowsOf}
-use Rattle.refining.specs.Refining.{Refining, numbered, refiningOfMatches}
+use Rattle.refining.specs.Refining.{givenBy, Refining, refiningOfMatches}
 use Rattle.refining.specs.declared.answers.Refined.{Refined}
 use Rattle.reporting.specs.Lines.{refusalText, tableText}
 use Rattle.reporting.specs.declared.Reported.{Reported}
@@ -39,7 +39,7 @@ reportOfRefining p q count x = reportOfReply p q count (x .table) (x .reply)
 abbrev pub reportOfReading : Reading → List ℕ
 reportOfReading (refused r) = refusalText r
 reportOfReading (admitted p q ms) =
-    reportOfRefining p q (length ms) (refiningOfMatches (numbered 1 ms) lentTable lentWork)
+    reportOfRefining p q (length ms) (refiningOfMatches (givenBy ms) lentTable lentWork)
 
 -- SCOPE, "Text" and "Refusal line": for any string of bytes the one or the other
 unfoldable pub reportOf : List ℕ → List ℕ
