@@ -5,7 +5,7 @@
 --     pass-over, pass-none    matches that reach no cut change nothing, nor does any match where there is no cut
 --     pass-ready, pass-run    what the next match needs
 -- Assumes nothing.
-use Prim.Native.Nat.{ℕ, zero, suc, _+_, _-_, _≤_, _<_}
+use Prim.Native.Nat.{ℕ, zero, suc, _+_, _≤_, _<_}
 use native.Mathlib.Omega.{arith}
 use native.Mathlib.Decide.{ℕ-discrete}
 use mathlib.Core.Path.{_≡_, refl, sym, _∙_}
@@ -13,16 +13,16 @@ use mathlib.Core.Bool.{Bool, true, false, true≢false}
 use mathlib.Core.List.{List}
 use mathlib.Core.Logic.{_↔_, _⊎_, inl, inr, ⊎-elim}
 use lib.ListN.{length, getD}
-use lib.Seq.{slice}
 use borrow.Author.Tests.{le-leb}
 use Rattle.refinement.specs.Match.{spanned}
 use Rattle.refinement.proofs.Geometry.{spanned-bounds}
 use Rattle.runs.specs.Runs.{Same}
-use Rattle.cut_set.specs.Store.{Found, FoundRun, Stored}
+use Rattle.cut_set.specs.Store.{Found, FoundRun, NothingFound, foundIn, Stored}
 use Rattle.cut_set.specs.declared.CutSet.{CutSet}
 use Rattle.runs.proofs.Moving.{lt-or-le}
 use Rattle.runs.proofs.Membership.{in-same}
 use Rattle.cut_set.proofs.Laws.{stored-none, stored-same, stored-then}
+use Rattle.reading_cuts.specs.Reading.{Lowest, Highest}
 use Rattle.refining.specs.Columns.{Columns, countOf, fromAt, toAt, lettersAt, wayAt}
 use Rattle.near_matches.specs.Near.{reaching, Passable}
 use Rattle.carrying_match.specs.OneMatch.{ImageBy, hitsOn, TooMuch, Ready}
@@ -36,7 +36,7 @@ pub record Passed (columns : Columns) (xs : List ℕ) (from to : CutSet) (hits m
   pub until : k ≤ countOf columns
   pub lengths : length ys ≡ length xs
   pub stored : Stored (Images columns k (Found xs from)) xs to ys set
-  pub counted : count ≡ hits + hitsOver columns k (slice (from .done) (from .used) xs)
+  pub counted : count ≡ hits + hitsOver columns k (foundIn xs from)
   pub few : count ≤ most
 
 -- more matches have no fewer hits
@@ -44,7 +44,8 @@ hits-more : (columns : Columns) (ns : List ℕ) (k n : ℕ) → k ≤ n → hits
 hits-more columns ns k zero h = let e : k ≡ 0 = omega arith in rw e (omega arith)
 hits-more columns ns k (suc n) h = go (ℕ-discrete k (suc n)) (λ l. hits-more columns ns k n l)
   where
-    go : Dec (k ≡ suc n) → (k ≤ n → hitsOver columns k ns ≤ hitsOver columns n ns) → hitsOver columns k ns ≤ hitsOver columns (suc n) ns
+    go : Dec (k ≡ suc n) → (k ≤ n → hitsOver columns k ns ≤ hitsOver columns n ns)
+        → hitsOver columns k ns ≤ hitsOver columns (suc n) ns
     go (yes e) before = rw e (omega arith)
     go (no e) before = omega (arith, before (omega arith))
 
@@ -61,12 +62,14 @@ images-to h m = record {
 -- matches without a hit
 hits-same :
     (columns : Columns) (ns : List ℕ) (k n : ℕ) → k ≤ n
-    → ((j : ℕ) → k ≤ j → j < n → hitsOn (fromAt columns j) (lettersAt columns j) ns ≡ 0) → hitsOver columns n ns ≡ hitsOver columns k ns
+    → ((j : ℕ) → k ≤ j → j < n → hitsOn (fromAt columns j) (lettersAt columns j) ns ≡ 0)
+    → hitsOver columns n ns ≡ hitsOver columns k ns
 hits-same columns ns k zero h none = let e : k ≡ 0 = omega arith in rw e
 hits-same columns ns k (suc n) h none =
     go (ℕ-discrete k (suc n)) (λ l. hits-same columns ns k n l (λ j a b. none j a (omega arith)))
   where
-    go : Dec (k ≡ suc n) → (k ≤ n → hitsOver columns n ns ≡ hitsOver columns k ns) → hitsOver columns (suc n) ns ≡ hitsOver columns k ns
+    go : Dec (k ≡ suc n) → (k ≤ n → hitsOver columns n ns ≡ hitsOver columns k ns)
+        → hitsOver columns (suc n) ns ≡ hitsOver columns k ns
     go (yes e) before = rw e
     go (no e) before = omega (arith, before (omega arith), none n (omega arith) (omega arith))
 
@@ -105,7 +108,7 @@ module _ {columns : Columns} {xs : List ℕ} {from to : CutSet} {hits most : ℕ
     pub pass-run : FoundRun xs from → FoundRun ys from
     pass-run up i j l o u = rw (found-same i l (omega arith), found-same j (omega arith) u) (up i j l o u)
 
-    run-list : slice (from .done) (from .used) ys ≡ slice (from .done) (from .used) xs
+    run-list : foundIn ys from ≡ foundIn xs from
     run-list = slice-same xs ys (r .from-good .found-short .within)
         (omega (arith, p .lengths, r .from-good .found-short .within)) (done-used (r .from-good)) found-same
 
@@ -146,16 +149,16 @@ module _ {columns : Columns} {xs : List ℕ} {from to : CutSet} {hits most : ℕ
         })
 
     one-more :
-        hitsOver columns (k + 1) (slice (from .done) (from .used) xs)
-        ≡ hitsOver columns k (slice (from .done) (from .used) xs)
-        + hitsOn (fromAt columns k) (lettersAt columns k) (slice (from .done) (from .used) ys)
+        hitsOver columns (k + 1) (foundIn xs from)
+        ≡ hitsOver columns k (foundIn xs from)
+        + hitsOn (fromAt columns k) (lettersAt columns k) (foundIn ys from)
     one-more = let e : k + 1 ≡ suc k = omega arith in rw (e, run-list)
 
     module _ (h : k < countOf columns) where
       pub pass-step :
           {zs : List ℕ} {u : CutSet} {c : ℕ} → length zs ≡ length ys
           → Stored (ImageBy (fromAt columns k) (toAt columns k) (lettersAt columns k) (wayAt columns k) (Found ys from)) ys set zs u
-          × (c ≡ count + hitsOn (fromAt columns k) (lettersAt columns k) (slice (from .done) (from .used) ys)) × (c ≤ most)
+          × (c ≡ count + hitsOn (fromAt columns k) (lettersAt columns k) (foundIn ys from)) × (c ≤ most)
           → Passed columns xs from to hits most zs u c (k + 1)
       pass-step n q = record {
         until = omega arith;
@@ -167,13 +170,13 @@ module _ {columns : Columns} {xs : List ℕ} {from to : CutSet} {hits most : ℕ
 
       pub pass-too-much :
           TooMuch ys set (ImageBy (fromAt columns k) (toAt columns k) (lettersAt columns k) (wayAt columns k) (Found ys from))
-          (count + hitsOn (fromAt columns k) (lettersAt columns k) (slice (from .done) (from .used) ys)) most
+          (count + hitsOn (fromAt columns k) (lettersAt columns k) (foundIn ys from)) most
           → TooMuch xs to (Images columns (countOf columns) (Found xs from))
-          (hits + hitsOver columns (countOf columns) (slice (from .done) (from .used) xs)) most
+          (hits + hitsOver columns (countOf columns) (foundIn xs from)) most
       pass-too-much m =
-          let more : hitsOver columns (k + 1) (slice (from .done) (from .used) xs)
-          ≤ hitsOver columns (countOf columns) (slice (from .done) (from .used) xs) =
-          hits-more columns (slice (from .done) (from .used) xs) (k + 1) (countOf columns) (omega arith)
+          let more : hitsOver columns (k + 1) (foundIn xs from)
+          ≤ hitsOver columns (countOf columns) (foundIn xs from) =
+          hits-more columns (foundIn xs from) (k + 1) (countOf columns) (omega arith)
           in
           too-much-more
           (λ y q. images-to (omega arith) (next y .0 q))
@@ -195,8 +198,8 @@ module _ {columns : Columns} {xs : List ℕ} {from to : CutSet} {hits most : ℕ
     }
       where
         same :
-            hitsOver columns n (slice (from .done) (from .used) xs) ≡ hitsOver columns k (slice (from .done) (from .used) xs)
-        same = hits-same columns (slice (from .done) (from .used) xs) k n a (λ j l u.
+            hitsOver columns n (foundIn xs from) ≡ hitsOver columns k (foundIn xs from)
+        same = hits-same columns (foundIn xs from) k n a (λ j l u.
             hits-none xs (r .from-good .found-short .within) (done-used (r .from-good)) (fromAt columns j) (lettersAt columns j)
             (λ i l′ u′. none j i l u l′ u′))
 
@@ -210,27 +213,19 @@ module _ {columns : Columns} {xs : List ℕ} {from to : CutSet} {hits most : ℕ
             absurd (true≢false (sym (rw (← (c .is)) at (q .image .spans)) ∙ past))
 
     pub pass-over :
-        {n : ℕ} → FoundRun xs from → Passable (columns .from-lefts) (columns .lengths) (getD xs (from .done) 0) (getD xs (from .used - 1) 0) k n
+        {lowest highest n : ℕ} → Lowest xs from lowest → Highest xs from highest
+        → Passable (columns .from-lefts) (columns .lengths) lowest highest k n
         → Passed columns xs from to hits most ys set count n
-    pass-over {n} up q = skip (q .from) (q .to) (λ j i a b l u.
-        unreached (fromAt columns j) (lettersAt columns j) (getD xs (from .done) 0) (getD xs (from .used - 1) 0) (getD xs i 0)
-        (q .past j a b) (lowest i l u (lt-or-le (from .done) i)) (highest i l u (lt-or-le i (from .used - 1))))
-      where
-        lowest : (i : ℕ) → from .done ≤ i → i < from .used → (from .done < i) ⊎ (i ≤ from .done)
-            → getD xs (from .done) 0 ≤ getD xs i 0
-        lowest i l u (inl h) = omega (arith, up (from .done) i (omega arith) h u)
-        lowest i l u (inr h) = let e : i ≡ from .done = omega arith in rw e (omega arith)
+    pass-over {lowest} {highest} low high q = skip (q .from) (q .to) (λ j i a b l u.
+        let m : Found xs from (getD xs i 0) = record { place = i; from = l; below = u; is = refl } in
+        unreached (fromAt columns j) (lettersAt columns j) lowest highest (getD xs i 0) (q .past j a b)
+        (low .least (getD xs i 0) m) (high .greatest (getD xs i 0) m))
 
-        highest : (i : ℕ) → from .done ≤ i → i < from .used → (i < from .used - 1) ⊎ (from .used - 1 ≤ i)
-            → getD xs i 0 ≤ getD xs (from .used - 1) 0
-        highest i l u (inl h) = omega (arith, up i (from .used - 1) l h (omega arith))
-        highest i l u (inr h) = let e : i ≡ from .used - 1 = omega arith in rw e (omega arith)
-
-    pub pass-none : from .done ≡ from .used → Passed columns xs from to hits most ys set count (countOf columns)
+    pub pass-none : NothingFound from → Passed columns xs from to hits most ys set count (countOf columns)
     pass-none e = skip (p .until) (omega arith) (λ j i a b l u. absurd (omega arith))
 
     pub pass-end :
         countOf columns ≤ k
         → Stored (Images columns (countOf columns) (Found xs from)) xs to ys set
-        × (count ≡ hits + hitsOver columns (countOf columns) (slice (from .done) (from .used) xs)) × (count ≤ most)
+        × (count ≡ hits + hitsOver columns (countOf columns) (foundIn xs from)) × (count ≤ most)
     pass-end h = let e : k ≡ countOf columns = omega (arith, p .until) in (rw e at (p .stored), rw e at (p .counted), p .few)

@@ -5,8 +5,7 @@ use cut_set::CutSet;
 use near_matches::next_near;
 ghost use Prim.Native.Nat.{_≤_};
 ghost use lib.ListN.{length};
-ghost use lib.Seq.{slice};
-ghost use Rattle.cut_set.specs.Store.{FoundRun};
+ghost use Rattle.cut_set.specs.Store.{FoundRun, foundIn};
 ghost use Rattle.refining.specs.Columns.{columnsOf, Fit};
 ghost use Rattle.carrying_match.specs.OneMatch.{Ready};
 ghost use Rattle.carrying_cuts.specs.Worker.{Working, Turning};
@@ -39,15 +38,13 @@ fn carry_found(
     ensures { λ r. ⌜
         Working (columnsOf (now (lefts .entry)) (now (others .entry)) (now (lengths .entry)) (now (reversed .entry)))
         (length (now (lengths .entry))) (now (work .entry)) from to
-        (slice (from .done) (from .used) (now (work .entry))) hits most (now (work .exit)) r ⌝ }
+        (foundIn (now (work .entry)) from) hits most (now (work .exit)) r ⌝ }
 {
-    let first = from.done;
-    let end = from.used;
-    if first == end {
+    if reading_cuts::none_found(from) {
         return Worked::Held { hits: hits, to: to };
     }
-    let lowest = work[first];
-    let highest = work[end - 1];
+    let lowest = reading_cuts::lowest_found(work, from);
+    let highest = reading_cuts::highest_found(work, from);
     let mut set = to;
     let mut count = hits;
     let mut k = next_near(lefts, lengths, 0, lowest, highest);
