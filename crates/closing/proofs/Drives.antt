@@ -4,10 +4,10 @@
 --     stepped-driving, stepped-less    a step keeps the one and lowers the other
 -- Assumes nothing.
 use Prim.Native.Nat.{ℕ, suc, _<_}
-use mathlib.Core.Path.{_≡_}
 use mathlib.Core.List.{List}
 use native.Mathlib.Omega.{arith}
 use Rattle.refinement.specs.declared.Side.the-variants.{A, B}
+use Rattle.cut_set.specs.Store.{NothingFound}
 use Rattle.refining.specs.Columns.{Columns}
 use Rattle.refining.specs.Refining.{heldIn}
 use Rattle.stepping.specs.Engine.{Open, unused, Stepped}
@@ -16,7 +16,7 @@ use Rattle.stepping.specs.declared.Cuts.{Cuts}
 use Rattle.stepping.specs.declared.Closing.{Closing}
 
 abbrev pub Driving : Columns → ℕ → List ℕ → Closing → Type 0
-Driving columns cap ys (Closing.Done c) = Open columns cap ys c A × (c .a .done ≡ c .a .used)
+Driving columns cap ys (Closing.Done c) = Open columns cap ys c A × NothingFound (c .a)
 Driving columns cap ys (Closing.MoreA c) = Open columns cap ys c A
 Driving columns cap ys (Closing.MoreB c) = Open columns cap ys c B
 Driving columns cap ys Closing.TooMany = EveryExceeds (heldIn columns) cap

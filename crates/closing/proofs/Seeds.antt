@@ -5,7 +5,7 @@
 --     seeded-open          with all ends added to A and none to B, all holds that holds between two steps
 --     seeded-exceeds       no room for all ends: every resolved refinement exceeds the capacity
 -- Assumes nothing.
-use Prim.Native.Nat.{ℕ, _+_, _-_, _*_, _≤_, _<_}
+use Prim.Native.Nat.{ℕ, _+_, _*_, _≤_, _<_}
 use mathlib.Core.Path.{_≡_, refl, sym, ap, subst, _∙_}
 use mathlib.Core.Logic.{_⊎_, inl, inr, ⊎-elim}
 use mathlib.Core.List.{List, [], List·Memᴰ·not-nil}
@@ -18,7 +18,7 @@ use Rattle.refinement.specs.Order.{_∈_}
 use Rattle.refinement.specs.Match.{Match, left, right}
 use Rattle.refinement.specs.Cut.{left-end, right-end, end}
 use Rattle.runs.specs.Runs.{In, Run}
-use Rattle.cut_set.specs.Store.{Good, Member, Stored, Crowded, Emptied, AddedTo, Adding}
+use Rattle.cut_set.specs.Store.{Good, Member, placesOf, Stored, Crowded, Emptied, AddedTo, Adding}
 use Rattle.cut_set.specs.declared.CutSet.{CutSet}
 use Rattle.cut_set.specs.declared.Added.{Added}
 use Rattle.cut_set.proofs.Laws.{stored-none, stored-same, stored-then}
@@ -47,7 +47,7 @@ two-added xs s zs x n g h Added.Full k =
 
 pub one-full :
     {xs : List ℕ} {s : CutSet} {x : ℕ} (n : ℕ) → Good xs s → Crowded (λ y. y ≡ x) xs s
-    → Overflow (λ y. Member xs s y ⊎ EndAt x n y) (s .limit - s .base)
+    → Overflow (λ y. Member xs s y ⊎ EndAt x n y) (placesOf s)
 one-full n g c = overflow-from refl (λ y. ⊎-elim inl (λ e. inr (inl e))) (crowded-overflow g c)
 
 pub record Sown (a d xs : List ℕ) (s : CutSet) (k : ℕ) (ys : List ℕ) (t : CutSet) : Type 0 where
@@ -86,8 +86,8 @@ module _ {a d xs ys : List ℕ} {s t : CutSet} {k : ℕ} (w : Sown a d xs s k ys
       part y p (no f) = inl (record { index = p .index; below = omega (arith, p .below, f); is = p .is })
 
   pub sown-full :
-      Good xs s → Overflow (λ y. Member ys t y ⊎ EndAt (getD a k 0) (getD d k 0) y) (t .limit - t .base)
-      → Overflow (λ y. Member xs s y ⊎ EndOf a d (length d) y) (s .limit - s .base)
+      Good xs s → Overflow (λ y. Member ys t y ⊎ EndAt (getD a k 0) (getD d k 0) y) (placesOf t)
+      → Overflow (λ y. Member xs s y ⊎ EndOf a d (length d) y) (placesOf s)
   sown-full g o =
       overflow-from (omega (arith, w .stored .base-same, w .stored .limit-same))
       (λ y. ⊎-elim
@@ -145,7 +145,7 @@ module _ (columns : Columns) where
 
   pub seeded-exceeds :
       {cap : ℕ} {xs : List ℕ} {s : CutSet} → Fit columns → Emptied xs 0 (2 * cap) s
-      → Overflow (λ y. Member xs s y ⊎ EndOf (columns .from-lefts) (columns .lengths) (countOf columns) y) (s .limit - s .base)
+      → Overflow (λ y. Member xs s y ⊎ EndOf (columns .from-lefts) (columns .lengths) (countOf columns) y) (placesOf s)
       → EveryExceeds (heldIn columns) cap
   seeded-exceeds fit z o =
       overflow-exceeds columns fit A (omega (arith, z .base-is, z .limit-is)) o

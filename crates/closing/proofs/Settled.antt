@@ -13,7 +13,7 @@ use Rattle.refinement.specs.Match.{Match, other, left, right, Place, carry}
 use Rattle.refinement.specs.Cut.{left-end, right-end, Cut, end, mark, carried}
 use Rattle.refinement.proofs.Geometry.{end-spanned, carry-meets, carry-spans, carry-back, meets-end}
 use Rattle.runs.specs.Runs.{In}
-use Rattle.cut_set.specs.Store.{Member, Finished}
+use Rattle.cut_set.specs.Store.{Member, Finished, NothingFound}
 use Rattle.refining.specs.Columns.{Columns, Fit, matchesOf}
 use Rattle.refining.specs.Refining.{heldIn}
 use Rattle.stepping.specs.Engine.{at, CutOn, setOn, Open}
@@ -31,7 +31,7 @@ same-place P B A x y e p = absurd (omega (arith, ap (λ (q : Place). q .track) e
 same-place P B B x y e p = subst (P B) (ap (λ (q : Place). q .position) e) p
 
 module _ {columns : Columns} {cap : ℕ} {ys : List ℕ} {c : Cuts} (o : Open columns cap ys c A)
-    (e : c .a .done ≡ c .a .used) where
+    (e : NothingFound (c .a)) where
   settled-on : (u : Side) {x : ℕ} → Member ys (setOn u c) x → Finished ys (setOn u c) x
   settled-on A {x} p = subst (λ (n : ℕ). In ys (c .a .base) n x) (sym e) p
   settled-on B {x} p = subst (λ (n : ℕ). In ys (c .b .base) n x) (sym (o .settled)) p

@@ -2,13 +2,13 @@
 --     EndOf, Seeding      the A ends of the matches, and what adding them does, by its answer
 --     AllCuts, Closure    what the whole closure does, by its answer
 -- Assumes nothing.
-use Prim.Native.Nat.{ℕ, _+_, _-_, _≤_, _<_}
+use Prim.Native.Nat.{ℕ, _+_, _≤_, _<_}
 use mathlib.Core.Path.{_≡_}
 use mathlib.Core.Logic.{_↔_, _⊎_}
 use mathlib.Core.List.{List}
 use lib.ListN.{length, getD}
 use Rattle.refinement.specs.declared.Side.the-variants.{A}
-use Rattle.cut_set.specs.Store.{Good, Member, Stored}
+use Rattle.cut_set.specs.Store.{Good, Member, placesOf, Stored}
 use Rattle.cut_set.specs.declared.CutSet.{CutSet}
 use Rattle.cut_set.specs.declared.Added.{Added}
 use Rattle.refining.specs.Refining.{Given, leastOf}
@@ -30,7 +30,7 @@ pub record EndOf (a d : List ℕ) (n y : ℕ) : Type 0 where
 -- adding all numbers with P to the set s
 abbrev pub Seeding : (ℕ → Type 0) → List ℕ → CutSet → List ℕ → Added → Type 0
 Seeding P xs s ys (Added.Held t) = Stored P xs s ys t
-Seeding P xs s ys Added.Full = Overflow (λ y. Member xs s y ⊎ P y) (s .limit - s .base)
+Seeding P xs s ys Added.Full = Overflow (λ y. Member xs s y ⊎ P y) (placesOf s)
 
 -- the set holds exactly the cuts of A, and the least table has room
 pub record AllCuts (g : Given) (cap : ℕ) (ys : List ℕ) (s : CutSet) : Type 0 where

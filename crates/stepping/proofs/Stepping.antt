@@ -19,7 +19,7 @@ use Rattle.refinement.specs.Match.{Match, other, Spans, carry}
 use Rattle.refinement.specs.Cut.{Cut, carried}
 use Rattle.refinement.proofs.Lists.{rising-append, rising-weaken}
 use Rattle.runs.specs.Runs.{In}
-use Rattle.cut_set.specs.Store.{Good, Member, Finished, Found}
+use Rattle.cut_set.specs.Store.{Good, Member, Finished, Found, NothingFound}
 use Rattle.cut_set.specs.declared.CutSet.{CutSet}
 use Rattle.runs.proofs.Membership.{in-parts}
 use Rattle.refining.specs.Columns.{Columns, seenFrom, countOf, Fit, matchAt, matchesOf}
@@ -250,8 +250,8 @@ turn-ready B o = record {
 
 module _ {columns : Columns} {cap : ℕ} {ys : List ℕ} {c : Cuts} where
   pub finished :
-      (s : Side) → Open columns cap ys c s → setOn s c .done ≡ setOn s c .used
-      → Open columns cap ys c A × (c .a .done ≡ c .a .used)
+      (s : Side) → Open columns cap ys c s → NothingFound (setOn s c)
+      → Open columns cap ys c A × NothingFound (c .a)
   finished A o e = (o, e)
   finished B o e = (
     record {

@@ -6,7 +6,7 @@
 --     unused              the unused cut places, which fall with each step
 --     Stepped             what a step does, by its answer
 -- Assumes nothing.
-use Prim.Native.Nat.{ℕ, _+_, _-_, _*_, _≤_, _<_}
+use Prim.Native.Nat.{ℕ, _+_, _*_, _≤_, _<_}
 use mathlib.Core.Path.{_≡_}
 use mathlib.Core.Logic.{_↔_}
 use mathlib.Core.List.{List}
@@ -15,7 +15,7 @@ use Rattle.refinement.specs.declared.Side.the-variants.{A, B}
 use Rattle.refinement.specs.Order.{_∈_, Distinct}
 use Rattle.refinement.specs.Match.{Match, Place, other, left, right, Spans, carry}
 use Rattle.refinement.specs.Cut.{Cut}
-use Rattle.cut_set.specs.Store.{Good, Member, Finished}
+use Rattle.cut_set.specs.Store.{Good, Member, Finished, NothingFound, unusedOf}
 use Rattle.cut_set.specs.declared.CutSet.{CutSet}
 use Rattle.refining.specs.Columns.{Columns, seenFrom, countOf, matchesOf}
 use Rattle.refining.specs.Refining.{Given, heldIn}
@@ -58,16 +58,16 @@ pub record Open (columns : Columns) (cap : ℕ) (xs : List ℕ) (c : Cuts) (s : 
   pub closed :
       (u : Side) (m : Match) → m ∈ matchesOf columns → (x : ℕ) → Spans m u x → Finished xs (setOn u c) x
       → Member xs (setOn (other u) c) (carry m u x)
-  pub settled : setOn (other s) c .done ≡ setOn (other s) c .used
+  pub settled : NothingFound (setOn (other s) c)
   pub counted : (u : Side) → Counted (seenFrom u columns) xs (setOn u c) (hitsAt u c)
   pub few : (u : Side) → hitsAt u c ≤ cap + countOf columns
 
 abbrev pub unused : Cuts → ℕ
-unused c = (c .a .limit - c .a .used) + (c .b .limit - c .b .used)
+unused c = unusedOf (c .a) + unusedOf (c .b)
 
 -- after a step that began with the cuts c: all is carried; or the other side goes on, with fewer unused places
 abbrev pub Stepped : Columns → ℕ → Cuts → List ℕ → Closing → Type 0
-Stepped columns cap c ys (Closing.Done c′) = Open columns cap ys c′ A × (c′ .a .done ≡ c′ .a .used)
+Stepped columns cap c ys (Closing.Done c′) = Open columns cap ys c′ A × NothingFound (c′ .a)
 Stepped columns cap c ys (Closing.MoreA c′) = Open columns cap ys c′ A × (unused c′ < unused c)
 Stepped columns cap c ys (Closing.MoreB c′) = Open columns cap ys c′ B × (unused c′ < unused c)
 Stepped columns cap c ys Closing.TooMany = EveryExceeds (heldIn columns) cap

@@ -63,7 +63,7 @@ pub fn a_step(
                 hits_a: hits,
                 hits_b: cuts.hits_b,
             };
-            if to.done == to.used {
+            if reading_cuts::none_found(to) {
                 return Closing::Done(next);
             }
             if budget == 0 {
@@ -124,7 +124,7 @@ pub fn b_step(
                 hits_a: cuts.hits_a,
                 hits_b: hits,
             };
-            if to.done == to.used {
+            if reading_cuts::none_found(to) {
                 return Closing::Done(next);
             }
             if budget == 0 {
