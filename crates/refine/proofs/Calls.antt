@@ -27,8 +27,11 @@ use Rattle.refinement.specs.Order.{_∈_}
 use Rattle.refinement.specs.Match.{Match}
 use Rattle.refinement.specs.Cut.{end, left-end, right-end}
 use Rattle.refinement.specs.Refinement.{Matches}
+use Rattle.runs.specs.Runs.{In}
 use Rattle.cut_set.specs.Store.{Good, Joined}
 use Rattle.cut_set.specs.declared.CutSet.{CutSet}
+use Rattle.reading_cuts.specs.Reading.{AllPlaces}
+use Rattle.reading_cuts.specs.declared.Places.{Places}
 use Rattle.refining.specs.Columns.{Columns, countOf, fromAt, lettersAt, Fit}
 use Rattle.stepping.specs.Engine.{CutOn}
 use Rattle.closing.specs.AllCuts.{AllCuts, Closure}
@@ -100,50 +103,41 @@ module _ (script : List ℕ) {r : Script} {p q count : ℕ} (e : r ≡ scriptOf 
   pub columns-fit : Fit (readColumns r count)
   columns-fit = held-fit held
 
-module _ {columns : Columns} (fit : Fit columns) (table : List ℕ) {xs ys : List ℕ} {s t : CutSet}
-    {answer : Closed} (told : answer ≡ Closed.CutsOfA s) (joined : Joined xs s ys t)
+module _ {columns : Columns} (fit : Fit columns) (table : List ℕ) {xs ys : List ℕ} {s t : CutSet} {run : Places}
+    {answer : Closed} (told : answer ≡ Closed.CutsOfA s) (joined : Joined xs s ys t) (places : AllPlaces ys t run)
     (closed : Closure (heldIn columns) (capacityOf table) xs answer) where
   cuts : AllCuts (heldIn columns) (capacityOf table) xs s
   cuts = told-cuts closed told
 
-  ordered : t .base ≤ t .used
-  ordered =
-      let good = joined .kept .good in
-      omega (
-        arith,
-        good .finished-long .order,
-        good .finished-short .order,
-        good .found-long .order,
-        good .found-short .order,
-      )
-
-  inside : t .used ≤ length ys
-  inside = let good = joined .kept .good in omega (arith, good .room, good .within)
+  -- a cut of A stands in the run
+  cut-in : (x : ℕ) → CutOn (heldIn columns) Side.A x → In ys (run .start) (run .end) x
+  cut-in x c = places .all x .1 (joined .kept .members x .1 (cuts .cuts x .1 c))
 
   -- the numbers of the run are the cuts of A
-  run-cuts : (x : ℕ) → (x ∈ slice (t .base) (t .used) ys) ↔ CutOn (heldIn columns) Side.A x
-  run-cuts x = (
-    λ i. cuts .cuts x .0 (joined .kept .members x .0 (slice-in ys inside ordered i)),
-    λ c. in-slice ys inside ordered (joined .kept .members x .1 (cuts .cuts x .1 c)),
-  )
+  run-cuts : (x : ℕ) → (x ∈ slice (run .start) (run .end) ys) ↔ CutOn (heldIn columns) Side.A x
+  run-cuts x =
+      let inside = places .run .within in
+      let ordered = places .run .order in (
+        λ i. cuts .cuts x .0 (joined .kept .members x .0 (places .all x .0 (slice-in ys inside ordered i))),
+        λ c. in-slice ys inside ordered (cut-in x c),
+      )
 
-  rows-are : piecesCut columns (slice (t .base) (t .used) ys) (countOf columns) ≡ leastOf (heldIn columns)
-  rows-are = rows-least fit (slice-rising ys inside ordered _<_ (λ i j l m n. joined .run i j l m n)) run-cuts
+  rows-are : piecesCut columns (slice (run .start) (run .end) ys) (countOf columns) ≡ leastOf (heldIn columns)
+  rows-are = let rises = slice-rising ys (places .run .within) (places .run .order) _<_ (places .run .rising) in
+      rows-least fit rises run-cuts
 
-  pub cuts-writable : countOf columns < 4294967296 → Writable columns ys (t .base) (t .used) table
+  pub cuts-writable : countOf columns < 4294967296 → Writable columns ys (run .start) (run .end) table
   cuts-writable few =
       record {
-        run = record { order = ordered; within = inside; rising = joined .run };
-        left-in = λ k h. joined .kept .members (fromAt columns k) .1
-            (cuts .cuts (fromAt columns k) .1 (end (∈-matches columns h) (left-end Side.A)));
+        run = places .run;
+        left-in = λ k h. cut-in (fromAt columns k) (end (∈-matches columns h) (left-end Side.A));
         right-in = λ k h.
-            joined .kept .members (fromAt columns k + lettersAt columns k) .1
-            (cuts .cuts (fromAt columns k + lettersAt columns k) .1 (end (∈-matches columns h) (right-end Side.A)));
+            cut-in (fromAt columns k + lettersAt columns k) (end (∈-matches columns h) (right-end Side.A));
         few = few;
         room = omega (arith, ap length rows-are, cuts .fits);
       }
 
-  pub rows-tabled : {after : List ℕ} {n : ℕ} → Written columns (slice (t .base) (t .used) ys) table after n
+  pub rows-tabled : {after : List ℕ} {n : ℕ} → Written columns (slice (run .start) (run .end) ys) table after n
       → Tabled (heldIn columns) table after (Refined.Rows n)
   rows-tabled w = (
     w .count ∙ ap length rows-are,

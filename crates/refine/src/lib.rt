@@ -56,14 +56,15 @@ fn cut_and_write(
         Closed::TooMany => Refined::Refused(Refusal::TooManyPieces),
         Closed::CutsOfA(set) => {
             let cuts = cut_set::join(work, set);
+            let run = reading_cuts::all_places(work, cuts);
             Refined::Rows(write_rows(
                 left_a,
                 left_b,
                 lengths,
                 reversed,
                 work,
-                cuts.base,
-                cuts.used,
+                run.start,
+                run.end,
                 table,
             ))
         }
