@@ -31,6 +31,10 @@ use Rattle.carrying_match.proofs.RunLists.{slice-same, hits-none}
 use Rattle.carrying_match.proofs.Storing.{base-done, done-used}
 use Rattle.carrying_match.proofs.Storing.{too-much-more, too-much-then, same-apart, ready-then}
 
+-- an image of a number with P under the match at index k
+abbrev ImageAt : Columns → ℕ → (ℕ → Type 0) → ℕ → Type 0
+ImageAt columns k = ImageBy (fromAt columns k) (toAt columns k) (lettersAt columns k) (wayAt columns k)
+
 pub record Passed (columns : Columns) (xs : List ℕ) (from to : CutSet) (hits most : ℕ) (ys : List ℕ)
     (set : CutSet) (count k : ℕ) : Type 0 where
   pub until : k ≤ countOf columns
@@ -115,7 +119,7 @@ module _ {columns : Columns} {xs : List ℕ} {from to : CutSet} {hits most : ℕ
     next :
         (y : ℕ)
         → (Images columns k (Found xs from) y
-        ⊎ ImageBy (fromAt columns k) (toAt columns k) (lettersAt columns k) (wayAt columns k) (Found ys from) y)
+        ⊎ ImageAt columns k (Found ys from) y)
         ↔ Images columns (k + 1) (Found xs from) y
     next y = (
       λ q. ⊎-elim
@@ -133,7 +137,7 @@ module _ {columns : Columns} {xs : List ℕ} {from to : CutSet} {hits most : ℕ
       where
         go : {y : ℕ} (q : Images columns (k + 1) (Found xs from) y) → Dec (q .index ≡ k)
             → Images columns k (Found xs from) y
-            ⊎ ImageBy (fromAt columns k) (toAt columns k) (lettersAt columns k) (wayAt columns k) (Found ys from) y
+            ⊎ ImageAt columns k (Found ys from) y
         go q (yes e) = inr (record {
           x = q .x;
           carried = in-same found-same (q .carried);
@@ -157,7 +161,7 @@ module _ {columns : Columns} {xs : List ℕ} {from to : CutSet} {hits most : ℕ
     module _ (h : k < countOf columns) where
       pub pass-step :
           {zs : List ℕ} {u : CutSet} {c : ℕ} → length zs ≡ length ys
-          → Stored (ImageBy (fromAt columns k) (toAt columns k) (lettersAt columns k) (wayAt columns k) (Found ys from)) ys set zs u
+          → Stored (ImageAt columns k (Found ys from)) ys set zs u
           × (c ≡ count + hitsOn (fromAt columns k) (lettersAt columns k) (foundIn ys from)) × (c ≤ most)
           → Passed columns xs from to hits most zs u c (k + 1)
       pass-step n q = record {
@@ -169,7 +173,7 @@ module _ {columns : Columns} {xs : List ℕ} {from to : CutSet} {hits most : ℕ
       }
 
       pub pass-too-much :
-          TooMuch ys set (ImageBy (fromAt columns k) (toAt columns k) (lettersAt columns k) (wayAt columns k) (Found ys from))
+          TooMuch ys set (ImageAt columns k (Found ys from))
           (count + hitsOn (fromAt columns k) (lettersAt columns k) (foundIn ys from)) most
           → TooMuch xs to (Images columns (countOf columns) (Found xs from))
           (hits + hitsOver columns (countOf columns) (foundIn xs from)) most
@@ -200,8 +204,8 @@ module _ {columns : Columns} {xs : List ℕ} {from to : CutSet} {hits most : ℕ
         same :
             hitsOver columns n (foundIn xs from) ≡ hitsOver columns k (foundIn xs from)
         same = hits-same columns (foundIn xs from) k n a (λ j l u.
-            hits-none xs (r .from-good .found-short .within) (done-used (r .from-good)) (fromAt columns j) (lettersAt columns j)
-            (λ i l′ u′. none j i l u l′ u′))
+            hits-none xs (r .from-good .found-short .within) (done-used (r .from-good)) (fromAt columns j)
+            (lettersAt columns j) (λ i l′ u′. none j i l u l′ u′))
 
         fewer : {y : ℕ} (q : Images columns n (Found xs from) y) → (q .index < k) ⊎ (k ≤ q .index)
             → Images columns k (Found xs from) y
@@ -228,4 +232,6 @@ module _ {columns : Columns} {xs : List ℕ} {from to : CutSet} {hits most : ℕ
         countOf columns ≤ k
         → Stored (Images columns (countOf columns) (Found xs from)) xs to ys set
         × (count ≡ hits + hitsOver columns (countOf columns) (foundIn xs from)) × (count ≤ most)
-    pass-end h = let e : k ≡ countOf columns = omega (arith, p .until) in (rw e at (p .stored), rw e at (p .counted), p .few)
+    pass-end h =
+        let e : k ≡ countOf columns = omega (arith, p .until) in
+        (rw e at (p .stored), rw e at (p .counted), p .few)

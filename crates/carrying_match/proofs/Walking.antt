@@ -54,8 +54,8 @@ walk-start r f e h = record {
 }
 
 module _ {i k d : ℕ} {b : Bool} {xs : List ℕ} {from to : CutSet} {hits most lo end : ℕ} {ys : List ℕ}
-    {t : CutSet} {count at : ℕ} (r : Ready xs from to) (up : FoundRun xs from) (e : Bound xs (from .done) (from .used) i lo)
-    (w : Walked i k d b xs from to hits most lo end ys t count at) where
+    {t : CutSet} {count at : ℕ} (r : Ready xs from to) (up : FoundRun xs from)
+    (e : Bound xs (from .done) (from .used) i lo) (w : Walked i k d b xs from to hits most lo end ys t count at) where
   within : from .used ≤ length xs
   within = r .from-good .found-short .within
 

@@ -152,7 +152,9 @@ module _ (columns : Columns) where
       (λ y. ⊎-elim (λ p. absurd (none-in (omega (arith, z .base-is, z .used-is)) p)) end-cut)
 
   module _ (cap : ℕ) {xs ys : List ℕ} {s t e : CutSet} (z : Emptied xs 0 (2 * cap) s)
-      (q : Emptied xs (2 * cap) (4 * cap) e) (h : Stored (EndOf (columns .from-lefts) (columns .lengths) (countOf columns)) xs s ys t) (n : length ys ≡ length xs)
+      (q : Emptied xs (2 * cap) (4 * cap) e)
+      (h : Stored (EndOf (columns .from-lefts) (columns .lengths) (countOf columns)) xs s ys t)
+      (n : length ys ≡ length xs)
     where
       no-b : {x : ℕ} → Member ys e x → ⊥
       no-b p = none-in (omega (arith, q .base-is, q .used-is)) p

@@ -51,7 +51,9 @@ module _ {columns : Columns} {cap : ℕ} {ys : List ℕ} {c : Cuts} (o : Open co
   end-on A {m} i = o .ended m i
   end-on B {m} i = (end-of-b i (left m B) (inl refl), end-of-b i (right m B) (inr refl))
 
-  complete : {p : Place} → Cut (matchesOf columns) (heldIn columns .marks) p → (u : Side) (x : ℕ) → p ≡ at u x → Member ys (setOn u c) x
+  complete :
+      {p : Place} → Cut (matchesOf columns) (heldIn columns .marks) p → (u : Side) (x : ℕ) → p ≡ at u x
+      → Member ys (setOn u c) x
   complete (end {m = m} i (left-end s)) u x q =
       same-place (λ u x. Member ys (setOn u c) x) s u (left m s) x (sym (placed columns i s (left m s)) ∙ q)
       (end-on s i .0)

@@ -4,7 +4,7 @@ use cut_set::CutSet;
 ghost use mathlib.Core.Path.{_≡_};
 ghost use lib.ListN.{getD};
 ghost use Rattle.runs.specs.Runs.{Answers};
-ghost use Rattle.cut_set.specs.Store.{Good, FoundRun, AllRun, NothingFound, foundEnd};
+ghost use Rattle.cut_set.specs.Store.{Good, AllRun, NothingFound, foundEnd};
 ghost use Rattle.reading_cuts.specs.Reading.{SomeFound, FoundPlace, Lowest, Highest, AllPlaces};
 
 // The places [start, end) of a run.

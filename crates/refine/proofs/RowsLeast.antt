@@ -9,7 +9,7 @@ use mathlib.Core.List.{List, [], _∷_, _++_, map, flatMap, filter, append-nil, 
 use native.Mathlib.Omega.{arith}
 use Rattle.refinement.specs.declared.Side.the-variants.{A}
 use Rattle.refinement.specs.Order.{_∈_, Rising}
-use Rattle.refinement.specs.Match.{Match, left, spanned}
+use Rattle.refinement.specs.Match.{Match, left, Place, spanned}
 use Rattle.refinement.specs.Least.{spans?, leastCuts, cutsWithin, piecesBetween, piecesOf, tableFrom, leastTable}
 use Rattle.refinement.proofs.Lists.{∈-filter, ∈-unfilter, rising-filter}
 use Rattle.refinement.proofs.Geometry.{spanned-iff}
@@ -33,16 +33,19 @@ within-filter m (x ∷ xs) = step (spanned (left m A) (m .length) x) refl (withi
         same ∙ sym (if-neg (spans? m A x) (λ t. false≢true (sym e ∙ spanned-iff m A x .1 t)) (x ∷ zs) zs)
 
 module _ {columns : Columns} (fit : Fit columns) where
+  abbrev all-cuts : List Place
+  all-cuts = leastCuts (matchesOf columns) (heldIn columns .marks)
+
   module _ {run : List ℕ} (rise : Rising _<_ run)
       (all : (x : ℕ) → (x ∈ run) ↔ CutOn (heldIn columns) A x) where
     match-cuts :
         (k : ℕ)
-        → within (fromAt columns k) (lettersAt columns k) run ≡ cutsWithin (leastCuts (matchesOf columns) (heldIn columns .marks)) (matchAt columns k) A
+        → within (fromAt columns k) (lettersAt columns k) run ≡ cutsWithin all-cuts (matchAt columns k) A
     match-cuts k =
         let m = matchAt columns k in
         within-filter m run
-        ∙ cuts-of-match (matchesOf columns) (heldIn columns .marks) (matches-good columns fit) m (filter (spans? m A) run)
-        (rising-filter (spans? m A) _<_ run rise) (λ h. (
+        ∙ cuts-of-match (matchesOf columns) (heldIn columns .marks) (matches-good columns fit) m
+        (filter (spans? m A) run) (rising-filter (spans? m A) _<_ run rise) (λ h. (
           λ i. let t = ∈-unfilter (spans? m A) run i in (t .1, all h .0 (t .0)),
           λ t. ∈-filter (spans? m A) (all h .1 (t .1)) (t .0),
         ))
@@ -52,7 +55,7 @@ module _ {columns : Columns} (fit : Fit columns) where
         (n k : ℕ) → k + n ≡ countOf columns
         → piecesCut columns run (countOf columns)
         ≡ piecesCut columns run k
-        ++ flatMap (piecesOf (leastCuts (matchesOf columns) (heldIn columns .marks))) (map (matchAt columns) (upFrom k n))
+        ++ flatMap (piecesOf all-cuts) (map (matchAt columns) (upFrom k n))
     unfolding piecesCut flatMap upFrom piecesOf
     rows-from zero k e =
         let same : countOf columns ≡ k = omega arith in
@@ -60,8 +63,8 @@ module _ {columns : Columns} (fit : Fit columns) where
     rows-from (suc n) k e =
         let m = matchAt columns k in
         let rows = piecesCut columns run k in
-        let cuts = cutsWithin (leastCuts (matchesOf columns) (heldIn columns .marks)) m A in
-        let rest = flatMap (piecesOf (leastCuts (matchesOf columns) (heldIn columns .marks))) (map (matchAt columns) (upFrom (suc k) n)) in
+        let cuts = cutsWithin all-cuts m A in
+        let rest = flatMap (piecesOf all-cuts) (map (matchAt columns) (upFrom (suc k) n)) in
         rows-from n (suc k) (omega arith)
         ∙ ap (λ xs. rows ++ piecesBetween m xs ++ rest) (match-cuts k)
         ∙ append-assoc rows (piecesBetween m cuts) rest

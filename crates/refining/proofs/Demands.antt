@@ -131,7 +131,8 @@ module _ {g : Given} (M : Matches (g .matches)) where
         → MatchesOutcome g table work (answerOf reply)
     case-stated (short h) = MatchesOutcome.work-too-short h
     case-stated (crowded enough exceeds) = MatchesOutcome.too-many-pieces enough exceeds
-    case-stated (writing enough room) = MatchesOutcome.least-rows enough resolved (table-least (g .matches) (g .marks) M) room
+    case-stated (writing enough room) =
+        MatchesOutcome.least-rows enough resolved (table-least (g .matches) (g .marks) M) room
 
     -- a refusal, where no resolved refinement fits
     no-value : {number place : ℕ} {table′ : List ℕ} → (workNeeded table ≤ length work → Fits g (capacityOf table) → ⊥)

@@ -48,7 +48,8 @@ module _ {g : Given} (M : Matches (g .matches)) where
     where
       go : Dec (capacity < length (leastOf g)) → Fits g capacity ⊎ EveryExceeds g capacity
       go (yes many) = inr (λ rs R. omega (arith, table-least (g .matches) (g .marks) M .fewest rs R))
-      go (no few) = inl (record { rows = leastOf g; resolved = table-resolved (g .matches) (g .marks) M; room = omega arith })
+      go (no few) =
+          inl (record { rows = leastOf g; resolved = table-resolved (g .matches) (g .marks) M; room = omega arith })
 
 pub fits-exceeds : {g : Given} {capacity : ℕ} → Fits g capacity → EveryExceeds g capacity → ⊥
 fits-exceeds f exceeds = omega (arith, exceeds (f .rows) (f .resolved))

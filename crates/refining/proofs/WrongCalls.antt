@@ -96,7 +96,8 @@ module _ {table work table′ : List ℕ} where
   single-letters-refused : ¬ Demand3 (script stairs) table work (value (length (Least.singleLetters stairs))) table′
   single-letters-refused d =
       let L = d .of-matches (unmarked stairs) (computed .stairs-admitted) .otherwise _ refl in
-      let fewest = L .least .fewest (leastOf (unmarked stairs)) (table-resolved stairs (unmarked stairs .marks) matches) in
+      let resolved = table-resolved stairs (unmarked stairs .marks) matches in
+      let fewest = L .least .fewest (leastOf (unmarked stairs)) resolved in
       omega (arith, fewest, L .stand .count, computed .least, computed .single)
 
   first-pass-refused : ¬ Demand2 (script stairs) table work (value (length (firstPass stairs))) table′

@@ -14,9 +14,9 @@
 --     Admitted script g          the bytes are an admitted script, and g is what it gives: its matches, from 1 on
 --     RefiningOutcome            what may come of a call: the script's own refusals, and what may come of its matches
 --     Demand1, Demand2, Demand3  the demands
--- A refinement is a list of rows in any order and of any length. Beside the matches stand the marks of request #106, of
--- which a script gives none before it (`unmarked`). `proofs/Demands` shows that `refiningOfMatches` and `refiningOf` meet
--- the demands. Assumes nothing.
+-- A refinement is a list of rows in any order and of any length. Beside the matches stand the marks of request #106;
+-- before it a script gives none (`unmarked`). `proofs/Demands` shows that `refiningOfMatches` and `refiningOf` meet the
+-- demands. Assumes nothing.
 use Prim.Native.Nat.{ℕ, _*_, _≤_, _<_}
 use mathlib.Core.Path.{_≡_}
 use mathlib.Core.Logic.{_↔_, _≢_}
@@ -65,7 +65,8 @@ pub data MatchesOutcome (g : Given) (table work : List ℕ) : Answer ℕ → Typ
   -- no refusal: the count of rows of a least resolved refinement, for which there is room
   least-rows :
       {rs : List Match} → workNeeded table ≤ length work → ResolvedRefinement (g .matches) (g .marks) rs
-      → Least (g .matches) (g .marks) rs → length rs ≤ capacityOf table → MatchesOutcome g table work (value (length rs))
+      → Least (g .matches) (g .marks) rs → length rs ≤ capacityOf table
+      → MatchesOutcome g table work (value (length rs))
 
 pub record Leaves (table work : List ℕ) (answer : Answer ℕ) (table′ work′ : List ℕ) : Type 0 where
   -- SCOPE, "Kept when refused": a refused call alters nothing but the work buffer, and that under 12 alone

@@ -5,13 +5,12 @@
 -- Assumes nothing.
 use Prim.Native.Nat.{ℕ, _*_, _≤_}
 use mathlib.Core.Path.{_≡_, sym, _∙_}
-use mathlib.Core.List.{List, []}
+use mathlib.Core.List.{List}
 use native.Mathlib.Omega.{arith}
 use native.Mathlib.Decide.{decLe}
 use lib.ListN.{length, length-replicate}
 use Rattle.script.specs.Reading.{admitted, readScript}
 use Rattle.script.specs.declared.command.Match.{Match as ScriptMatch}
-use Rattle.refinement.specs.Match.{Match}
 use Rattle.rows.specs.Rows.{rowWidth}
 use Rattle.refining.specs.Refining.{Given, givenBy, leastOf, capacityOf, workNeeded, refiningOfMatches}
 use Rattle.refining.specs.Refining.{refiningOf}

@@ -44,7 +44,8 @@ pub hits-append :
     (columns : Columns) (n : ℕ) (xs ys : List ℕ)
     → hitsOver columns n (xs ++ ys) ≡ hitsOver columns n xs + hitsOver columns n ys
 hits-append columns zero xs ys = refl
-hits-append columns (suc k) xs ys = omega (arith, hits-append columns k xs ys, on-append (fromAt columns k) (lettersAt columns k) xs ys)
+hits-append columns (suc k) xs ys =
+    omega (arith, hits-append columns k xs ys, on-append (fromAt columns k) (lettersAt columns k) xs ys)
 
 -- the hits of one match, as the theory counts them
 hits-filter : (m : Match) (u : Side) (xs : List ℕ) → hitsOn (left m u) (m .length) xs ≡ length (filter (spans? m u) xs)
@@ -65,7 +66,8 @@ hits-filter m u (x ∷ xs) =
 module _ (columns : Columns) where
   hits-at :
       (u : Side) (xs : List ℕ) (k : ℕ)
-      → hitsOn (fromAt (seenFrom u columns) k) (lettersAt columns k) xs ≡ length (filter (spans? (matchAt columns k) u) xs)
+      → hitsOn (fromAt (seenFrom u columns) k) (lettersAt columns k) xs
+      ≡ length (filter (spans? (matchAt columns k) u) xs)
   hits-at A xs k = hits-filter (matchAt columns k) A xs
   hits-at B xs k = hits-filter (matchAt columns k) B xs
 
@@ -87,7 +89,8 @@ module _ (columns : Columns) where
 
   hits-total :
       (u : Side) (xs : List ℕ)
-      → hitsOver (seenFrom u columns) (countOf columns) xs ≡ total (λ m. length (filter (spans? m u) xs)) (matchesOf columns)
+      → hitsOver (seenFrom u columns) (countOf columns) xs
+      ≡ total (λ m. length (filter (spans? m u) xs)) (matchesOf columns)
   unfolding matchesOf
   hits-total u xs = omega (arith, ap (λ j. hitsOver (seenFrom u columns) j xs) same, hits-from u xs 0 (countOf columns))
     where
@@ -96,7 +99,8 @@ module _ (columns : Columns) where
 
   module _ (fit : Fit columns) where
     pub hits-most :
-        {rs : List Match} → ResolvedRefinement (matchesOf columns) (heldIn columns .marks) rs → (u : Side) (xs : List ℕ) → Distinct xs
+        {rs : List Match} → ResolvedRefinement (matchesOf columns) (heldIn columns .marks) rs
+        → (u : Side) (xs : List ℕ) → Distinct xs
         → ((x : ℕ) → x ∈ xs → CutOn (heldIn columns) u x)
         → hitsOver (seenFrom u columns) (countOf columns) xs ≤ length rs + countOf columns
     hits-most {rs} R u xs once cuts =
@@ -132,7 +136,8 @@ module _ (columns : Columns) where
                     ),
                 λ t.
                     ∈-filter (spans? m u)
-                    (cuts x .1 (subst (Cut (g .matches) (g .marks)) (placed columns i u x) (table-cuts (g .matches) (g .marks) M (place m u x) .0 (t .1))))
+                    (cuts x .1 (subst (Cut (g .matches) (g .marks)) (placed columns i u x)
+                    (table-cuts (g .matches) (g .marks) M (place m u x) .0 (t .1))))
                     (t .0),
               )),
         )

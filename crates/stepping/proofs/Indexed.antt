@@ -20,7 +20,7 @@ use lib.ListN.{length, length-map}
 use Rattle.refinement.specs.declared.Side.{Side}
 use Rattle.refinement.specs.declared.Side.the-variants.{A, B}
 use Rattle.refinement.specs.Order.{_∈_, Rising}
-use Rattle.refinement.specs.Match.{Match, other, track, place, Spans, spanned, carryOver, carry}
+use Rattle.refinement.specs.Match.{Match, track, place, Spans, spanned, carryOver, carry}
 use Rattle.refinement.specs.Refinement.{Matches}
 use Rattle.refinement.proofs.Geometry.{spanned-iff}
 use Rattle.refinement.proofs.Lists.{rising-map}
@@ -107,7 +107,7 @@ module _ (columns : Columns) where
 
   pub index-carry :
       (u : Side) (k x : ℕ)
-      → carryOver (wayAt columns k) (fromAt (seenFrom u columns) k) (toAt (seenFrom u columns) k) (lettersAt columns k) x
-      ≡ carry (matchAt columns k) u x
+      → carryOver (wayAt columns k) (fromAt (seenFrom u columns) k) (toAt (seenFrom u columns) k) (lettersAt columns k)
+      x ≡ carry (matchAt columns k) u x
   index-carry A k x = refl
   index-carry B k x = refl

@@ -210,7 +210,8 @@ module _ {columns : Columns} {work : List ℕ} {lo hi : ℕ} {before : List ℕ}
         (right : Bound work lo hi (fromAt columns k + lettersAt columns k) last) where
       pub done-cuts : Cutting work first last (fromAt columns k) (lettersAt columns k)
       done-cuts =
-          let w = done .writable in cutting (lettersAt columns k) (w .run) (w .left-in k less) (w .right-in k less) left right
+          let w = done .writable in
+          cutting (lettersAt columns k) (w .run) (w .left-in k less) (w .right-in k less) left right
 
       -- its rows, numbered as the code does
       abbrev here : List Match

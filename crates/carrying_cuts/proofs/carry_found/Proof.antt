@@ -73,7 +73,8 @@ carry-match-requires c κs =
     let in-loop = c .before .before .before .before .before in
     let inv = in-loop .before .loop .inv in
     let near = in-loop .before .before in
-    let pre = near .before .before .before .before .before .before .before .before .before .before .before .before .pre in (
+    let test = near .before .before .before .before .before .before in
+    let pre = test .before .before .before .before .before .before .pre in (
       pass-ready (pre .1 .0) inv,
       (pass-run (pre .1 .0) inv (pre .1 .1 .0), (pre .0 .to-fits (in-loop .before .loop .k) (search needs), inv .few)),
     )
@@ -92,7 +93,8 @@ returns-2 c =
     let called = c .before .before .before .before in
     let in-loop = called .before .before .before .before .before .before in
     let near = in-loop .before .before in
-    let pre = near .before .before .before .before .before .before .before .before .before .before .before .before .pre in
+    let test = near .before .before .before .before .before .before in
+    let pre = test .before .before .before .before .before .before .pre in
     let full = rw (c .enum-told .given .1) at (called .carry-match .ensures) in
     pass-too-much (pre .1 .0) (in-loop .before .loop .inv) (search needs) full
 
@@ -100,14 +102,16 @@ add-next-near : tie.Need-add-next-near Inv-loop μ-loop
 add-next-near c =
     let in-loop = c .before .before .before .before .before .before .before .before .before .before .before in
     let near = in-loop .before .before in
-    let good = near .before .before .before .before .before .before .before .before .before .before .before .before .good in
+    let test = near .before .before .before .before .before .before in
+    let good = test .before .before .before .before .before .before .good in
     search (needs, good .1)
 
 next-near-requires-2 : tie.Need-next-near-requires-2 Inv-loop μ-loop
 next-near-requires-2 c κs =
     let in-loop = c .before .before .before .before .before .before .before .before .before .before .before in
     let near = in-loop .before .before in
-    let pre = near .before .before .before .before .before .before .before .before .before .before .before .before .pre in
+    let test = near .before .before .before .before .before .before in
+    let pre = test .before .before .before .before .before .before .pre in
     (record { same-length = pre .0 .from-length; fits = pre .0 .from-fits }, search needs)
 
 loop-less : tie.Need-loop-less Inv-loop μ-loop
@@ -120,7 +124,8 @@ loop-again c =
     let called = c .before .before .before .before .before .before in
     let in-loop = called .before .before .before .before .before .before in
     let near = in-loop .before .before in
-    let pre = near .before .before .before .before .before .before .before .before .before .before .before .before .pre in
+    let test = near .before .before .before .before .before .before in
+    let pre = test .before .before .before .before .before .before .pre in
     let held = rw (c .before .before .h .given .1) at (called .carry-match .ensures) in
     let passed = pass-step (pre .1 .0) (in-loop .before .loop .inv) (search needs) (search needs) held in
     pass-over (pre .1 .0) passed (near .before .before .before .lowest-found .ensures)
@@ -131,7 +136,9 @@ same-length-2 c = search needs
 
 returns-3 : tie.Need-returns-3 Inv-loop μ-loop
 returns-3 c =
-    let pre = c .before .before .before .before .before .before .before .before .before .before .before .before .before .before .pre in
+    let near = c .before .before in
+    let test = near .before .before .before .before .before .before in
+    let pre = test .before .before .before .before .before .before .pre in
     pass-end (pre .1 .0) (c .before .loop .inv) (search needs)
 
 pub carry-found-spec : {M : Type 1} → statement M

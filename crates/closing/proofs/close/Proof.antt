@@ -36,8 +36,8 @@ drive-requires c κs =
     let stored = rw (c .before .before .seeded .given .1) at (at-seed .seed .ensures) in (
       start .pre .0,
       seeded-open (columnsOf (start .args .left-a .now) (start .args .left-b .now) (start .args .lengths .now)
-          (start .args .reversed .now)) (start .args .capacity) (at-seed .before .before .before .before .empty .ensures)
-          (at-seed .before .before .empty2 .ensures) stored (search needs),
+          (start .args .reversed .now)) (start .args .capacity)
+          (at-seed .before .before .before .before .empty .ensures) (at-seed .before .before .empty2 .ensures) stored (search needs),
     )
 
 same-length : tie.Need-same-length
