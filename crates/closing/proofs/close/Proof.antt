@@ -37,7 +37,8 @@ drive-requires c κs =
       start .pre .0,
       seeded-open (columnsOf (start .args .left-a .now) (start .args .left-b .now) (start .args .lengths .now)
           (start .args .reversed .now)) (start .args .capacity)
-          (at-seed .before .before .before .before .empty .ensures) (at-seed .before .before .empty2 .ensures) stored (search needs),
+          (at-seed .before .before .before .before .empty .ensures) (at-seed .before .before .empty2 .ensures) stored
+          (search needs),
     )
 
 same-length : tie.Need-same-length
