@@ -19,8 +19,8 @@ use mathlib.Core.List.{List}
 use mathlib.Core.Logic.{_⊎_, inl, inr, ⊎-elim, Iff·rfl, Iff·trans}
 use mathlib.Core.Bool.{Bool}
 use lib.ListN.{length, getD, set, length-set}
-use Rattle.runs.specs.Runs.{In, Run, Rising, Distinct, Same, Bound, Answers}
-use Rattle.runs.specs.Steps.{Put, Mergeable, Merged}
+use Rattle.runs.specs.Runs.{In, Run, RisingIn, DistinctIn, Same, Bound, Answers}
+use Rattle.runs.specs.Steps.{PutBefore, Mergeable, Merged}
 use Rattle.cut_set.specs.Store.{Good, Member, FoundRun, Kept, Gathered, AllFinished, Joined, AddedTo, Growing}
 use Rattle.cut_set.specs.declared.CutSet.{CutSet}
 use Rattle.runs.proofs.Moving.{lt-or-le, put-end}
@@ -215,7 +215,7 @@ module _ {xs : List ℕ} {s : CutSet} (g : Good xs s) where
     }
 
 module _ {xs ys : List ℕ} {s : CutSet} {at x : ℕ} (w : Growing xs s at x) (n : length ys ≡ length xs)
-    (p : Put xs at (s .used) 1 x ys) where
+    (p : PutBefore xs at (s .used) 1 x ys) where
   putting : Putting xs (s .fresh) at (s .used) 1 at (s .used + 1) x ys
   putting = record {
     place = refl;
@@ -235,7 +235,7 @@ module _ {xs ys : List ℕ} {s : CutSet} {at x : ℕ} (w : Growing xs s at x) (n
       lows : s .base ≤ s .fresh
       lows = omega (arith, w .good .finished-long .order, w .good .finished-short .order, w .good .found-long .order)
 
-  rising : Rising ys (s .fresh) (s .used + 1)
+  rising : RisingIn ys (s .fresh) (s .used + 1)
   rising = gapped-closed (put-gapped putting)
 
   front : {lo hi : ℕ} → hi ≤ s .fresh → Same xs ys lo hi
@@ -262,7 +262,7 @@ module _ {xs ys : List ℕ} {s : CutSet} {at x : ℕ} (w : Growing xs s at x) (n
       old (inl v) = v
       old (inr v) = absurd (omega (arith, v .from, v .below))
 
-  distinct : Distinct ys (s .base) (s .used + 1)
+  distinct : DistinctIn ys (s .base) (s .used + 1)
   distinct i j il ih jl jh e = go (lt-or-le i (s .fresh)) (lt-or-le j (s .fresh))
     where
       -- a number of the run that has grown and one before it differ

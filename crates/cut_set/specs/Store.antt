@@ -14,7 +14,7 @@ use mathlib.Core.List.{List}
 use mathlib.Core.Logic.{_↔_, _⊎_}
 use lib.ListN.{length, getD}
 use lib.Seq.{slice}
-use Rattle.runs.specs.Runs.{In, Run, Rising, Distinct, Bound}
+use Rattle.runs.specs.Runs.{In, Run, RisingIn, DistinctIn, Bound}
 use Rattle.cut_set.specs.declared.CutSet.{CutSet}
 use Rattle.cut_set.specs.declared.Added.{Added}
 use Rattle.cut_set.specs.declared.Added.the-variants.{Held, Full}
@@ -29,7 +29,7 @@ pub record Good (xs : List ℕ) (s : CutSet) : Type 0 where
   pub few-found : s .used ≤ s .fresh + 512
   pub room : s .used ≤ s .limit
   pub within : s .limit ≤ length xs
-  pub distinct : Distinct xs (s .base) (s .used)
+  pub distinct : DistinctIn xs (s .base) (s .used)
 
 -- y is a finished member
 abbrev pub Finished : List ℕ → CutSet → ℕ → Type 0
@@ -56,11 +56,11 @@ foundEnd s = s .used
 
 -- the newly found members are one rising run, the places [done, used)
 abbrev pub FoundRun : List ℕ → CutSet → Type 0
-FoundRun xs s = Rising xs (s .done) (s .used)
+FoundRun xs s = RisingIn xs (s .done) (s .used)
 
 -- all members are one rising run, the places [base, used)
 abbrev pub AllRun : List ℕ → CutSet → Type 0
-AllRun xs s = Rising xs (s .base) (s .used)
+AllRun xs s = RisingIn xs (s .base) (s .used)
 
 -- how many places the set has, and how many of them hold no member
 abbrev pub placesOf : CutSet → ℕ

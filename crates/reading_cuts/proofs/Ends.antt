@@ -7,11 +7,11 @@ use mathlib.Core.List.{List}
 use native.Mathlib.Omega.{arith}
 use native.Mathlib.Decide.{decLt}
 use lib.ListN.{getD}
-use Rattle.runs.specs.Runs.{In, Rising}
+use Rattle.runs.specs.Runs.{In, RisingIn}
 use Rattle.cut_set.specs.declared.CutSet.{CutSet}
 use Rattle.reading_cuts.specs.Reading.{SomeFound, Lowest, Highest}
 
-module _ {xs : List ℕ} {lo hi : ℕ} (up : Rising xs lo hi) where
+module _ {xs : List ℕ} {lo hi : ℕ} (up : RisingIn xs lo hi) where
   run-lowest : {y : ℕ} → In xs lo hi y → getD xs lo 0 ≤ y
   run-lowest m =
       elim (decLt lo (m .place)) [
