@@ -35,20 +35,24 @@ abbrev pub numbered : ℕ → List ScriptMatch → List Match
 numbered n [] = []
 numbered n (m ∷ ms) = withNumber n m ∷ numbered (suc n) ms
 
+-- what is refined: matches, and the marks of request #106
 pub record Given : Type 0 where
   pub matches : List Match
   pub marks : List Place
 
--- before request #106 there are no marks
+-- the one place that says that there are no marks before request #106
 abbrev pub unmarked : List Match → Given
 unmarked ms = record { matches = ms; marks = [] }
 
+-- SCOPE, "Numbering": the matches of a script, from 1 on
 abbrev pub givenBy : List ScriptMatch → Given
 givenBy ms = unmarked (numbered 1 ms)
 
+-- the matches of columns, which are numbered so too
 abbrev pub heldIn : Columns → Given
 heldIn c = unmarked (matchesOf c)
 
+-- the rows that the call writes, where there is room
 abbrev pub leastOf : Given → List Match
 leastOf g = leastTable (g .matches) (g .marks)
 
