@@ -1,11 +1,11 @@
--- The matches of an admitted script as the theory has them, and as the columns hold them that the reader returns.
+-- The matches of an admitted script as the theory has them, and as columns of their fields hold them.
 --     admitted-of        a script that is read as admitted is Admitted
 --     admitted-unique    its matches are no others
 --     admitted-matches   each has a letter, and their numbers rise
 --     numbered-range     numbers from n on, as many as there are matches
 --     columns-numbered   columns of their fields hold them
 --     columns-fit        and are Fit
---     held-admitted, held-fit     both, of the columns that the reader returns
+--     held-admitted, held-fit     both, by what the reader's reply tells of the matches
 -- Assumes nothing.
 use Prim.Native.Nat.{ℕ, zero, suc, _+_, _≤_, _<_}
 use mathlib.Core.Path.{_≡_, refl, sym, ap, ap₂, subst, _∙_}
@@ -14,11 +14,10 @@ use mathlib.Core.Logic.{⊎-elim}
 use mathlib.Core.List.{List, [], _∷_, map, List·Memᴰ·cases-cons, List·Memᴰ·not-nil}
 use mathlib.Core.List.{List·Memᴰ·head as here, List·Memᴰ·tail as there}
 use native.Mathlib.Omega.{arith}
-use lib.ListN.{length, getD, take, length-map, List·getD-map}
+use lib.ListN.{length, getD, length-map, List·getD-map}
 use Rattle.script.specs.Reading.{admitted, readScript}
 use Rattle.script.specs.Outcomes.{InRange, Within, Outcome}
 use Rattle.script.specs.declared.command.Match.{Match as ScriptMatch}
-use Rattle.script.specs.declared.Script.{Script}
 use Rattle.script.proofs.Outcome.{reach-within, read-outcome, outcome-admitted}
 use Rattle.script.proofs.Admitted.{Holds}
 use Rattle.refinement.specs.Order.{_∈_, Rising}
@@ -132,17 +131,13 @@ module _ {a b d : List ℕ} {r : List Bool} (ms : List ScriptMatch) (left-a : a 
             omega (arith, at k below .in-b, rq .few, letters-at k, field-at (λ m. m .«left_b») left-b k);
       }
 
-module _ {script : List ℕ} {s : Script} {p q count : ℕ} (held : Holds script s p q count) where
-  pub held-admitted :
-      Admitted script
-      (matchesOf (take count (s .«left_a»)) (take count (s .«left_b»)) (take count (s .length))
-      (take count (s .reversed)))
-  held-admitted =
-      rw (columns-numbered (held .matches) (held .left-a) (held .left-b) (held .letters) (held .reversed))
-      (admitted-of (held .read))
+-- columns of the fields of an admitted script's matches
+module _ {script : List ℕ} {p q count : ℕ} (held : Holds script p q count) {a b d : List ℕ} {r : List Bool}
+    (left-a : a ≡ map (λ m. m .«left_a») (held .matches)) (left-b : b ≡ map (λ m. m .«left_b») (held .matches))
+    (letters : d ≡ map (λ m. m .length) (held .matches)) (reversed : r ≡ map (λ m. m .reversed) (held .matches)) where
+  pub held-admitted : Admitted script (matchesOf a b d r)
+  held-admitted = rw (columns-numbered (held .matches) left-a left-b letters reversed) (admitted-of (held .read))
 
-  pub held-fit :
-      Fit (take count (s .«left_a»)) (take count (s .«left_b»)) (take count (s .length)) (take count (s .reversed))
+  pub held-fit : Fit a b d r
   held-fit =
-      columns-fit (held .matches) (held .left-a) (held .left-b) (held .letters) (held .reversed) (held .p-range)
-      (held .q-range) (λ m i. held .within i)
+      columns-fit (held .matches) left-a left-b letters reversed (held .p-range) (held .q-range) (λ m i. held .within i)

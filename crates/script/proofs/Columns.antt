@@ -1,15 +1,15 @@
--- What `columnRead` leaves in a lent column, as its demand says it, and in one that is as long as there are matches.
+-- What `columnRead` leaves in a lent column, as its demand says it, and in one that is long enough.
 --     column-demand      the demand holds of every column
 --     columns-demand     and of the four
---     column-filled      a column of the matches' count holds their fields, and nothing else
+--     column-filled      a column that is long enough begins with the fields of all matches
 -- Assumes nothing.
 use Prim.Native.Nat.{ℕ, suc, _+_, _≤_, _<_}
-use mathlib.Core.Path.{_≡_, refl, ap, _∙_}
+use mathlib.Core.Path.{_≡_, refl, _∙_}
 use mathlib.Core.Bool.{Bool}
-use mathlib.Core.List.{List, [], _∷_, _++_, map, map-append, append-nil}
+use mathlib.Core.List.{List, [], _∷_, _++_, map, map-append}
 use native.Mathlib.Omega.{arith}
-use lib.ListN.{length, getD, set, length-set, length-map, drop-of-length-le}
-use lib.Seq.{sets, sets-eq, length-sets, getD-set-same, getD-set-other}
+use lib.ListN.{length, getD, take, drop, set, length-set, length-map}
+use lib.Seq.{sets, sets-eq, length-sets, take-at, getD-set-same, getD-set-other}
 use Rattle.script.specs.Reading.{admitted, readScript}
 use Rattle.script.specs.Columns.{columnRead, ColumnsRead}
 use Rattle.script.specs.Demands.{ColumnDemand, ColumnsDemand}
@@ -56,13 +56,13 @@ module _ {X : Type 0} (s : List ℕ) (field : Match → X) (column : List X) whe
         refused = λ o. rw (outcome-refused o .read);
       })
 
-  pub column-filled : {p q : ℕ} {ms : List Match} → readScript s ≡ admitted p q ms → length column ≡ length ms
-      → columnRead s field column ≡ map field ms
+  pub column-filled : {p q : ℕ} {ms : List Match} → readScript s ≡ admitted p q ms → length ms ≤ length column
+      → take (length ms) (columnRead s field column) ≡ map field ms
   unfolding columnRead
-  column-filled {ms = ms} e n =
-      let rest = drop-of-length-le column {i = 0 + length (map field ms)} (omega (arith, length-map ms field)) in
-      rw e (sets-eq (map field ms) column 0 (omega (arith, length-map ms field))
-      ∙ ap (λ (l : List X). map field ms ++ l) rest ∙ append-nil (map field ms))
+  column-filled {ms = ms} e room =
+      let rest : List X = drop (0 + length (map field ms)) column in
+      rw (e, sets-eq (map field ms) column 0 (omega (arith, length-map ms field)))
+      (take-at (map field ms) rest (length ms) (length-map ms field))
 
 pub columns-demand : {s a b d a′ b′ d′ : List ℕ} {r r′ : List Bool} → ColumnsRead s a b d r a′ b′ d′ r′
     → ColumnsDemand s a b d r a′ b′ d′ r′
