@@ -1,10 +1,11 @@
 -- From what the inner functions ensure to what the refining call ensures.
 --     told-good, crowded-tabled
 --                        what the closure's answer tells: a good set of cuts, or that no table has room
---     left-a-reaches, left-b-reaches, length-reaches, reversed-reaches, prefix-length, columns-few, columns-fit
+--     reaches, prefix-length, columns-few, columns-fit
 --                        the columns of an admitted script hold as many numbers as there are matches, and they fit
 --     refining-met, read-refused, read-refined
 --                        the contract, by one equation, which holds of a refused script and of an admitted one
+--     few-roomy, many-roomy     columns with room for the matches of a short script, and of any
 --     cuts-writable      a set that holds all cuts of A, joined into one run, is what writing the rows needs
 --     rows-tabled        the rows written are the least table
 --     cleared-refined    the rows written and the work buffer cleared are the call's outcome
@@ -17,8 +18,9 @@ use mathlib.Core.List.{List, [], map}
 use native.Mathlib.Omega.{arith}
 use lib.ListN.{length, getD, take, replicate, length-take, length-map}
 use lib.Seq.{slice, sets}
-use Rattle.script.specs.Reading.{readScript, scriptOf}
-use Rattle.script.specs.declared.Script.{Script}
+use Rattle.script.specs.Limits.{mostMatches}
+use Rattle.script.specs.Reading.{readScript, verdictOf}
+use Rattle.script.specs.Columns.{matchesRead, columnRead, ColumnsRead}
 use Rattle.script.specs.declared.Verdict.{Verdict}
 use Rattle.script.specs.declared.refusal.Refusal.{Refusal}
 use Rattle.script.specs.declared.refusal.Refusal.the-variants.{TooManyPieces}
@@ -35,15 +37,16 @@ use Rattle.refining.specs.Columns.{Fit, matchesOf}
 use Rattle.stepping.specs.Engine.{at}
 use Rattle.closing.specs.AllCuts.{AllCuts, Closure}
 use Rattle.refining.specs.Rows.{piecesCut, pieceNumbers}
-use Rattle.refining.specs.Refining.{capacityOf, workNeeded, zeroed, Refining, refiningOf}
+use Rattle.refining.specs.Refining.{capacityOf, workNeeded, zeroed, refiningOf}
 use Rattle.refining.specs.Demands.{answerOf, Demand1, Demand2, Demand3}
 use Rattle.writing_rows.specs.Writing.{Writable, Written}
-use Rattle.refine.specs.Calls.{Tabled, MatchesRefined}
+use Rattle.refine.specs.Calls.{Tabled, MatchesRefined, ScriptRefined, Roomy, shortScript}
 use Rattle.closing.specs.declared.Closed.{Closed}
 use Rattle.refining.specs.declared.answers.Refined.{Refined}
 use Rattle.stepping.proofs.Indexed.{∈-matches, matches-good}
 use Rattle.carrying_match.proofs.RunLists.{slice-in, in-slice, slice-rising}
-use Rattle.script.proofs.Admitted.{Holds, holds-admitted, reading-refused}
+use Rattle.script.proofs.Admitted.{Holds, holds-admitted, reading-refused, matches-few}
+use Rattle.script.proofs.Columns.{column-filled}
 use Rattle.refining.proofs.Numbered.{held-admitted, held-fit}
 use Rattle.refining.proofs.Demands.{refining-contract}
 use Rattle.refine.proofs.RowsLeast.{rows-least}
@@ -66,42 +69,57 @@ pub crowded-tabled :
     → Closure ms (capacityOf table) ys answer → Tabled ms table table (Refined.Refused TooManyPieces)
 crowded-tabled ms table ys e h = (refl, subst (Closure ms (capacityOf table) ys) e h, refl)
 
--- the first numbers of a column, of one that reaches that far
-pub prefix-length : {X : Type 0} (column : List X) {count : ℕ} → count ≤ length column
-    → count ≡ length (take count column)
-prefix-length column {count} reaches = omega (arith, length-take count column)
-
--- a column whose first numbers are the fields of the matches reaches that far
-column-reaches :
-    {X : Type 0} (column : List X) (field : ScriptMatch → X) (ms : List ScriptMatch) {count : ℕ}
-    → take count column ≡ map field ms → length ms ≡ count → count ≤ length column
-column-reaches column field ms {count} e n =
-    omega (arith, length-take count column, ap length e ∙ length-map ms field ∙ n)
-
 -- the columns of an admitted script, by the reader's stated result
-module _ (script : List ℕ) {r : Script} {p q count : ℕ} (e : r ≡ scriptOf (readScript script))
-    (v : r .verdict ≡ Verdict.Admitted p q count) where
-  held : Holds script r p q count
+module _ (script : List ℕ) {told : Verdict} {p q count : ℕ} (e : told ≡ verdictOf (readScript script))
+    (v : told ≡ Verdict.Admitted p q count) where
+  held : Holds script p q count
   held = holds-admitted script e v
 
-  pub left-a-reaches : count ≤ length (r .«left_a»)
-  left-a-reaches = column-reaches (r .«left_a») (λ m. m .«left_a») (held .matches) (held .left-a) (held .counted)
+  -- a column with room for the matches begins with their fields
+  module _ {X : Type 0} (field : ScriptMatch → X) (before : List X) {after : List X}
+      (is : after ≡ columnRead script field before)
+      (room : length (matchesRead (readScript script)) ≤ length before) where
+    begins : take count after ≡ map field (held .matches)
+    begins =
+        ap (λ (n : ℕ). take n after) (sym (held .counted)) ∙ ap (take (length (held .matches))) is
+        ∙ column-filled script field before (held .read) (rw (held .read) at room)
 
-  pub left-b-reaches : count ≤ length (r .«left_b»)
-  left-b-reaches = column-reaches (r .«left_b») (λ m. m .«left_b») (held .matches) (held .left-b) (held .counted)
+    pub reaches : count ≤ length after
+    reaches = omega (arith, length-take count after, ap length begins ∙ length-map (held .matches) field, held .counted)
 
-  pub length-reaches : count ≤ length (r .length)
-  length-reaches = column-reaches (r .length) (λ m. m .length) (held .matches) (held .letters) (held .counted)
+    pub prefix-length : count ≡ length (take count after)
+    prefix-length = omega (arith, reaches, length-take count after)
 
-  pub reversed-reaches : count ≤ length (r .reversed)
-  reversed-reaches = column-reaches (r .reversed) (λ m. m .reversed) (held .matches) (held .reversed) (held .counted)
+  module _ {a b d a′ b′ d′ : List ℕ} {r r′ : List Bool} (roomy : Roomy script a b d r)
+      (columns : ColumnsRead script a b d r a′ b′ d′ r′) where
+    left-a-begins : take count a′ ≡ map (λ m. m .«left_a») (held .matches)
+    left-a-begins = begins (λ m. m .«left_a») a (columns .left-a) (roomy .left-a)
 
-  pub columns-few : length (take count (r .length)) < 4294967296
-  columns-few = omega (arith, prefix-length (r .length) length-reaches, held .few)
+    left-b-begins : take count b′ ≡ map (λ m. m .«left_b») (held .matches)
+    left-b-begins = begins (λ m. m .«left_b») b (columns .left-b) (roomy .left-b)
 
-  pub columns-fit :
-      Fit (take count (r .«left_a»)) (take count (r .«left_b»)) (take count (r .length)) (take count (r .reversed))
-  columns-fit = held-fit held
+    letters-begin : take count d′ ≡ map (λ m. m .length) (held .matches)
+    letters-begin = begins (λ m. m .length) d (columns .letters) (roomy .letters)
+
+    reversed-begins : take count r′ ≡ map (λ m. m .reversed) (held .matches)
+    reversed-begins = begins (λ m. m .reversed) r (columns .reversed) (roomy .reversed)
+
+    pub columns-few : length (take count d′) < 4294967296
+    columns-few =
+        let counted = ap length letters-begin ∙ length-map (held .matches) (λ m. m .length) in
+        omega (arith, counted, held .counted, held .few)
+
+    pub columns-fit : Fit (take count a′) (take count b′) (take count d′) (take count r′)
+    columns-fit = held-fit held left-a-begins left-b-begins letters-begin reversed-begins
+
+    pub read-refined : (table work : List ℕ) {reply : Refined} {table′ work′ : List ℕ}
+        → MatchesRefined (matchesOf (take count a′) (take count b′) (take count d′) (take count r′)) table work reply
+        table′ work′
+        → ScriptRefined script table work reply table′ work′
+    read-refined table work refined =
+        refined
+        ∙ sym (refining-admitted script table work
+        (held-admitted held left-a-begins left-b-begins letters-begin reversed-begins))
 
 module _ {a b d : List ℕ} {r : List Bool} (fit : Fit a b d r) (table : List ℕ) {xs ys : List ℕ} {s t : CutSet}
     {answer : Closed} (told : answer ≡ Closed.CutsOfA s) (joined : Joined xs s ys t)
@@ -178,7 +196,7 @@ cleared-refined {a} {b} {d} {reversed} fit table table′ work work′ {r = r} r
 -- the contract of `refine`, by the one equation of what the call leaves
 pub refining-met :
     {script table work : List ℕ} {reply : Refined} {table′ work′ : List ℕ}
-    → _≡_ {A = Refining} (record { reply = reply; table = table′; work = work′ }) (refiningOf script table work)
+    → ScriptRefined script table work reply table′ work′
     → (reply ≡ refiningOf script table work .reply)
     × ((table′ ≡ refiningOf script table work .table)
     × ((work′ ≡ refiningOf script table work .work)
@@ -188,19 +206,22 @@ pub refining-met :
 refining-met {script} {table} {work} e = refining-contract script table work (sym e)
 
 pub read-refused :
-    (script table work : List ℕ) {r : Script} {f : Refusal} {reply : Refined} → r ≡ scriptOf (readScript script)
-    → r .verdict ≡ Verdict.Refused f
+    (script table work : List ℕ) {told : Verdict} {f : Refusal} {reply : Refined} → told ≡ verdictOf (readScript script)
+    → told ≡ Verdict.Refused f
     → reply ≡ Refined.Refused f
-    → _≡_ {A = Refining} (record { reply = reply; table = table; work = work }) (refiningOf script table work)
+    → ScriptRefined script table work reply table work
 read-refused script table work e v is =
     rw is (sym (refining-refused script table work (reading-refused script e v)))
 
-pub read-refined :
-    (script table work : List ℕ) {r : Script} {p q count : ℕ} {reply : Refined} {table′ work′ : List ℕ}
-    → r ≡ scriptOf (readScript script)
-    → r .verdict ≡ Verdict.Admitted p q count
-    → MatchesRefined (matchesOf (take count (r .«left_a»)) (take count (r .«left_b»)) (take count (r .length))
-    (take count (r .reversed))) table work reply table′ work′
-    → _≡_ {A = Refining} (record { reply = reply; table = table′; work = work′ }) (refiningOf script table work)
-read-refined script table work e v refined =
-    refined ∙ sym (refining-admitted script table work (held-admitted (holds-admitted script e v)))
+-- columns of 64 have room for the matches of a short script, and columns of 2,048 for those of any
+pub few-roomy : {s a b d : List ℕ} {r : List Bool} → length s ≤ shortScript → length a ≡ 64 → length b ≡ 64
+    → length d ≡ 64 → length r ≡ 64 → Roomy s a b d r
+few-roomy {s} short ea eb ed er =
+    let few : length (matchesRead (readScript s)) ≤ 64 = omega (arith, matches-few s) in
+    record { left-a = omega arith; left-b = omega arith; letters = omega arith; reversed = omega arith }
+
+pub many-roomy : {s a b d : List ℕ} {r : List Bool} → length a ≡ mostMatches → length b ≡ mostMatches
+    → length d ≡ mostMatches → length r ≡ mostMatches → Roomy s a b d r
+many-roomy {s} ea eb ed er =
+    let few : length (matchesRead (readScript s)) ≤ mostMatches = matches-few s .1 in
+    record { left-a = omega arith; left-b = omega arith; letters = omega arith; reversed = omega arith }

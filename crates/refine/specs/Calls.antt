@@ -1,17 +1,24 @@
 -- What the inner functions of the refining call do.
 --     Tabled             finding the cuts and writing the rows
 --     MatchesRefined     the whole call on matches
+--     ScriptRefined      the whole call
+--     Roomy              columns with room for the matches of a script
+--     shortScript        the bytes of a script of 64 matches
 -- Assumes nothing.
-use Prim.Native.Nat.{ℕ, _≤_}
+use Prim.Native.Nat.{ℕ, _+_, _*_, _≤_}
 use mathlib.Core.Path.{_≡_}
+use mathlib.Core.Bool.{Bool}
 use mathlib.Core.List.{List, []}
 use lib.ListN.{length}
 use lib.Seq.{sets}
+use Rattle.script.specs.Commands.{lengthsWidth, matchWidth}
+use Rattle.script.specs.Reading.{readScript}
+use Rattle.script.specs.Columns.{matchesRead}
 use Rattle.script.specs.declared.refusal.Refusal.the-variants.{TooManyPieces}
 use Rattle.refinement.specs.Match.{Match}
 use Rattle.refinement.specs.Least.{leastTable}
 use Rattle.refining.specs.Rows.{pieceNumbers}
-use Rattle.refining.specs.Refining.{capacityOf, refiningOfMatches}
+use Rattle.refining.specs.Refining.{capacityOf, refiningOfMatches, refiningOf}
 use Rattle.refining.specs.Demands.{EveryExceeds}
 use Rattle.refining.specs.declared.answers.Refined.{Refined}
 
@@ -28,3 +35,19 @@ Tabled ms before after (Refined.Refused r) =
 abbrev pub MatchesRefined : List Match → List ℕ → List ℕ → Refined → List ℕ → List ℕ → Type 0
 MatchesRefined ms table work reply table′ work′ =
     record { reply = reply; table = table′; work = work′ } ≡ refiningOfMatches ms table work
+
+-- the whole call
+abbrev pub ScriptRefined : List ℕ → List ℕ → List ℕ → Refined → List ℕ → List ℕ → Type 0
+ScriptRefined script table work reply table′ work′ =
+    record { reply = reply; table = table′; work = work′ } ≡ refiningOf script table work
+
+-- columns with room for the matches of a script
+pub record Roomy (s a b d : List ℕ) (r : List Bool) : Type 0 where
+  pub left-a : length (matchesRead (readScript s)) ≤ length a
+  pub left-b : length (matchesRead (readScript s)) ≤ length b
+  pub letters : length (matchesRead (readScript s)) ≤ length d
+  pub reversed : length (matchesRead (readScript s)) ≤ length r
+
+-- lengths, 64 matches, end
+abbrev pub shortScript : ℕ
+shortScript = lengthsWidth + matchWidth * 64 + 1

@@ -3,18 +3,28 @@ pub mod carrying;
 
 use closing::Closed;
 use closing::close;
+use reader::columns::read_columns;
 use refining::answers::Refined;
 use rows::ROW_WIDTH;
 use script::Refusal;
 use script::Verdict;
+use script::command::LENGTHS_WIDTH;
+use script::command::MATCH_WIDTH;
+use script::limits::MOST_MATCHES;
 use writing_rows::write_rows;
 ghost use mathlib.Core.Path.{_≡_};
 ghost use Prim.Native.Nat.{_≤_, _<_};
 ghost use lib.ListN.{length};
 ghost use Rattle.refining.specs.Columns.{Fit, matchesOf};
 ghost use Rattle.refining.specs.Refining.{workNeeded, zeroed, refiningOf};
-ghost use Rattle.refine.specs.Calls.{Tabled, MatchesRefined};
+ghost use Rattle.refine.specs.Calls.{Tabled, MatchesRefined, Roomy, ScriptRefined, shortScript};
 ghost use Rattle.refining.specs.Demands.{answerOf, Demand1, Demand2, Demand3};
+
+// Columns of this length take a script of a few matches; to make longer ones would be most of the work on it.
+const FEW_MATCHES: usize = 64;
+
+// Lengths, that many matches, end.
+const SHORT_SCRIPT: usize = LENGTHS_WIDTH + MATCH_WIDTH * FEW_MATCHES + 1;
 
 // Sets every number of the work buffer to zero, those past what refining needs too.
 fn clear(work: &mut [u32])
@@ -93,6 +103,77 @@ fn refine_matches(
     answer
 }
 
+// Reads the script into columns that have room for its matches, and refines them.
+fn refine_in(
+    script: &[u8],
+    left_a: &mut [u32],
+    left_b: &mut [u32],
+    lengths: &mut [u32],
+    reversed: &mut [bool],
+    table: &mut [u32],
+    work: &mut [u32],
+) -> Refined
+    requires { ⌜ Roomy (now script) (now «left_a») (now «left_b») (now lengths) (now reversed) ⌝ }
+    ensures { λ r. ⌜
+        ScriptRefined (now (script .entry)) (now (table .entry)) (now (work .entry)) r (now (table .exit))
+        (now (work .exit)) ⌝ }
+{
+    match read_columns(script, left_a, left_b, lengths, reversed) {
+        Verdict::Refused(refusal) => Refined::Refused(refusal),
+        Verdict::Admitted { p: _, q: _, count } => refine_matches(
+            &left_a[..count],
+            &left_b[..count],
+            &lengths[..count],
+            &reversed[..count],
+            table,
+            work,
+        ),
+    }
+}
+
+// A script whose bytes have room for few matches: no more columns are made than they can fill.
+fn refine_few(script: &[u8], table: &mut [u32], work: &mut [u32]) -> Refined
+    requires { ⌜ length (now script) ≤ shortScript ⌝ }
+    ensures { λ r. ⌜
+        ScriptRefined (now (script .entry)) (now (table .entry)) (now (work .entry)) r (now (table .exit))
+        (now (work .exit)) ⌝ }
+{
+    let mut left_a = [0; FEW_MATCHES];
+    let mut left_b = [0; FEW_MATCHES];
+    let mut lengths = [0; FEW_MATCHES];
+    let mut reversed = [false; FEW_MATCHES];
+    refine_in(
+        script,
+        &mut left_a[..],
+        &mut left_b[..],
+        &mut lengths[..],
+        &mut reversed[..],
+        table,
+        work,
+    )
+}
+
+// Any script.
+fn refine_many(script: &[u8], table: &mut [u32], work: &mut [u32]) -> Refined
+    ensures { λ r. ⌜
+        ScriptRefined (now (script .entry)) (now (table .entry)) (now (work .entry)) r (now (table .exit))
+        (now (work .exit)) ⌝ }
+{
+    let mut left_a = [0; MOST_MATCHES];
+    let mut left_b = [0; MOST_MATCHES];
+    let mut lengths = [0; MOST_MATCHES];
+    let mut reversed = [false; MOST_MATCHES];
+    refine_in(
+        script,
+        &mut left_a[..],
+        &mut left_b[..],
+        &mut lengths[..],
+        &mut reversed[..],
+        table,
+        work,
+    )
+}
+
 // Makes the piece table of a script. Success gives the count of rows, which stand from the table's start.
 pub fn refine(script: &[u8], table: &mut [u32], work: &mut [u32]) -> Refined
     ensures reply { λ r. ⌜ r ≡ refiningOf (now (script .entry)) (now (table .entry)) (now (work .entry)) .reply ⌝ }
@@ -108,23 +189,8 @@ pub fn refine(script: &[u8], table: &mut [u32], work: &mut [u32]) -> Refined
     ensures demand3 { λ r. ⌜
         Demand3 (now (script .entry)) (now (table .entry)) (now (work .entry)) (answerOf r) (now (table .exit)) ⌝ }
 {
-    let read = reader::read(script);
-    let verdict = read.verdict;
-    match verdict {
-        Verdict::Refused(refusal) => Refined::Refused(refusal),
-        Verdict::Admitted { p: _, q: _, count } => {
-            let left_a = read.left_a;
-            let left_b = read.left_b;
-            let lengths = read.length;
-            let reversed = read.reversed;
-            refine_matches(
-                &left_a[..count],
-                &left_b[..count],
-                &lengths[..count],
-                &reversed[..count],
-                table,
-                work,
-            )
-        }
+    if script.len() <= SHORT_SCRIPT {
+        return refine_few(script, table, work);
     }
+    refine_many(script, table, work)
 }
