@@ -25,17 +25,17 @@ use Rattle.capi.specs.Doors.{ReportReply}
 use Rattle.reporting.specs.Reporting.{reportingOf}
 use Rattle.reporting.specs.declared.Reported.{Reported}
 
-module _ (script : List ℕ) (was-place : ℕ) (was : Read) {told : Verdict} (reads : told ≡ verdictOf (readScript script))
-  where
-    pub read-given : {p q count : ℕ} → told ≡ Verdict.Admitted p q count
-        → _≡_ {A = Reply Read} (record { number = 0; place = was-place; given = record { p = p; q = q; count = count } })
-        (readDoor script was-place was)
-    read-given v = let held = holds-admitted script reads v in rw (held .read, held .counted)
+module _ (script : List ℕ) (was-place : ℕ) (was : Read) {told : Verdict}
+    (reads : told ≡ verdictOf (readScript script)) where
+  pub read-given : {p q count : ℕ} → told ≡ Verdict.Admitted p q count
+      → _≡_ {A = Reply Read} (record { number = 0; place = was-place; given = record { p = p; q = q; count = count } })
+      (readDoor script was-place was)
+  read-given v = let held = holds-admitted script reads v in rw (held .read, held .counted)
 
-    pub read-refused : {f : Refusal} {number place : ℕ} → told ≡ Verdict.Refused f → number ≡ numberOf f
-        → place ≡ placeOf f
-        → _≡_ {A = Reply Read} (record { number = number; place = place; given = was }) (readDoor script was-place was)
-    read-refused v n p = rw (reading-refused script reads v, n, p)
+  pub read-refused : {f : Refusal} {number place : ℕ} → told ≡ Verdict.Refused f → number ≡ numberOf f
+      → place ≡ placeOf f
+      → _≡_ {A = Reply Read} (record { number = number; place = place; given = was }) (readDoor script was-place was)
+  read-refused v n p = rw (reading-refused script reads v, n, p)
 
 module _ (script : List ℕ) (index was-place : ℕ) (was : OneMatch) {finding : Finding}
     (finds : finding ≡ findingOf (readScript script) index) where

@@ -16,6 +16,7 @@ ghost use Rattle.script.specs.Columns.{ColumnsRead};
 ghost use Rattle.script.specs.Demands.{verdictAnswer, ReadingDemand, ColumnsDemand};
 ghost use Rattle.reader.specs.Offsets.{operandOf, directionOf, valuesFrom, OffsetsStored};
 
+// The smaller of two numbers.
 fn fewer(a: usize, b: usize) -> usize
     ensures { λ r. ⌜ (r ≤ a) × ((r ≤ b) × ((r ≡ a) ⊎ (r ≡ b))) ⌝ }
 {

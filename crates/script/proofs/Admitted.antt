@@ -11,7 +11,7 @@ use mathlib.Core.List.{List, List·Memᴰ}
 use native.Mathlib.Omega.{arith}
 use lib.ListN.{length}
 use Rattle.script.specs.Limits.{mostMatches, longestScript}
-use Rattle.script.specs.Commands.{lengthsWidth, matchWidth}
+use Rattle.script.specs.Commands.{matchWidth}
 use Rattle.script.specs.Reading.{Reading, admitted, refused, readScript, verdictOf}
 use Rattle.script.specs.Columns.{matchesRead}
 use Rattle.script.specs.Answers.{value, contents}

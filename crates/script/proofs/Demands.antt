@@ -1,6 +1,6 @@
 -- The reader and the finder as `verdictOf` and `findingOf` define them meet their demands: of the outcomes exactly one
 -- applies, and it is the reply.
---     reading-demand, reading-contract     the demand, of any reply that equals `verdictOf`; with the equation before it
+--     reading-demand, reading-contract     of any reply that equals `verdictOf`; with the equation before it
 --     finding-demand, finding-contract     likewise of `findingOf`
 -- Assumes nothing.
 use Prim.Native.Nat.{ℕ}

@@ -2,8 +2,8 @@
 --     match-placed     match k + 1 of an admitted script is the command at 9 + 13 k
 -- Assumes nothing.
 use Prim.Native.Nat.{ℕ, _+_, _*_, _<_}
-use mathlib.Core.Path.{_≡_, sym, subst}
-use mathlib.Core.List.{List, [], _∷_, _++_}
+use mathlib.Core.Path.{_≡_}
+use mathlib.Core.List.{List, [], _∷_}
 use native.Mathlib.Omega.{arith}
 use native.Mathlib.Decide.{decLt}
 use lib.ListN.{length, getD, length-append, List·getD-append}
@@ -14,8 +14,8 @@ use Rattle.script.specs.declared.command.Match.{Match}
 use Rattle.script.proofs.Outcome.{reach-place}
 use Rattle.script.proofs.Admitted.{admitted-ended}
 
-reach-match : {s : List ℕ} {p q at : ℕ} {ms : List Match} → Reach s p q at ms → (k : ℕ) → k < length ms → (blank : Match)
-    → MatchAt s (9 + 13 * k) (getD ms k blank)
+reach-match : {s : List ℕ} {p q at : ℕ} {ms : List Match} → Reach s p q at ms → (k : ℕ) → k < length ms
+    → (blank : Match) → MatchAt s (9 + 13 * k) (getD ms k blank)
 reach-match (opened _ _ _) k h blank = absurd (omega arith)
 reach-match {s} (taken {at} {ms} {m} r _ d _) k h blank =
     elim (decLt k (length ms)) [

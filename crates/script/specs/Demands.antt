@@ -17,7 +17,7 @@ use mathlib.Core.Bool.{Bool}
 use mathlib.Core.List.{List, _∷_, _++_}
 use lib.ListN.{length, getD}
 use Rattle.script.specs.Refusals.{numberOf, placeOf}
-use Rattle.script.specs.Answers.{Answer, value, refusal, Contents, contents}
+use Rattle.script.specs.Answers.{Answer, value, refusal, contents}
 use Rattle.script.specs.Outcomes.{Outcome}
 use Rattle.script.specs.declared.command.Match.{Match}
 use Rattle.script.specs.declared.Finding.{Finding}
