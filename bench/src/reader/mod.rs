@@ -80,7 +80,13 @@ fn report_one(case: &Case) {
             _ = black_box(plain::find(script, number));
         },
         &mut |script| {
-            black_box(door::carry(script, number, Side::A, left_end(script), &mut carried));
+            black_box(door::carry(
+                script,
+                number,
+                Side::A,
+                left_end(script),
+                &mut carried,
+            ));
         },
         &mut |script| {
             _ = black_box(plain::carry_from_a(script, number, left_end(script)));

@@ -76,7 +76,11 @@ pub fn carry_from_a(script: &[u8], number: u32, position: u32) -> Result<u32, Re
     if off > found.length {
         return Err(refused_call(Word::OffTheMatch));
     }
-    let along = if found.reversed { found.length - off } else { off };
+    let along = if found.reversed {
+        found.length - off
+    } else {
+        off
+    };
     Ok(found.left_b + along)
 }
 
