@@ -1,5 +1,5 @@
 -- What the calls on a set do, from what they do to its runs.
---     withEnds            the same part and the same places, parted into other runs
+--     withEnds, grown     the same part and the same places, parted into other runs; one place more
 --     outside-same        what is outside a part is outside the same part
 --     merged-kept, kept-then      merging some runs keeps the set; keeping it twice
 --     good-gathered       the short run of newly found members is merged into the long one
@@ -9,7 +9,7 @@
 --     found-mergeable, finished-mergeable, short-mergeable, long-mergeable    two runs of the set can be merged
 --     joined, finished-joined     all members become one run
 --     put-added           a number is put into the short run of newly found members
---     gathered-added      it is added after the runs were gathered
+--     gathered-added, merged-added    it is added after the runs were gathered, or merged
 --     member-answers      whether a number is a member, where the other runs do not hold it
 --     added-again         it was a member
 --     searched-again, searched-crowded, searched-growing      it was one, there is no room for it, it can be added
@@ -428,7 +428,7 @@ module _ {xs : List ℕ} {s : CutSet} {at x : ℕ} {q r : Bool} (g : Good xs s)
   searched-again e = added-again g (answer .when e)
 
   pub searched-crowded : r ≡ false → s .used ≡ s .limit → Crowded (λ y. y ≡ x) xs s
-  searched-crowded e full = record { full = full; missing = x; wanted = refl; absent = answer .unless e }
+  searched-crowded e h = record { full = omega arith; missing = x; wanted = refl; absent = answer .unless e }
 
   pub searched-growing : r ≡ false → s .used < s .limit → Growing xs s at x
   searched-growing e free = record { good = g; bound = b; absent = answer .unless e; free = free }
