@@ -10,10 +10,11 @@ import re
 import sys
 from pathlib import Path
 
-# The calls that 01 names: the file below crates/ and the function.
+# The calls that 01 names, and reading into lent columns: the file below crates/ and the function.
 TOTAL = {
     ("reader/src/lib.rt", "read"),
     ("reader/src/find.rt", "find_match"),
+    ("reader/src/columns.rt", "read_columns"),
     ("refine/src/lib.rt", "refine"),
     ("refine/src/carrying.rt", "carry"),
     ("match_rows/src/lib.rt", "rows_of"),

@@ -15,10 +15,9 @@
  * - `place` becomes the offset in the script of the command that is refused, the script's length if bytes ran out where
  *   a command was due, the first extra byte for NOTCHERGREY_TAIL, and 0 for the refusals from 11 on.
  * - A thread with a stack of 512 kB may call any of them, and one with 256 kB any but notchergrey_report. Measured on
- *   x86-64, whatever the input: notchergrey_report takes at most 243 kB, notchergrey_refine, notchergrey_match and the
- *   two that carry 108 kB, notchergrey_summary 99 kB, notchergrey_read 81 kB, notchergrey_rows_of next to nothing. With
- *   less the program ends with a segmentation fault: each page of the stack is touched in turn, so that the page that
- *   guards its end is met and nothing behind it is overwritten.
+ *   x86-64, whatever the input: notchergrey_report takes at most 215 kB, notchergrey_summary 99 kB, notchergrey_refine
+ *   81 kB, the others next to nothing. With less the program ends with a segmentation fault: each page of the stack is
+ *   touched in turn, so that the page that guards its end is met and nothing behind it is overwritten.
  *
  * A script is bytes; its numbers have four bytes, least byte first:
  *   4C p q                   the letter counts of sequences A and B, 1 to 1,000,000,000 each; first command, once

@@ -14,6 +14,7 @@ const DIRECT_ONLY: [bool; 1] = [false];
 /// Several scripts of one kind: of a single one the processor would learn every branch.
 pub struct Case {
     pub name: String,
+    pub matches: usize,
     pub scripts: Vec<Vec<u8>>,
     pub calls: usize,
 }
@@ -43,6 +44,7 @@ pub fn all() -> Vec<Case> {
 fn case(name: String, matches: usize, script: impl FnMut() -> Vec<u8>) -> Case {
     Case {
         name,
+        matches,
         scripts: std::iter::repeat_with(script).take(16).collect(),
         calls: 16 * (1 + 100 / (matches + 10)),
     }

@@ -1,9 +1,8 @@
-//! A good plain Rust reader: one pass over the bytes, into fixed arrays. It is written to be fast,
-//! and it is another reader than the slow one of the comparison.
+//! Good plain Rust readers: one pass over the bytes that keeps nothing, one match, or all of them in
+//! fixed arrays. They are written to be fast, and they are others than the slow one of the comparison.
 
 use compare::slow::refusal::{Refusal, Word};
 use compare::slow::script::{DIRECT, END, LENGTHS, LONGEST_SEQUENCE, MOST_MATCHES, REVERSED};
-use std::hint::black_box;
 
 /// The matches of a script, a fixed array for each field.
 pub struct Columns {
@@ -30,18 +29,67 @@ pub struct Admitted {
     pub count: usize,
 }
 
-/// Reads into arrays of its own, which are zero at first.
+/// One match of a script.
+#[derive(Clone, Copy, Debug, PartialEq, Eq)]
+pub struct Match {
+    pub left_a: u32,
+    pub left_b: u32,
+    pub length: u32,
+    pub reversed: bool,
+}
+
+/// Reads and keeps no match.
 #[inline(never)]
-pub fn read_into_own(script: &[u8]) -> Result<Admitted, Refusal> {
-    let mut columns = Columns::ZEROS;
-    let answer = read(script, black_box(&mut columns));
-    black_box(&columns);
-    answer
+pub fn judge(script: &[u8]) -> Result<Admitted, Refusal> {
+    read_with(script, |_, _| ())
 }
 
 /// Reads straight into `columns`. The matches before a fault stay there when it refuses.
 #[inline(never)]
 pub fn read(script: &[u8], columns: &mut Columns) -> Result<Admitted, Refusal> {
+    read_with(script, |index, found| {
+        columns.left_a[index] = found.left_a;
+        columns.left_b[index] = found.left_b;
+        columns.length[index] = found.length;
+        columns.reversed[index] = found.reversed;
+    })
+}
+
+/// Reads and keeps the match of this number.
+#[inline(never)]
+pub fn find(script: &[u8], number: u32) -> Result<Match, Refusal> {
+    let mut kept = None;
+    let index = (number as usize).wrapping_sub(1);
+    read_with(script, |here, found| {
+        if here == index {
+            kept = Some(found);
+        }
+    })?;
+    kept.ok_or(refused_call(Word::NoSuchMatch))
+}
+
+/// Where the match of this number carries a position of A.
+#[inline(never)]
+pub fn carry_from_a(script: &[u8], number: u32, position: u32) -> Result<u32, Refusal> {
+    let found = find(script, number)?;
+    let off = position.wrapping_sub(found.left_a);
+    if off > found.length {
+        return Err(refused_call(Word::OffTheMatch));
+    }
+    let along = if found.reversed {
+        found.length - off
+    } else {
+        off
+    };
+    Ok(found.left_b + along)
+}
+
+fn refused_call(word: Word) -> Refusal {
+    Refusal { word, place: 0 }
+}
+
+#[inline(always)]
+fn read_with(script: &[u8], mut keep: impl FnMut(usize, Match)) -> Result<Admitted, Refusal> {
     let (p, q) = read_lengths(script)?;
     let mut rest = &script[9..];
     let mut count = 0;
@@ -63,10 +111,16 @@ pub fn read(script: &[u8], columns: &mut Columns) -> Result<Admitted, Refusal> {
                     Ok(numbers) => numbers,
                     Err(word) => return refused(word),
                 };
-                columns.left_a[count] = left_a;
-                columns.left_b[count] = left_b;
-                columns.length[count] = length;
-                columns.reversed[count] = command == REVERSED;
+                let reversed = command == REVERSED;
+                keep(
+                    count,
+                    Match {
+                        left_a,
+                        left_b,
+                        length,
+                        reversed,
+                    },
+                );
                 count += 1;
                 rest = next;
             }

@@ -47,8 +47,7 @@ pub extern "C" fn notchergrey_read(
         ≡ readDoor (now (script .entry)) (now (place .entry))
         (record { p = now (p .entry); q = now (q .entry); count = now (count .entry) }) ⌝ }
 {
-    let read = reader::read(script);
-    let verdict = read.verdict;
+    let verdict = reader::read(script);
     match verdict {
         Verdict::Admitted {
             p: a,

@@ -5,7 +5,7 @@
 --     pass-over, pass-none    matches that reach no cut change nothing, nor does any match where there is no cut
 --     pass-ready, pass-run    what the next match needs
 -- Assumes nothing.
-use Prim.Native.Nat.{ℕ, zero, suc, _+_, _-_, _≤_, _<_}
+use Prim.Native.Nat.{ℕ, zero, suc, _+_, _≤_, _<_}
 use native.Mathlib.Omega.{arith}
 use native.Mathlib.Decide.{ℕ-discrete}
 use mathlib.Core.Path.{_≡_, refl, sym, _∙_}
@@ -13,15 +13,16 @@ use mathlib.Core.Bool.{Bool, true, false, true≢false}
 use mathlib.Core.List.{List}
 use mathlib.Core.Logic.{_↔_, _⊎_, inl, inr, ⊎-elim}
 use lib.ListN.{length, getD}
-use lib.Seq.{slice}
 use borrow.Author.Tests.{le-leb}
 use Rattle.refinement.specs.Match.{spanned}
 use Rattle.refinement.proofs.Geometry.{spanned-bounds}
 use Rattle.runs.specs.Runs.{Same}
-use Rattle.cut_set.specs.Store.{Found, FoundRun, Stored}
+use Rattle.cut_set.specs.Store.{Found, FoundRun, NothingFound, foundIn, Stored}
 use Rattle.cut_set.specs.declared.CutSet.{CutSet}
 use Rattle.runs.proofs.Membership.{lt-or-le, in-same}
 use Rattle.cut_set.proofs.Laws.{stored-none, stored-same, stored-then}
+use Rattle.reading_cuts.specs.Reading.{Lowest, Highest}
+use Rattle.refining.specs.Columns.{Columns, countOf, fromAt, toAt, lettersAt, wayAt}
 use Rattle.near_matches.specs.Near.{reaching, Passable}
 use Rattle.carrying_match.specs.OneMatch.{ImageBy, hitsOn, TooMuch, Ready}
 use Rattle.carrying_cuts.specs.Worker.{Images, hitsOver}
@@ -29,25 +30,30 @@ use Rattle.carrying_match.proofs.RunLists.{slice-same, hits-none}
 use Rattle.carrying_match.proofs.Storing.{base-done, done-used}
 use Rattle.carrying_match.proofs.Storing.{too-much-more, too-much-then, same-apart, ready-then}
 
-pub record Passed (f t d : List ℕ) (v : List Bool) (xs : List ℕ) (from to : CutSet) (hits most : ℕ) (ys : List ℕ)
+-- an image of a number with P under the match at index k
+abbrev ImageAt : Columns → ℕ → (ℕ → Type 0) → ℕ → Type 0
+ImageAt columns k = ImageBy (fromAt columns k) (toAt columns k) (lettersAt columns k) (wayAt columns k)
+
+pub record Passed (columns : Columns) (xs : List ℕ) (from to : CutSet) (hits most : ℕ) (ys : List ℕ)
     (set : CutSet) (count k : ℕ) : Type 0 where
-  pub until : k ≤ length d
+  pub until : k ≤ countOf columns
   pub lengths : length ys ≡ length xs
-  pub stored : Stored (Images f t d v k (Found xs from)) xs to ys set
-  pub counted : count ≡ hits + hitsOver f d k (slice (from .done) (from .used) xs)
+  pub stored : Stored (Images columns k (Found xs from)) xs to ys set
+  pub counted : count ≡ hits + hitsOver columns k (foundIn xs from)
   pub few : count ≤ most
 
 -- more matches have no fewer hits
-hits-more : (f d ns : List ℕ) (k n : ℕ) → k ≤ n → hitsOver f d k ns ≤ hitsOver f d n ns
-hits-more f d ns k zero h = let e : k ≡ 0 = omega arith in rw e (omega arith)
-hits-more f d ns k (suc n) h = go (ℕ-discrete k (suc n)) (λ l. hits-more f d ns k n l)
+hits-more : (columns : Columns) (ns : List ℕ) (k n : ℕ) → k ≤ n → hitsOver columns k ns ≤ hitsOver columns n ns
+hits-more columns ns k zero h = let e : k ≡ 0 = omega arith in rw e (omega arith)
+hits-more columns ns k (suc n) h = go (ℕ-discrete k (suc n)) (λ l. hits-more columns ns k n l)
   where
-    go : Dec (k ≡ suc n) → (k ≤ n → hitsOver f d k ns ≤ hitsOver f d n ns) → hitsOver f d k ns ≤ hitsOver f d (suc n) ns
+    go : Dec (k ≡ suc n) → (k ≤ n → hitsOver columns k ns ≤ hitsOver columns n ns)
+        → hitsOver columns k ns ≤ hitsOver columns (suc n) ns
     go (yes e) before = rw e (omega arith)
     go (no e) before = omega (arith, before (omega arith))
 
 images-to :
-    {f t d : List ℕ} {v : List Bool} {k n y : ℕ} {P : ℕ → Type 0} → k ≤ n → Images f t d v k P y → Images f t d v n P y
+    {columns : Columns} {k n y : ℕ} {P : ℕ → Type 0} → k ≤ n → Images columns k P y → Images columns n P y
 images-to h m = record {
   index = m .index;
   below = omega (arith, m .below);
@@ -58,13 +64,15 @@ images-to h m = record {
 
 -- matches without a hit
 hits-same :
-    (f d ns : List ℕ) (k n : ℕ) → k ≤ n
-    → ((j : ℕ) → k ≤ j → j < n → hitsOn (getD f j 0) (getD d j 0) ns ≡ 0) → hitsOver f d n ns ≡ hitsOver f d k ns
-hits-same f d ns k zero h none = let e : k ≡ 0 = omega arith in rw e
-hits-same f d ns k (suc n) h none =
-    go (ℕ-discrete k (suc n)) (λ l. hits-same f d ns k n l (λ j a b. none j a (omega arith)))
+    (columns : Columns) (ns : List ℕ) (k n : ℕ) → k ≤ n
+    → ((j : ℕ) → k ≤ j → j < n → hitsOn (fromAt columns j) (lettersAt columns j) ns ≡ 0)
+    → hitsOver columns n ns ≡ hitsOver columns k ns
+hits-same columns ns k zero h none = let e : k ≡ 0 = omega arith in rw e
+hits-same columns ns k (suc n) h none =
+    go (ℕ-discrete k (suc n)) (λ l. hits-same columns ns k n l (λ j a b. none j a (omega arith)))
   where
-    go : Dec (k ≡ suc n) → (k ≤ n → hitsOver f d n ns ≡ hitsOver f d k ns) → hitsOver f d (suc n) ns ≡ hitsOver f d k ns
+    go : Dec (k ≡ suc n) → (k ≤ n → hitsOver columns n ns ≡ hitsOver columns k ns)
+        → hitsOver columns (suc n) ns ≡ hitsOver columns k ns
     go (yes e) before = rw e
     go (no e) before = omega (arith, before (omega arith), none n (omega arith) (omega arith))
 
@@ -82,8 +90,8 @@ unreached i d lowest highest x e l u = go (spanned i d x) refl
         in
         absurd (true≢false (sym reached ∙ e))
 
-module _ {f t d : List ℕ} {v : List Bool} {xs : List ℕ} {from to : CutSet} {hits most : ℕ} (r : Ready xs from to) where
-  pub pass-start : hits ≤ most → Passed f t d v xs from to hits most xs to hits 0
+module _ {columns : Columns} {xs : List ℕ} {from to : CutSet} {hits most : ℕ} (r : Ready xs from to) where
+  pub pass-start : hits ≤ most → Passed columns xs from to hits most xs to hits 0
   pass-start h = record {
     until = omega arith;
     lengths = refl;
@@ -92,7 +100,7 @@ module _ {f t d : List ℕ} {v : List Bool} {xs : List ℕ} {from to : CutSet} {
     few = h;
   }
 
-  module _ {ys : List ℕ} {set : CutSet} {count k : ℕ} (p : Passed f t d v xs from to hits most ys set count k) where
+  module _ {ys : List ℕ} {set : CutSet} {count k : ℕ} (p : Passed columns xs from to hits most ys set count k) where
     found-same : Same xs ys (from .done) (from .used)
     found-same j l u = same-apart xs ys (r .apart) (p .stored .outside) j
         (omega (arith, base-done (r .from-good))) (omega (arith, r .from-good .room))
@@ -103,15 +111,15 @@ module _ {f t d : List ℕ} {v : List Bool} {xs : List ℕ} {from to : CutSet} {
     pub pass-run : FoundRun xs from → FoundRun ys from
     pass-run up i j l o u = rw (found-same i l (omega arith), found-same j (omega arith) u) (up i j l o u)
 
-    run-list : slice (from .done) (from .used) ys ≡ slice (from .done) (from .used) xs
+    run-list : foundIn ys from ≡ foundIn xs from
     run-list = slice-same xs ys (r .from-good .found-short .within)
         (omega (arith, p .lengths, r .from-good .found-short .within)) (done-used (r .from-good)) found-same
 
     next :
         (y : ℕ)
-        → (Images f t d v k (Found xs from) y
-        ⊎ ImageBy (getD f k 0) (getD t k 0) (getD d k 0) (getD v k false) (Found ys from) y)
-        ↔ Images f t d v (k + 1) (Found xs from) y
+        → (Images columns k (Found xs from) y
+        ⊎ ImageAt columns k (Found ys from) y)
+        ↔ Images columns (k + 1) (Found xs from) y
     next y = (
       λ q. ⊎-elim
           (images-to (omega arith))
@@ -126,9 +134,9 @@ module _ {f t d : List ℕ} {v : List Bool} {xs : List ℕ} {from to : CutSet} {
       λ q. go q (ℕ-discrete (q .index) k),
     )
       where
-        go : {y : ℕ} (q : Images f t d v (k + 1) (Found xs from) y) → Dec (q .index ≡ k)
-            → Images f t d v k (Found xs from) y
-            ⊎ ImageBy (getD f k 0) (getD t k 0) (getD d k 0) (getD v k false) (Found ys from) y
+        go : {y : ℕ} (q : Images columns (k + 1) (Found xs from) y) → Dec (q .index ≡ k)
+            → Images columns k (Found xs from) y
+            ⊎ ImageAt columns k (Found ys from) y
         go q (yes e) = inr (record {
           x = q .x;
           carried = in-same found-same (q .carried);
@@ -144,17 +152,17 @@ module _ {f t d : List ℕ} {v : List Bool} {xs : List ℕ} {from to : CutSet} {
         })
 
     one-more :
-        hitsOver f d (k + 1) (slice (from .done) (from .used) xs)
-        ≡ hitsOver f d k (slice (from .done) (from .used) xs)
-        + hitsOn (getD f k 0) (getD d k 0) (slice (from .done) (from .used) ys)
+        hitsOver columns (k + 1) (foundIn xs from)
+        ≡ hitsOver columns k (foundIn xs from)
+        + hitsOn (fromAt columns k) (lettersAt columns k) (foundIn ys from)
     one-more = let e : k + 1 ≡ suc k = omega arith in rw (e, run-list)
 
-    module _ (h : k < length d) where
+    module _ (h : k < countOf columns) where
       pub pass-step :
           {zs : List ℕ} {u : CutSet} {c : ℕ} → length zs ≡ length ys
-          → Stored (ImageBy (getD f k 0) (getD t k 0) (getD d k 0) (getD v k false) (Found ys from)) ys set zs u
-          × (c ≡ count + hitsOn (getD f k 0) (getD d k 0) (slice (from .done) (from .used) ys)) × (c ≤ most)
-          → Passed f t d v xs from to hits most zs u c (k + 1)
+          → Stored (ImageAt columns k (Found ys from)) ys set zs u
+          × (c ≡ count + hitsOn (fromAt columns k) (lettersAt columns k) (foundIn ys from)) × (c ≤ most)
+          → Passed columns xs from to hits most zs u c (k + 1)
       pass-step n q = record {
         until = omega arith;
         lengths = n ∙ p .lengths;
@@ -164,14 +172,14 @@ module _ {f t d : List ℕ} {v : List Bool} {xs : List ℕ} {from to : CutSet} {
       }
 
       pub pass-too-much :
-          TooMuch ys set (ImageBy (getD f k 0) (getD t k 0) (getD d k 0) (getD v k false) (Found ys from))
-          (count + hitsOn (getD f k 0) (getD d k 0) (slice (from .done) (from .used) ys)) most
-          → TooMuch xs to (Images f t d v (length d) (Found xs from))
-          (hits + hitsOver f d (length d) (slice (from .done) (from .used) xs)) most
+          TooMuch ys set (ImageAt columns k (Found ys from))
+          (count + hitsOn (fromAt columns k) (lettersAt columns k) (foundIn ys from)) most
+          → TooMuch xs to (Images columns (countOf columns) (Found xs from))
+          (hits + hitsOver columns (countOf columns) (foundIn xs from)) most
       pass-too-much m =
-          let more : hitsOver f d (k + 1) (slice (from .done) (from .used) xs)
-          ≤ hitsOver f d (length d) (slice (from .done) (from .used) xs) =
-          hits-more f d (slice (from .done) (from .used) xs) (k + 1) (length d) (omega arith)
+          let more : hitsOver columns (k + 1) (foundIn xs from)
+          ≤ hitsOver columns (countOf columns) (foundIn xs from) =
+          hits-more columns (foundIn xs from) (k + 1) (countOf columns) (omega arith)
           in
           too-much-more
           (λ y q. images-to (omega arith) (next y .0 q))
@@ -180,10 +188,10 @@ module _ {f t d : List ℕ} {v : List Bool} {xs : List ℕ} {from to : CutSet} {
 
     -- matches that span no newly found cut
     skip :
-        {n : ℕ} → k ≤ n → n ≤ length d
+        {n : ℕ} → k ≤ n → n ≤ countOf columns
         → ((j i : ℕ) → k ≤ j → j < n → from .done ≤ i → i < from .used
-        → spanned (getD f j 0) (getD d j 0) (getD xs i 0) ≡ false)
-        → Passed f t d v xs from to hits most ys set count n
+        → spanned (fromAt columns j) (lettersAt columns j) (getD xs i 0) ≡ false)
+        → Passed columns xs from to hits most ys set count n
     skip {n} a b none = record {
       until = b;
       lengths = p .lengths;
@@ -193,13 +201,13 @@ module _ {f t d : List ℕ} {v : List Bool} {xs : List ℕ} {from to : CutSet} {
     }
       where
         same :
-            hitsOver f d n (slice (from .done) (from .used) xs) ≡ hitsOver f d k (slice (from .done) (from .used) xs)
-        same = hits-same f d (slice (from .done) (from .used) xs) k n a (λ j l u.
-            hits-none xs (r .from-good .found-short .within) (done-used (r .from-good)) (getD f j 0) (getD d j 0)
-            (λ i l′ u′. none j i l u l′ u′))
+            hitsOver columns n (foundIn xs from) ≡ hitsOver columns k (foundIn xs from)
+        same = hits-same columns (foundIn xs from) k n a (λ j l u.
+            hits-none xs (r .from-good .found-short .within) (done-used (r .from-good)) (fromAt columns j)
+            (lettersAt columns j) (λ i l′ u′. none j i l u l′ u′))
 
-        fewer : {y : ℕ} (q : Images f t d v n (Found xs from) y) → (q .index < k) ⊎ (k ≤ q .index)
-            → Images f t d v k (Found xs from) y
+        fewer : {y : ℕ} (q : Images columns n (Found xs from) y) → (q .index < k) ⊎ (k ≤ q .index)
+            → Images columns k (Found xs from) y
         fewer q (inl h) =
             record { index = q .index; below = h; x = q .x; carried = q .carried; image = q .image }
         fewer q (inr h) =
@@ -208,27 +216,21 @@ module _ {f t d : List ℕ} {v : List Bool} {xs : List ℕ} {from to : CutSet} {
             absurd (true≢false (sym (rw (← (c .is)) at (q .image .spans)) ∙ past))
 
     pub pass-over :
-        {n : ℕ} → FoundRun xs from → Passable f d (getD xs (from .done) 0) (getD xs (from .used - 1) 0) k n
-        → Passed f t d v xs from to hits most ys set count n
-    pass-over {n} up q = skip (q .from) (q .to) (λ j i a b l u.
-        unreached (getD f j 0) (getD d j 0) (getD xs (from .done) 0) (getD xs (from .used - 1) 0) (getD xs i 0)
-        (q .past j a b) (lowest i l u (lt-or-le (from .done) i)) (highest i l u (lt-or-le i (from .used - 1))))
-      where
-        lowest : (i : ℕ) → from .done ≤ i → i < from .used → (from .done < i) ⊎ (i ≤ from .done)
-            → getD xs (from .done) 0 ≤ getD xs i 0
-        lowest i l u (inl h) = omega (arith, up (from .done) i (omega arith) h u)
-        lowest i l u (inr h) = let e : i ≡ from .done = omega arith in rw e (omega arith)
+        {lowest highest n : ℕ} → Lowest xs from lowest → Highest xs from highest
+        → Passable (columns .from-lefts) (columns .lengths) lowest highest k n
+        → Passed columns xs from to hits most ys set count n
+    pass-over {lowest} {highest} low high q = skip (q .from) (q .to) (λ j i a b l u.
+        let m : Found xs from (getD xs i 0) = record { place = i; from = l; below = u; is = refl } in
+        unreached (fromAt columns j) (lettersAt columns j) lowest highest (getD xs i 0) (q .past j a b)
+        (low .least (getD xs i 0) m) (high .greatest (getD xs i 0) m))
 
-        highest : (i : ℕ) → from .done ≤ i → i < from .used → (i < from .used - 1) ⊎ (from .used - 1 ≤ i)
-            → getD xs i 0 ≤ getD xs (from .used - 1) 0
-        highest i l u (inl h) = omega (arith, up i (from .used - 1) l h (omega arith))
-        highest i l u (inr h) = let e : i ≡ from .used - 1 = omega arith in rw e (omega arith)
-
-    pub pass-none : from .done ≡ from .used → Passed f t d v xs from to hits most ys set count (length d)
+    pub pass-none : NothingFound from → Passed columns xs from to hits most ys set count (countOf columns)
     pass-none e = skip (p .until) (omega arith) (λ j i a b l u. absurd (omega arith))
 
     pub pass-end :
-        length d ≤ k
-        → Stored (Images f t d v (length d) (Found xs from)) xs to ys set
-        × (count ≡ hits + hitsOver f d (length d) (slice (from .done) (from .used) xs)) × (count ≤ most)
-    pass-end h = let e : k ≡ length d = omega (arith, p .until) in (rw e at (p .stored), rw e at (p .counted), p .few)
+        countOf columns ≤ k
+        → Stored (Images columns (countOf columns) (Found xs from)) xs to ys set
+        × (count ≡ hits + hitsOver columns (countOf columns) (foundIn xs from)) × (count ≤ most)
+    pass-end h =
+        let e : k ≡ countOf columns = omega (arith, p .until) in
+        (rw e at (p .stored), rw e at (p .counted), p .few)

@@ -5,9 +5,8 @@ use cut_set::CutSet;
 use near_matches::next_near;
 ghost use Prim.Native.Nat.{_≤_};
 ghost use lib.ListN.{length};
-ghost use lib.Seq.{slice};
-ghost use Rattle.cut_set.specs.Store.{FoundRun};
-ghost use Rattle.refining.specs.Columns.{Fit};
+ghost use Rattle.cut_set.specs.Store.{FoundRun, foundIn};
+ghost use Rattle.refining.specs.Columns.{columnsOf, Fit};
 ghost use Rattle.carrying_match.specs.OneMatch.{Ready};
 ghost use Rattle.carrying_cuts.specs.Worker.{Working, Turning};
 
@@ -32,22 +31,20 @@ fn carry_found(
     hits: usize,
     most: usize,
 ) -> Worked
-    requires { ⌜ Fit (now lefts) (now others) (now lengths) (now reversed) ⌝ }
+    requires { ⌜ Fit (columnsOf (now lefts) (now others) (now lengths) (now reversed)) ⌝ }
     requires { ⌜ Ready (now work) from to ⌝ }
     requires { ⌜ FoundRun (now work) from ⌝ }
     requires { ⌜ hits ≤ most ⌝ }
     ensures { λ r. ⌜
-        Working (now (lefts .entry)) (now (others .entry)) (now (lengths .entry)) (now (reversed .entry))
+        Working (columnsOf (now (lefts .entry)) (now (others .entry)) (now (lengths .entry)) (now (reversed .entry)))
         (length (now (lengths .entry))) (now (work .entry)) from to
-        (slice (from .done) (from .used) (now (work .entry))) hits most (now (work .exit)) r ⌝ }
+        (foundIn (now (work .entry)) from) hits most (now (work .exit)) r ⌝ }
 {
-    let first = from.done;
-    let end = from.used;
-    if first == end {
+    if reading_cuts::none_found(from) {
         return Worked::Held { hits: hits, to: to };
     }
-    let lowest = work[first];
-    let highest = work[end - 1];
+    let lowest = reading_cuts::lowest_found(work, from);
+    let highest = reading_cuts::highest_found(work, from);
     let mut set = to;
     let mut count = hits;
     let mut k = next_near(lefts, lengths, 0, lowest, highest);
@@ -89,11 +86,11 @@ pub fn take_turn(
     hits: usize,
     most: usize,
 ) -> Turn
-    requires { ⌜ Fit (now lefts) (now others) (now lengths) (now reversed) ⌝ }
+    requires { ⌜ Fit (columnsOf (now lefts) (now others) (now lengths) (now reversed)) ⌝ }
     requires { ⌜ Ready (now work) from to ⌝ }
     requires { ⌜ hits ≤ most ⌝ }
     ensures { λ r. ⌜
-        Turning (now (lefts .entry)) (now (others .entry)) (now (lengths .entry)) (now (reversed .entry))
+        Turning (columnsOf (now (lefts .entry)) (now (others .entry)) (now (lengths .entry)) (now (reversed .entry)))
         (now (work .entry)) from to hits most (now (work .exit)) r ⌝ }
 {
     let gathered = cut_set::gather(work, from);

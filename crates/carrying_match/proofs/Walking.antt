@@ -15,7 +15,7 @@ use borrow.Author.Tests.{leb-false, lt-leb}
 use Rattle.refinement.specs.Match.{spanned, carryOver}
 use Rattle.refinement.proofs.Geometry.{spanned-bounds, spanned-below, spanned-from}
 use Rattle.runs.specs.Runs.{In, Bound}
-use Rattle.cut_set.specs.Store.{Found, FoundRun, Stored}
+use Rattle.cut_set.specs.Store.{Found, FoundRun, foundIn, foundEnd, Stored}
 use Rattle.cut_set.specs.declared.CutSet.{CutSet}
 use Rattle.runs.proofs.Membership.{lt-or-le, in-wide, in-parts}
 use Rattle.cut_set.proofs.Laws.{stored-none, stored-same, stored-then}
@@ -24,13 +24,14 @@ use Rattle.carrying_match.proofs.RunLists.{hits-past, hits-none}
 use Rattle.carrying_match.proofs.Storing.{base-done, done-used}
 use Rattle.carrying_match.proofs.Storing.{too-much-more, too-much-then, same-apart}
 
-pub record Walked (i k d : ℕ) (b : Bool) (xs : List ℕ) (to : CutSet) (hits most lo hi : ℕ) (ys : List ℕ) (t : CutSet)
-    (count at : ℕ) : Type 0 where
-  pub from : lo ≤ at
-  pub until : at ≤ hi
+pub record Walked (i k d : ℕ) (b : Bool) (xs : List ℕ) (from to : CutSet) (hits most lo end : ℕ) (ys : List ℕ)
+    (t : CutSet) (count at : ℕ) : Type 0 where
+  pub ends : end ≡ foundEnd from
+  pub start : lo ≤ at
+  pub until : at ≤ from .used
   pub lengths : length ys ≡ length xs
   pub stored : Stored (ImageBy i k d b (In xs lo at)) xs to ys t
-  pub counted : hits + hitsOn i d (slice lo hi xs) ≡ count + hitsOn i d (slice at hi xs)
+  pub counted : hits + hitsOn i d (slice lo (from .used) xs) ≡ count + hitsOn i d (slice at (from .used) xs)
   pub few : count ≤ most
 
 module _ {i k d : ℕ} {b : Bool} {xs : List ℕ} where
@@ -38,11 +39,12 @@ module _ {i k d : ℕ} {b : Bool} {xs : List ℕ} where
   image-wide p q m = record { x = m .x; carried = in-wide p q (m .carried); spans = m .spans; is = m .is }
 
 pub walk-start :
-    {i k d : ℕ} {b : Bool} {xs : List ℕ} {from to : CutSet} {lo hits most : ℕ} → Ready xs from to
-    → Bound xs (from .done) (from .used) i lo → hits ≤ most
-    → Walked i k d b xs to hits most lo (from .used) xs to hits lo
-walk-start r e h = record {
-  from = omega arith;
+    {i k d : ℕ} {b : Bool} {xs : List ℕ} {from to : CutSet} {lo end hits most : ℕ} → Ready xs from to
+    → end ≡ foundEnd from → Bound xs (from .done) (from .used) i lo → hits ≤ most
+    → Walked i k d b xs from to hits most lo end xs to hits lo
+walk-start r f e h = record {
+  ends = f;
+  start = omega arith;
   until = e .to;
   lengths = refl;
   stored = stored-none (r .to-good) (λ y m. absurd (omega (arith, m .carried .from, m .carried .below)));
@@ -50,29 +52,36 @@ walk-start r e h = record {
   few = h;
 }
 
-module _ {i k d : ℕ} {b : Bool} {xs : List ℕ} {from to : CutSet} {hits most lo : ℕ} {ys : List ℕ} {t : CutSet}
-    {count at : ℕ} (r : Ready xs from to) (up : FoundRun xs from) (e : Bound xs (from .done) (from .used) i lo)
-    (w : Walked i k d b xs to hits most lo (from .used) ys t count at) where
+module _ {i k d : ℕ} {b : Bool} {xs : List ℕ} {from to : CutSet} {hits most lo end : ℕ} {ys : List ℕ}
+    {t : CutSet} {count at : ℕ} (r : Ready xs from to) (up : FoundRun xs from)
+    (e : Bound xs (from .done) (from .used) i lo) (w : Walked i k d b xs from to hits most lo end ys t count at) where
   within : from .used ≤ length xs
   within = r .from-good .found-short .within
 
   place-same : at < from .used → getD ys at 0 ≡ getD xs at 0
   place-same h = same-apart xs ys (r .apart) (w .stored .outside) at
-      (omega (arith, base-done (r .from-good), e .from, w .from)) (omega (arith, r .from-good .room))
+      (omega (arith, base-done (r .from-good), e .from, w .start)) (omega (arith, r .from-good .room))
 
-  skipped : hitsOn i d (slice (from .done) (from .used) xs) ≡ hitsOn i d (slice lo (from .used) xs)
+  skipped : hitsOn i d (foundIn xs from) ≡ hitsOn i d (slice lo (from .used) xs)
   skipped = hits-past xs within (done-used (r .from-good)) i d lo (e .from) (e .to)
       (λ j l u. sym (spanned-below i d (getD xs j 0) (e .less j l u)))
 
-  module _ (h : at < from .used) (s : spanned i d (getD ys at 0) ≡ true) where
+  -- the newly found cut at the place `at`
+  module _ {cut : ℕ} (more : at < end) (here : cut ≡ getD ys at 0) (s : spanned i d cut ≡ true) where
+    h : at < from .used
+    h = omega (arith, w .ends)
+
+    cut-same : cut ≡ getD xs at 0
+    cut-same = here ∙ place-same h
+
     next :
-        (y : ℕ) → (ImageBy i k d b (In xs lo at) y ⊎ (y ≡ carryOver b i k d (getD ys at 0)))
+        (y : ℕ) → (ImageBy i k d b (In xs lo at) y ⊎ (y ≡ carryOver b i k d cut))
         ↔ ImageBy i k d b (In xs lo (at + 1)) y
     next y = (
       λ q. ⊎-elim (image-wide (omega arith) (omega arith))
           (λ p. record {
-            x = getD ys at 0;
-            carried = record { place = at; from = w .from; below = omega arith; is = sym (place-same h) };
+            x = cut;
+            carried = record { place = at; from = w .start; below = omega arith; is = sym cut-same };
             spans = s;
             is = p;
           })
@@ -80,22 +89,23 @@ module _ {i k d : ℕ} {b : Bool} {xs : List ℕ} {from to : CutSet} {hits most 
       λ q. ⊎-elim
           (λ u. inl (record { x = q .x; carried = u; spans = q .spans; is = q .is }))
           (λ u. let f : u .place ≡ at = omega (arith, u .from, u .below) in
-          let here : q .x ≡ getD ys at 0 = sym (u .is) ∙ ap (λ (j : ℕ). getD xs j 0) f ∙ sym (place-same h) in
-          inr (q .is ∙ ap (carryOver b i k d) here))
+          let is-cut : q .x ≡ cut = sym (u .is) ∙ ap (λ (j : ℕ). getD xs j 0) f ∙ sym cut-same in
+          inr (q .is ∙ ap (carryOver b i k d) is-cut))
           (in-parts at (q .carried)),
     )
 
     hit : hitsOn i d (slice at (from .used) xs) ≡ 1 + hitsOn i d (slice (at + 1) (from .used) xs)
     hit = let f : at + 1 ≡ suc at = omega arith in
-        let spans : spanned i d (getD xs at 0) ≡ true = rw (place-same h) at s in
+        let spans : spanned i d (getD xs at 0) ≡ true = rw cut-same at s in
         rw (f, slice-cons at (from .used) xs 0 h within, spans)
 
     pub walk-step :
         {zs : List ℕ} {u : CutSet} {c : ℕ} → length zs ≡ length ys
-        → Stored (λ y. y ≡ carryOver b i k d (getD ys at 0)) ys t zs u × (c ≡ count + 1) × (c ≤ most)
-        → Walked i k d b xs to hits most lo (from .used) zs u c (at + 1)
+        → Stored (λ y. y ≡ carryOver b i k d cut) ys t zs u × (c ≡ count + 1) × (c ≤ most)
+        → Walked i k d b xs from to hits most lo end zs u c (at + 1)
     walk-step n p = record {
-      from = omega (arith, w .from);
+      ends = w .ends;
+      start = omega (arith, w .start);
       until = omega arith;
       lengths = n ∙ w .lengths;
       stored = stored-same next (stored-then (w .stored) (p .0));
@@ -104,8 +114,8 @@ module _ {i k d : ℕ} {b : Bool} {xs : List ℕ} {from to : CutSet} {hits most 
     }
 
     pub walk-too-much :
-        TooMuch ys t (λ y. y ≡ carryOver b i k d (getD ys at 0)) (count + 1) most
-        → TooMuch xs to (ImageBy i k d b (Found xs from)) (hits + hitsOn i d (slice (from .done) (from .used) xs)) most
+        TooMuch ys t (λ y. y ≡ carryOver b i k d cut) (count + 1) most
+        → TooMuch xs to (ImageBy i k d b (Found xs from)) (hits + hitsOn i d (foundIn xs from)) most
     walk-too-much m = too-much-more (λ y q. image-wide (e .from) (omega arith) (next y .0 q))
         (omega (arith, w .counted, hit, skipped)) (too-much-then (r .to-good) (w .stored) m)
 
@@ -113,7 +123,7 @@ module _ {i k d : ℕ} {b : Bool} {xs : List ℕ} {from to : CutSet} {hits most 
   stopped :
       ((j : ℕ) → at ≤ j → j < from .used → spanned i d (getD xs j 0) ≡ false)
       → Stored (ImageBy i k d b (Found xs from)) xs to ys t
-      × (count ≡ hits + hitsOn i d (slice (from .done) (from .used) xs)) × (count ≤ most)
+      × (count ≡ hits + hitsOn i d (foundIn xs from)) × (count ≤ most)
   stopped f = (
     stored-same (λ y. (image-wide (e .from) (w .until), narrow)) (w .stored),
     omega (arith, w .counted, skipped, rest),
@@ -135,26 +145,29 @@ module _ {i k d : ℕ} {b : Bool} {xs : List ℕ} {from to : CutSet} {hits most 
           (in-parts lo (q .carried))
 
   pub walk-over :
-      from .used ≤ at
+      end ≤ at
       → Stored (ImageBy i k d b (Found xs from)) xs to ys t
-      × (count ≡ hits + hitsOn i d (slice (from .done) (from .used) xs)) × (count ≤ most)
-  walk-over h = stopped (λ j l u. absurd (omega arith))
+      × (count ≡ hits + hitsOn i d (foundIn xs from)) × (count ≤ most)
+  walk-over past = stopped (λ j l u. absurd (omega (arith, w .ends)))
 
   pub walk-break :
-      at < from .used → spanned i d (getD ys at 0) ≡ false
+      {cut : ℕ} → at < end → cut ≡ getD ys at 0 → spanned i d cut ≡ false
       → Stored (ImageBy i k d b (Found xs from)) xs to ys t
-      × (count ≡ hits + hitsOn i d (slice (from .done) (from .used) xs)) × (count ≤ most)
-  walk-break h s = stopped later
+      × (count ≡ hits + hitsOn i d (foundIn xs from)) × (count ≤ most)
+  walk-break more here s = stopped later
     where
+      h : at < from .used
+      h = omega (arith, w .ends)
+
       left : (j : ℕ) → at ≤ j → j < from .used → i ≤ getD xs j 0
-      left j l u = e .least j (omega (arith, w .from)) u
+      left j l u = e .least j (omega (arith, w .start)) u
 
       past : i + d < getD xs at 0
       past = leb-false (getD xs at 0) (i + d)
-          (spanned-from i d (getD xs at 0) (left at (omega arith) h) ∙ ap (spanned i d) (sym (place-same h)) ∙ s)
+          (spanned-from i d (getD xs at 0) (left at (omega arith) h) ∙ ap (spanned i d) (sym (here ∙ place-same h)) ∙ s)
 
       above : (j : ℕ) → at ≤ j → j < from .used → (at < j) ⊎ (j ≤ at) → i + d < getD xs j 0
-      above j l u (inl o) = omega (arith, past, up at j (omega (arith, e .from, w .from)) o u)
+      above j l u (inl o) = omega (arith, past, up at j (omega (arith, e .from, w .start)) o u)
       above j l u (inr o) = let f : j ≡ at = omega arith in rw f past
 
       later : (j : ℕ) → at ≤ j → j < from .used → spanned i d (getD xs j 0) ≡ false

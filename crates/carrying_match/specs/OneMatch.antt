@@ -6,7 +6,7 @@
 --     TooMuch      why there are too many
 --     Carrying     what carrying does, by its answer
 -- Assumes nothing.
-use Prim.Native.Nat.{ℕ, suc, _+_, _-_, _≤_, _<_}
+use Prim.Native.Nat.{ℕ, suc, _+_, _≤_, _<_}
 use mathlib.Core.Path.{_≡_}
 use mathlib.Core.Logic.{_⊎_}
 use mathlib.Core.Bool.{Bool, true, cond}
@@ -14,7 +14,7 @@ use mathlib.Core.List.{List, [], _∷_}
 use lib.ListN.{length}
 use Rattle.refinement.specs.Order.{_∈_, Distinct}
 use Rattle.refinement.specs.Match.{spanned, carryOver}
-use Rattle.cut_set.specs.Store.{Good, Member, Stored}
+use Rattle.cut_set.specs.Store.{Good, Member, placesOf, Stored}
 use Rattle.cut_set.specs.declared.CutSet.{CutSet}
 use Rattle.carrying_match.specs.declared.Worked.{Worked}
 
@@ -49,7 +49,7 @@ pub record Ready (xs : List ℕ) (from to : CutSet) : Type 0 where
 
 -- why the answer is "too many": no place for one more image, or more hits than the most that are allowed
 pub data TooMuch (xs : List ℕ) (to : CutSet) (P : ℕ → Type 0) (hits most : ℕ) : Type 0 where
-  crowded : Overflow (λ y. Member xs to y ⊎ P y) (to .limit - to .base) → TooMuch xs to P hits most
+  crowded : Overflow (λ y. Member xs to y ⊎ P y) (placesOf to) → TooMuch xs to P hits most
   excess : most < hits → TooMuch xs to P hits most
 
 -- carrying cuts to all that has P, with n more hits than before

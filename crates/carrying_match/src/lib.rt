@@ -2,8 +2,7 @@
 use cut_set::Added;
 use cut_set::CutSet;
 ghost use Prim.Native.Nat.{_+_, _^_, _≤_, _<_};
-ghost use lib.Seq.{slice};
-ghost use Rattle.cut_set.specs.Store.{Found, FoundRun};
+ghost use Rattle.cut_set.specs.Store.{Found, FoundRun, foundIn};
 ghost use Rattle.carrying_match.specs.OneMatch.{Ready, ImageBy, hitsOn, Carrying};
 
 // The hits so far and the set that images went to, or that there are too many for any table lent. The hits stand first:
@@ -32,15 +31,15 @@ pub fn carry_match(
     requires { ⌜ hits ≤ most ⌝ }
     ensures { λ r. ⌜
         Carrying (ImageBy left other length reversed (Found (now (work .entry)) from))
-        (hitsOn left length (slice (from .done) (from .used) (now (work .entry)))) (now (work .entry)) to hits most
+        (hitsOn left length (foundIn (now (work .entry)) from)) (now (work .entry)) to hits most
         (now (work .exit)) r ⌝ }
 {
-    let used = from.used;
+    let end = reading_cuts::found_end(from);
     let mut set = to;
     let mut count = hits;
     let mut at = cut_set::first_found(work, from, left);
-    while at < used {
-        let cut = work[at];
+    while at < end {
+        let cut = reading_cuts::found_at(work, from, at);
         if !refinement::spans(left, length, cut) {
             break;
         }

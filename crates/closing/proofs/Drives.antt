@@ -4,22 +4,22 @@
 --     stepped-driving, stepped-less    a step keeps the one and lowers the other
 -- Assumes nothing.
 use Prim.Native.Nat.{ℕ, suc, _<_}
-use mathlib.Core.Path.{_≡_}
-use mathlib.Core.Bool.{Bool}
 use mathlib.Core.List.{List}
 use native.Mathlib.Omega.{arith}
 use Rattle.refinement.specs.declared.Side.the-variants.{A, B}
-use Rattle.refining.specs.Columns.{matchesOf}
+use Rattle.cut_set.specs.Store.{NothingFound}
+use Rattle.refining.specs.Columns.{Columns}
+use Rattle.refining.specs.Refining.{heldIn}
 use Rattle.stepping.specs.Engine.{Open, unused, Stepped}
 use Rattle.refining.specs.Demands.{EveryExceeds}
 use Rattle.stepping.specs.declared.Cuts.{Cuts}
 use Rattle.stepping.specs.declared.Closing.{Closing}
 
-abbrev pub Driving : List ℕ → List ℕ → List ℕ → List Bool → ℕ → List ℕ → Closing → Type 0
-Driving a b d r cap ys (Closing.Done c) = Open a b d r cap ys c A × (c .a .done ≡ c .a .used)
-Driving a b d r cap ys (Closing.MoreA c) = Open a b d r cap ys c A
-Driving a b d r cap ys (Closing.MoreB c) = Open a b d r cap ys c B
-Driving a b d r cap ys Closing.TooMany = EveryExceeds (matchesOf a b d r) cap
+abbrev pub Driving : Columns → ℕ → List ℕ → Closing → Type 0
+Driving columns cap ys (Closing.Done c) = Open columns cap ys c A × NothingFound (c .a)
+Driving columns cap ys (Closing.MoreA c) = Open columns cap ys c A
+Driving columns cap ys (Closing.MoreB c) = Open columns cap ys c B
+Driving columns cap ys Closing.TooMany = EveryExceeds (heldIn columns) cap
 
 abbrev pub pending : Closing → ℕ
 pending (Closing.Done c) = 0
@@ -27,14 +27,14 @@ pending (Closing.MoreA c) = suc (unused c)
 pending (Closing.MoreB c) = suc (unused c)
 pending Closing.TooMany = 0
 
-module _ (a b d : List ℕ) (r : List Bool) (cap : ℕ) (c : Cuts) (ys : List ℕ) where
-  pub stepped-driving : (answer : Closing) → Stepped a b d r cap c ys answer → Driving a b d r cap ys answer
+module _ (columns : Columns) (cap : ℕ) (c : Cuts) (ys : List ℕ) where
+  pub stepped-driving : (answer : Closing) → Stepped columns cap c ys answer → Driving columns cap ys answer
   stepped-driving (Closing.Done c′) h = h
   stepped-driving (Closing.MoreA c′) h = h .0
   stepped-driving (Closing.MoreB c′) h = h .0
   stepped-driving Closing.TooMany h = h
 
-  pub stepped-less : (answer : Closing) → Stepped a b d r cap c ys answer → pending answer < suc (unused c)
+  pub stepped-less : (answer : Closing) → Stepped columns cap c ys answer → pending answer < suc (unused c)
   stepped-less (Closing.Done c′) h = omega arith
   stepped-less (Closing.MoreA c′) h = omega (arith, h .1)
   stepped-less (Closing.MoreB c′) h = omega (arith, h .1)

@@ -5,10 +5,9 @@
 --     seeded-open          with all ends added to A and none to B, all holds that holds between two steps
 --     seeded-exceeds       no room for all ends: every resolved refinement exceeds the capacity
 -- Assumes nothing.
-use Prim.Native.Nat.{ℕ, _+_, _-_, _*_, _≤_, _<_}
+use Prim.Native.Nat.{ℕ, _+_, _*_, _≤_, _<_}
 use mathlib.Core.Path.{_≡_, refl, sym, ap, subst, _∙_}
 use mathlib.Core.Logic.{_⊎_, inl, inr, ⊎-elim}
-use mathlib.Core.Bool.{Bool}
 use mathlib.Core.List.{List, [], List·Memᴰ·not-nil}
 use native.Mathlib.Omega.{arith}
 use native.Mathlib.Decide.{ℕ-discrete}
@@ -17,15 +16,16 @@ use Rattle.refinement.specs.declared.Side.{Side}
 use Rattle.refinement.specs.declared.Side.the-variants.{A, B}
 use Rattle.refinement.specs.Order.{_∈_}
 use Rattle.refinement.specs.Match.{Match, left, right}
-use Rattle.refinement.specs.Cut.{left-end, right-end, Cut, end}
+use Rattle.refinement.specs.Cut.{left-end, right-end, end}
 use Rattle.runs.specs.Runs.{In, Run}
-use Rattle.cut_set.specs.Store.{Good, Member, Stored, Crowded, Emptied, AddedTo, Adding}
+use Rattle.cut_set.specs.Store.{Good, Member, placesOf, Stored, Crowded, Emptied, AddedTo, Adding}
 use Rattle.cut_set.specs.declared.CutSet.{CutSet}
 use Rattle.cut_set.specs.declared.Added.{Added}
 use Rattle.cut_set.proofs.Laws.{stored-none, stored-same, stored-then}
-use Rattle.refining.specs.Columns.{Fit, matchesOf}
+use Rattle.refining.specs.Columns.{Columns, seenFrom, countOf, Fit, matchesOf}
+use Rattle.refining.specs.Refining.{heldIn}
 use Rattle.carrying_match.specs.OneMatch.{Overflow}
-use Rattle.stepping.specs.Engine.{at, setOn, leftsOn, hitsAt, Counted, Open}
+use Rattle.stepping.specs.Engine.{CutOn, setOn, hitsAt, Counted, Open}
 use Rattle.closing.specs.AllCuts.{EndAt, EndOf, Seeding}
 use Rattle.refining.specs.Demands.{EveryExceeds}
 use Rattle.stepping.specs.declared.Cuts.{Cuts}
@@ -47,7 +47,7 @@ two-added xs s zs x n g h Added.Full k =
 
 pub one-full :
     {xs : List ℕ} {s : CutSet} {x : ℕ} (n : ℕ) → Good xs s → Crowded (λ y. y ≡ x) xs s
-    → Overflow (λ y. Member xs s y ⊎ EndAt x n y) (s .limit - s .base)
+    → Overflow (λ y. Member xs s y ⊎ EndAt x n y) (placesOf s)
 one-full n g c = overflow-from refl (λ y. ⊎-elim inl (λ e. inr (inl e))) (crowded-overflow g c)
 
 pub record Sown (a d xs : List ℕ) (s : CutSet) (k : ℕ) (ys : List ℕ) (t : CutSet) : Type 0 where
@@ -86,8 +86,8 @@ module _ {a d xs ys : List ℕ} {s t : CutSet} {k : ℕ} (w : Sown a d xs s k ys
       part y p (no f) = inl (record { index = p .index; below = omega (arith, p .below, f); is = p .is })
 
   pub sown-full :
-      Good xs s → Overflow (λ y. Member ys t y ⊎ EndAt (getD a k 0) (getD d k 0) y) (t .limit - t .base)
-      → Overflow (λ y. Member xs s y ⊎ EndOf a d (length d) y) (s .limit - s .base)
+      Good xs s → Overflow (λ y. Member ys t y ⊎ EndAt (getD a k 0) (getD d k 0) y) (placesOf t)
+      → Overflow (λ y. Member xs s y ⊎ EndOf a d (length d) y) (placesOf s)
   sown-full g o =
       overflow-from (omega (arith, w .stored .base-same, w .stored .limit-same))
       (λ y. ⊎-elim
@@ -134,30 +134,32 @@ empty-good {xs} {ys} {s} g e n =
 abbrev pub seeded : CutSet → CutSet → Cuts
 seeded t e = record { a = t; b = e; «hits_a» = 0; «hits_b» = 0 }
 
-module _ (a b d : List ℕ) (r : List Bool) where
-  end-cut : {y : ℕ} → EndOf a d (length d) y → Cut (matchesOf a b d r) [] (at A y)
+module _ (columns : Columns) where
+  end-cut : {y : ℕ} → EndOf (columns .from-lefts) (columns .lengths) (countOf columns) y → CutOn (heldIn columns) A y
   end-cut {y} p =
-      let i = ∈-matches a b d r (p .below) in
+      let i = ∈-matches columns (p .below) in
       ⊎-elim
-      (λ e. subst (λ (z : ℕ). Cut (matchesOf a b d r) [] (at A z)) (sym e) (end i (left-end A)))
-      (λ e. subst (λ (z : ℕ). Cut (matchesOf a b d r) [] (at A z)) (sym e) (end i (right-end A)))
+      (λ e. subst (CutOn (heldIn columns) A) (sym e) (end i (left-end A)))
+      (λ e. subst (CutOn (heldIn columns) A) (sym e) (end i (right-end A)))
       (p .is)
 
   pub seeded-exceeds :
-      {cap : ℕ} {xs : List ℕ} {s : CutSet} → Fit a b d r → Emptied xs 0 (2 * cap) s
-      → Overflow (λ y. Member xs s y ⊎ EndOf a d (length d) y) (s .limit - s .base)
-      → EveryExceeds (matchesOf a b d r) cap
+      {cap : ℕ} {xs : List ℕ} {s : CutSet} → Fit columns → Emptied xs 0 (2 * cap) s
+      → Overflow (λ y. Member xs s y ⊎ EndOf (columns .from-lefts) (columns .lengths) (countOf columns) y) (placesOf s)
+      → EveryExceeds (heldIn columns) cap
   seeded-exceeds fit z o =
-      overflow-exceeds a b d r fit A (omega (arith, z .base-is, z .limit-is)) o
+      overflow-exceeds columns fit A (omega (arith, z .base-is, z .limit-is)) o
       (λ y. ⊎-elim (λ p. absurd (none-in (omega (arith, z .base-is, z .used-is)) p)) end-cut)
 
   module _ (cap : ℕ) {xs ys : List ℕ} {s t e : CutSet} (z : Emptied xs 0 (2 * cap) s)
-      (q : Emptied xs (2 * cap) (4 * cap) e) (h : Stored (EndOf a d (length d)) xs s ys t) (n : length ys ≡ length xs)
+      (q : Emptied xs (2 * cap) (4 * cap) e)
+      (h : Stored (EndOf (columns .from-lefts) (columns .lengths) (countOf columns)) xs s ys t)
+      (n : length ys ≡ length xs)
     where
       no-b : {x : ℕ} → Member ys e x → ⊥
       no-b p = none-in (omega (arith, q .base-is, q .used-is)) p
 
-      sound : (u : Side) (x : ℕ) → Member ys (setOn u (seeded t e)) x → Cut (matchesOf a b d r) [] (at u x)
+      sound : (u : Side) (x : ℕ) → Member ys (setOn u (seeded t e)) x → CutOn (heldIn columns) u x
       sound A x p =
           ⊎-elim (λ m. absurd (none-in (omega (arith, z .base-is, z .used-is)) m)) end-cut
           (members-come (z .good) (h .good) (h .finished) (h .only) p)
@@ -167,28 +169,28 @@ module _ (a b d : List ℕ) (r : List Bool) where
       none-finished A x p = none-in (omega (arith, h .base-same, h .done-same, z .base-is, z .done-is)) p
       none-finished B x p = none-in (omega (arith, q .base-is, q .done-is)) p
 
-      counted : (u : Side) → Counted (leftsOn u a b) d ys (setOn u (seeded t e)) (hitsAt u (seeded t e))
+      counted : (u : Side) → Counted (seenFrom u columns) ys (setOn u (seeded t e)) (hitsAt u (seeded t e))
       counted u = record {
         carried = [];
         once = tt;
         finished = λ x. (λ i. absurd (List·Memᴰ·not-nil i), λ p. absurd (none-finished u x p));
-        hits-are = no-hits u ∙ sym (hits-none (leftsOn u a b) d (length d));
+        hits-are = no-hits u ∙ sym (hits-none (seenFrom u columns) (countOf columns));
       }
         where
           no-hits : (u : Side) → hitsAt u (seeded t e) ≡ 0
           no-hits A = refl
           no-hits B = refl
 
-      ended : (m : Match) → m ∈ matchesOf a b d r → Member ys t (left m A) × Member ys t (right m A)
+      ended : (m : Match) → m ∈ matchesOf columns → Member ys t (left m A) × Member ys t (right m A)
       ended m i =
-          let v = matches-∈ a b d r i in (
+          let v = matches-∈ columns i in (
             h .held (left m A)
                 (record { index = v .0; below = v .1; is = inl (ap (λ (w : Match). left w A) (sym (v .2))) }),
             h .held (right m A)
                 (record { index = v .0; below = v .1; is = inr (ap (λ (w : Match). right w A) (sym (v .2))) }),
           )
 
-      pub seeded-open : Open a b d r cap ys (seeded t e) A
+      pub seeded-open : Open columns cap ys (seeded t e) A
       seeded-open = record {
         good = λ u. elim u [ A ↦ h .good | B ↦ empty-good (q .good) (q .used-is ∙ sym (q .base-is)) n ];
         a-base = h .base-same ∙ z .base-is;

@@ -4,8 +4,7 @@
 use Prim.Native.Nat.{ℕ}
 use mathlib.Core.Path.{_≡_, refl, sym, ap, subst, _∙_}
 use mathlib.Core.Logic.{_↔_, _⊎_, inl, inr, ⊎-elim, Iff·trans}
-use mathlib.Core.Bool.{Bool}
-use mathlib.Core.List.{List, [], List·Memᴰ·not-nil}
+use mathlib.Core.List.{List, List·Memᴰ·not-nil}
 use native.Mathlib.Omega.{arith}
 use Rattle.refinement.specs.declared.Side.{Side}
 use Rattle.refinement.specs.declared.Side.the-variants.{A, B}
@@ -14,9 +13,10 @@ use Rattle.refinement.specs.Match.{Match, other, left, right, Place, carry}
 use Rattle.refinement.specs.Cut.{left-end, right-end, Cut, end, mark, carried}
 use Rattle.refinement.proofs.Geometry.{end-spanned, carry-meets, carry-spans, carry-back, meets-end}
 use Rattle.runs.specs.Runs.{In}
-use Rattle.cut_set.specs.Store.{Member, Finished}
-use Rattle.refining.specs.Columns.{Fit, matchesOf}
-use Rattle.stepping.specs.Engine.{at, setOn, Open}
+use Rattle.cut_set.specs.Store.{Member, Finished, NothingFound}
+use Rattle.refining.specs.Columns.{Columns, Fit, matchesOf}
+use Rattle.refining.specs.Refining.{heldIn}
+use Rattle.stepping.specs.Engine.{at, CutOn, setOn, Open}
 use Rattle.closing.specs.AllCuts.{AllCuts}
 use Rattle.stepping.specs.declared.Cuts.{Cuts}
 use Rattle.stepping.proofs.Indexed.{placed}
@@ -30,13 +30,13 @@ same-place P A B x y e p = absurd (omega (arith, ap (λ (q : Place). q .track) e
 same-place P B A x y e p = absurd (omega (arith, ap (λ (q : Place). q .track) e))
 same-place P B B x y e p = subst (P B) (ap (λ (q : Place). q .position) e) p
 
-module _ {a b d : List ℕ} {r : List Bool} {cap : ℕ} {ys : List ℕ} {c : Cuts} (o : Open a b d r cap ys c A)
-    (e : c .a .done ≡ c .a .used) where
+module _ {columns : Columns} {cap : ℕ} {ys : List ℕ} {c : Cuts} (o : Open columns cap ys c A)
+    (e : NothingFound (c .a)) where
   settled-on : (u : Side) {x : ℕ} → Member ys (setOn u c) x → Finished ys (setOn u c) x
   settled-on A {x} p = subst (λ (n : ℕ). In ys (c .a .base) n x) (sym e) p
   settled-on B {x} p = subst (λ (n : ℕ). In ys (c .b .base) n x) (sym (o .settled)) p
 
-  end-of-b : {m : Match} → m ∈ matchesOf a b d r → (h : ℕ) → (h ≡ left m B) ⊎ (h ≡ right m B) → Member ys (c .b) h
+  end-of-b : {m : Match} → m ∈ matchesOf columns → (h : ℕ) → (h ≡ left m B) ⊎ (h ≡ right m B) → Member ys (c .b) h
   end-of-b {m} i h w =
       let t = end-spanned m B h w in
       let there = meets-end m B h (carry m B h) (carry-meets m B h t) w in
@@ -46,35 +46,37 @@ module _ {a b d : List ℕ} {r : List Bool} {cap : ℕ} {ys : List ℕ} {c : Cut
       (o .closed A m i (carry m B h) (carry-spans m B h t) (settled-on A p))
 
   end-on :
-      (u : Side) {m : Match} → m ∈ matchesOf a b d r
+      (u : Side) {m : Match} → m ∈ matchesOf columns
       → Member ys (setOn u c) (left m u) × Member ys (setOn u c) (right m u)
   end-on A {m} i = o .ended m i
   end-on B {m} i = (end-of-b i (left m B) (inl refl), end-of-b i (right m B) (inr refl))
 
-  complete : {p : Place} → Cut (matchesOf a b d r) [] p → (u : Side) (x : ℕ) → p ≡ at u x → Member ys (setOn u c) x
+  complete :
+      {p : Place} → Cut (matchesOf columns) (heldIn columns .marks) p → (u : Side) (x : ℕ) → p ≡ at u x
+      → Member ys (setOn u c) x
   complete (end {m = m} i (left-end s)) u x q =
-      same-place (λ u x. Member ys (setOn u c) x) s u (left m s) x (sym (placed a b d r i s (left m s)) ∙ q)
+      same-place (λ u x. Member ys (setOn u c) x) s u (left m s) x (sym (placed columns i s (left m s)) ∙ q)
       (end-on s i .0)
   complete (end {m = m} i (right-end s)) u x q =
-      same-place (λ u x. Member ys (setOn u c) x) s u (right m s) x (sym (placed a b d r i s (right m s)) ∙ q)
+      same-place (λ u x. Member ys (setOn u c) x) s u (right m s) x (sym (placed columns i s (right m s)) ∙ q)
       (end-on s i .1)
   complete (mark i k t) u x q = absurd (List·Memᴰ·not-nil k)
   complete (carried {m = m} {s = s} {h = h} i t k) u x q =
       same-place (λ u x. Member ys (setOn u c) x) (other s) u (carry m s h) x
-      (sym (placed a b d r i (other s) (carry m s h)) ∙ q)
-      (o .closed s m i h t (settled-on s (complete k s h (placed a b d r i s h))))
+      (sym (placed columns i (other s) (carry m s h)) ∙ q)
+      (o .closed s m i h t (settled-on s (complete k s h (placed columns i s h))))
 
-  cuts-are : (x : ℕ) → Member ys (c .a) x ↔ Cut (matchesOf a b d r) [] (at A x)
+  cuts-are : (x : ℕ) → Member ys (c .a) x ↔ CutOn (heldIn columns) A x
   cuts-are x = (o .sound A x, λ k. complete k A x refl)
 
-  pub all-cuts : Fit a b d r → AllCuts (matchesOf a b d r) cap ys (c .a)
+  pub all-cuts : Fit columns → AllCuts (heldIn columns) cap ys (c .a)
   all-cuts fit =
       let k = o .counted A in record {
         good = o .good A;
         cuts = cuts-are;
         fits =
             let whole =
-            hits-whole a b d r fit A (k .carried) (k .once) (λ x.
+            hits-whole columns fit A (k .carried) (k .once) (λ x.
             Iff·trans (k .finished x) (Iff·trans (finished-member (o .good A), settled-on A) (cuts-are x)))
             in
             omega (arith, whole, k .hits-are, o .few A);

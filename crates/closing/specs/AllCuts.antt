@@ -2,21 +2,19 @@
 --     EndOf, Seeding      the A ends of the matches, and what adding them does, by its answer
 --     AllCuts, Closure    what the whole closure does, by its answer
 -- Assumes nothing.
-use Prim.Native.Nat.{ℕ, _+_, _-_, _≤_, _<_}
+use Prim.Native.Nat.{ℕ, _+_, _≤_, _<_}
 use mathlib.Core.Path.{_≡_}
 use mathlib.Core.Logic.{_↔_, _⊎_}
-use mathlib.Core.List.{List, []}
+use mathlib.Core.List.{List}
 use lib.ListN.{length, getD}
 use Rattle.refinement.specs.declared.Side.the-variants.{A}
-use Rattle.refinement.specs.Match.{Match}
-use Rattle.refinement.specs.Cut.{Cut}
-use Rattle.refinement.specs.Least.{leastTable}
-use Rattle.cut_set.specs.Store.{Good, Member, Stored}
+use Rattle.cut_set.specs.Store.{Good, Member, placesOf, Stored}
 use Rattle.cut_set.specs.declared.CutSet.{CutSet}
 use Rattle.cut_set.specs.declared.Added.{Added}
+use Rattle.refining.specs.Refining.{Given, leastOf}
 use Rattle.refining.specs.Demands.{EveryExceeds}
 use Rattle.carrying_match.specs.OneMatch.{Overflow}
-use Rattle.stepping.specs.Engine.{at}
+use Rattle.stepping.specs.Engine.{CutOn}
 use Rattle.closing.specs.declared.Closed.{Closed}
 
 -- y is the left or the right end of a match with left end i and length n
@@ -32,14 +30,14 @@ pub record EndOf (a d : List ℕ) (n y : ℕ) : Type 0 where
 -- adding all numbers with P to the set s
 abbrev pub Seeding : (ℕ → Type 0) → List ℕ → CutSet → List ℕ → Added → Type 0
 Seeding P xs s ys (Added.Held t) = Stored P xs s ys t
-Seeding P xs s ys Added.Full = Overflow (λ y. Member xs s y ⊎ P y) (s .limit - s .base)
+Seeding P xs s ys Added.Full = Overflow (λ y. Member xs s y ⊎ P y) (placesOf s)
 
 -- the set holds exactly the cuts of A, and the least table has room
-pub record AllCuts (ms : List Match) (cap : ℕ) (ys : List ℕ) (s : CutSet) : Type 0 where
+pub record AllCuts (g : Given) (cap : ℕ) (ys : List ℕ) (s : CutSet) : Type 0 where
   pub good : Good ys s
-  pub cuts : (x : ℕ) → Member ys s x ↔ Cut ms [] (at A x)
-  pub fits : length (leastTable ms []) ≤ cap
+  pub cuts : (x : ℕ) → Member ys s x ↔ CutOn g A x
+  pub fits : length (leastOf g) ≤ cap
 
-abbrev pub Closure : List Match → ℕ → List ℕ → Closed → Type 0
-Closure ms cap ys (Closed.CutsOfA s) = AllCuts ms cap ys s
-Closure ms cap ys Closed.TooMany = EveryExceeds ms cap
+abbrev pub Closure : Given → ℕ → List ℕ → Closed → Type 0
+Closure g cap ys (Closed.CutsOfA s) = AllCuts g cap ys s
+Closure g cap ys Closed.TooMany = EveryExceeds g cap

@@ -9,7 +9,8 @@ ghost use Prim.Native.Nat.{_+_, _*_, _^_, _≤_, _<_};
 ghost use lib.ListN.{length};
 ghost use Rattle.refinement.specs.declared.Side.{Side};
 ghost use Rattle.cut_set.specs.Store.{Good};
-ghost use Rattle.refining.specs.Columns.{Fit, Ends, matchesOf};
+ghost use Rattle.refining.specs.Columns.{columnsOf, Fit, Ends};
+ghost use Rattle.refining.specs.Refining.{heldIn};
 ghost use Rattle.stepping.specs.Engine.{Open};
 ghost use Rattle.closing.specs.AllCuts.{EndAt, EndOf, Seeding, Closure};
 
@@ -63,11 +64,13 @@ fn drive(
     cuts: Cuts,
     capacity: usize,
 ) -> Closed
-    requires { ⌜ Fit (now «left_a») (now «left_b») (now lengths) (now reversed) ⌝ }
-    requires { ⌜ Open (now «left_a») (now «left_b») (now lengths) (now reversed) capacity (now work) cuts Side.A ⌝ }
+    requires { ⌜ Fit (columnsOf (now «left_a») (now «left_b») (now lengths) (now reversed)) ⌝ }
+    requires { ⌜
+        Open (columnsOf (now «left_a») (now «left_b») (now lengths) (now reversed)) capacity (now work) cuts Side.A ⌝ }
     ensures { λ r. ⌜
         Closure
-        (matchesOf (now («left_a» .entry)) (now («left_b» .entry)) (now (lengths .entry)) (now (reversed .entry)))
+        (heldIn
+        (columnsOf (now («left_a» .entry)) (now («left_b» .entry)) (now (lengths .entry)) (now (reversed .entry))))
         capacity (now (work .exit)) r ⌝ }
 {
     let mut closing = Closing::MoreA(cuts);
@@ -98,12 +101,13 @@ pub fn close(
     work: &mut [u32],
     capacity: usize,
 ) -> Closed
-    requires { ⌜ Fit (now «left_a») (now «left_b») (now lengths) (now reversed) ⌝ }
+    requires { ⌜ Fit (columnsOf (now «left_a») (now «left_b») (now lengths) (now reversed)) ⌝ }
     requires { ⌜ 4 * capacity ≤ length (now work) ⌝ }
     requires { ⌜ length (now lengths) ≤ 4294967296 ⌝ }
     ensures { λ r. ⌜
         Closure
-        (matchesOf (now («left_a» .entry)) (now («left_b» .entry)) (now (lengths .entry)) (now (reversed .entry)))
+        (heldIn
+        (columnsOf (now («left_a» .entry)) (now («left_b» .entry)) (now (lengths .entry)) (now (reversed .entry))))
         capacity (now (work .exit)) r ⌝ }
 {
     let a = cut_set::empty(work, 0, 2 * capacity);

@@ -4,9 +4,11 @@ use script::command::LENGTHS_WIDTH;
 use script::command::MATCH_WIDTH;
 use script::command::Match;
 ghost use mathlib.Core.Path.{_≡_};
+ghost use mathlib.Core.Bool.{_||_};
 ghost use Prim.Native.Nat.{_+_, _<_, _≤_};
+ghost use lib.Dec.{eqb};
 ghost use lib.ListN.{length};
-ghost use Rattle.script.specs.Commands.{numberAt, commandOf, lengthsOf, matchOf, endOf};
+ghost use Rattle.script.specs.Commands.{matchWidth, numberAt, commandOf, lengthsOf, fieldsOf, matchOf, endOf};
 
 fn wide(byte: u8) -> u32
     ensures { λ r. ⌜ (r ≡ byte) × (r < 256) ⌝ }
@@ -14,7 +16,8 @@ fn wide(byte: u8) -> u32
     byte as u32
 }
 
-fn number_at(rest: &[u8], at: usize) -> u32
+// The number in the four bytes from an offset on.
+pub fn number_at(rest: &[u8], at: usize) -> u32
     requires { ⌜ at + 4 ≤ length (now rest) ⌝ }
     ensures { λ r. ⌜ r ≡ numberAt (now (rest .entry)) at ⌝ }
 {
@@ -36,18 +39,26 @@ fn read_lengths(rest: &[u8]) -> Command
     }
 }
 
+// The three numbers of a match command, beside the direction that its first byte tells.
+pub fn read_fields(rest: &[u8], reversed: bool) -> Match
+    requires { ⌜ matchWidth ≤ length (now rest) ⌝ }
+    ensures { λ r. ⌜ r ≡ fieldsOf reversed (now (rest .entry)) ⌝ }
+{
+    Match {
+        left_a: number_at(rest, 1),
+        left_b: number_at(rest, 5),
+        length: number_at(rest, 9),
+        reversed,
+    }
+}
+
 fn read_match(rest: &[u8], reversed: bool) -> Command
     ensures { λ r. ⌜ r ≡ matchOf reversed (now (rest .entry)) ⌝ }
 {
     if rest.len() < MATCH_WIDTH {
         return Command::MatchCutShort;
     }
-    Command::Pairing(Match {
-        left_a: number_at(rest, 1),
-        left_b: number_at(rest, 5),
-        length: number_at(rest, 9),
-        reversed,
-    })
+    Command::Pairing(read_fields(rest, reversed))
 }
 
 fn read_end(rest: &[u8]) -> Command
@@ -57,6 +68,20 @@ fn read_end(rest: &[u8]) -> Command
         return Command::EndThenMore;
     }
     Command::End
+}
+
+// Whether the byte begins a match, of either direction: one answer for both, since scripts mix them in no order.
+fn is_match(code: u8) -> bool
+    ensures { λ r. ⌜ r ≡ eqb code 0x44 || eqb code 0x52 ⌝ }
+{
+    code == 0x44 || code == 0x52
+}
+
+// Whether a match that begins with this byte is a reversed one.
+pub fn is_reversed(code: u8) -> bool
+    ensures { λ r. ⌜ r ≡ eqb code 0x52 ⌝ }
+{
+    code == 0x52
 }
 
 // The command at the start of a remainder.
@@ -70,11 +95,8 @@ pub fn read_command(rest: &[u8]) -> Command
     if code == 0x4C {
         return read_lengths(rest);
     }
-    if code == 0x44 {
-        return read_match(rest, false);
-    }
-    if code == 0x52 {
-        return read_match(rest, true);
+    if is_match(code) {
+        return read_match(rest, is_reversed(code));
     }
     if code == 0x45 {
         return read_end(rest);

@@ -1,33 +1,36 @@
 -- What the calls on a set do, from what they do to its runs.
---     withEnds            the same part and the same places, parted into other runs
+--     withEnds, grown     the same part and the same places, parted into other runs; one place more
 --     outside-same        what is outside a part is outside the same part
 --     merged-kept, kept-then      merging some runs keeps the set; keeping it twice
 --     good-gathered       the short run of newly found members is merged into the long one
 --     gathered-alone      one of the two is empty
---     settled, settled-short, settled-apart, settled-long     newly found members become finished
+--     settled, settled-short, settled-apart, settled-long, settled-twice      newly found members become finished
+--     gathered-finished   they were gathered before
 --     found-mergeable, finished-mergeable, short-mergeable, long-mergeable    two runs of the set can be merged
---     joined              all members become one run
+--     joined, finished-joined     all members become one run
 --     put-added           a number is put into the short run of newly found members
---     gathered-added      it is added after the runs were gathered
+--     gathered-added, merged-added    it is added after the runs were gathered, or merged
 --     member-answers      whether a number is a member, where the other runs do not hold it
 --     added-again         it was a member
+--     searched-again, searched-crowded, searched-growing      it was one, there is no room for it, it can be added
 -- Assumes nothing.
 use Prim.Native.Nat.{ℕ, _+_, _≤_, _<_}
 use native.Mathlib.Omega.{arith}
 use mathlib.Core.Path.{_≡_, refl, sym, ap, _∙_}
 use mathlib.Core.List.{List}
 use mathlib.Core.Logic.{_⊎_, inl, inr, ⊎-elim, Iff·rfl, Iff·trans}
-use mathlib.Core.Bool.{Bool}
+use mathlib.Core.Bool.{Bool, true, false}
 use lib.ListN.{length, getD, set, length-set}
-use Rattle.runs.specs.Runs.{In, Run, Rising, Distinct, Same, Bound, Answers}
-use Rattle.merging.specs.Steps.{Put, Mergeable, Merged}
-use Rattle.cut_set.specs.Store.{Good, Member, FoundRun, Kept, Gathered, AllFinished, Joined, AddedTo, Growing}
+use Rattle.runs.specs.Runs.{In, Run, RisingIn, DistinctIn, Same, Bound, Answers}
+use Rattle.merging.specs.Steps.{PutBefore, Mergeable, Merged}
+use Rattle.cut_set.specs.Store.{Good, Member, FoundRun, Kept, Gathered, AllFinished, Joined}
+use Rattle.cut_set.specs.Store.{AddedTo, Crowded, Growing}
 use Rattle.cut_set.specs.declared.CutSet.{CutSet}
 use Rattle.runs.proofs.Membership.{lt-or-le, in-wide, in-parts, in-same, rising-distinct, distinct-part, run-same}
 use Rattle.runs.proofs.Searching.{answers-from, answers-later}
 use Rattle.merging.proofs.Moving.{put-end}
 use Rattle.merging.proofs.Merging.{InGapped, Putting, gapped-closed, put-gapped, put-here, put-kept, put-only}
-use Rattle.merging.proofs.Rearranging.{merged-none, merged-wide, merged-distinct}
+use Rattle.merging.proofs.Rearranging.{merged-none, merged-wide, merged-then, merged-distinct}
 
 abbrev pub withEnds : CutSet → ℕ → ℕ → ℕ → CutSet
 withEnds s long done fresh =
@@ -164,6 +167,22 @@ module _ {xs ys : List ℕ} {s : CutSet} (g : Good xs s) where
     joined e p = let q : Merged xs (s .base) (s .used) ys = rw e at p in
         record { kept = settled-long q .kept; run = q .rising }
 
+-- the finished runs are merged, and then the newly found run into them
+pub settled-twice : {xs ys zs : List ℕ} {s : CutSet} → Good xs s → length ys ≡ length xs →
+    Merged xs (s .base) (s .done) ys → length zs ≡ length ys → Merged ys (s .base) (s .used) zs →
+    AllFinished xs s zs (withEnds s (s .used) (s .used) (s .used))
+settled-twice g n m n′ m′ =
+    settled-long g (n′ ∙ n) (merged-then m (omega (arith, g .found-long .order, g .found-short .order)) m′)
+
+pub gathered-finished : {xs ys zs : List ℕ} {s t u : CutSet} → Gathered xs s ys t → AllFinished ys t zs u →
+    AllFinished xs s zs u
+gathered-finished g f = record { kept = kept-then (g .kept) (f .kept); all = f .all }
+
+pub finished-joined : {xs ys zs : List ℕ} {s t : CutSet} → AllFinished xs s ys t → length zs ≡ length ys →
+    Merged ys (t .base) (t .done) zs → Joined xs s zs (withEnds t (t .used) (t .used) (t .used))
+finished-joined f n m = let one = joined (f .kept .good) n (f .all) m in
+    record { kept = kept-then (f .kept) (one .kept); run = one .run }
+
 pub gathered-alone : {xs : List ℕ} {s : CutSet} → Good xs s → (s .done ≡ s .fresh) ⊎ (s .fresh ≡ s .used) →
     Gathered xs s xs (withEnds s (s .long) (s .done) (s .used))
 gathered-alone g = ⊎-elim
@@ -215,7 +234,7 @@ module _ {xs : List ℕ} {s : CutSet} (g : Good xs s) where
     }
 
 module _ {xs ys : List ℕ} {s : CutSet} {at x : ℕ} (w : Growing xs s at x) (n : length ys ≡ length xs)
-    (p : Put xs at (s .used) 1 x ys) where
+    (p : PutBefore xs at (s .used) 1 x ys) where
   putting : Putting xs (s .fresh) at (s .used) 1 at (s .used + 1) x ys
   putting = record {
     place = refl;
@@ -235,7 +254,7 @@ module _ {xs ys : List ℕ} {s : CutSet} {at x : ℕ} (w : Growing xs s at x) (n
       lows : s .base ≤ s .fresh
       lows = omega (arith, w .good .finished-long .order, w .good .finished-short .order, w .good .found-long .order)
 
-  rising : Rising ys (s .fresh) (s .used + 1)
+  rising : RisingIn ys (s .fresh) (s .used + 1)
   rising = gapped-closed (put-gapped putting)
 
   front : {lo hi : ℕ} → hi ≤ s .fresh → Same xs ys lo hi
@@ -262,7 +281,7 @@ module _ {xs ys : List ℕ} {s : CutSet} {at x : ℕ} (w : Growing xs s at x) (n
       old (inl v) = v
       old (inr v) = absurd (omega (arith, v .from, v .below))
 
-  distinct : Distinct ys (s .base) (s .used + 1)
+  distinct : DistinctIn ys (s .base) (s .used + 1)
   distinct i j il ih jl jh e = go (lt-or-le i (s .fresh)) (lt-or-le j (s .fresh))
     where
       -- a number of the run that has grown and one before it differ
@@ -397,3 +416,19 @@ added-again g m = record {
   again = λ q. refl;
   new-one = λ q. absurd (q m);
 }
+
+-- the other runs were found not to hold x, and the short run of newly found members was searched from x's bound on
+module _ {xs : List ℕ} {s : CutSet} {at x : ℕ} {q r : Bool} (g : Good xs s)
+    (other : Answers (In xs (s .base) (s .fresh) x) q) (none : q ≡ false) (b : Bound xs (s .fresh) (s .used) x at)
+    (rest : Answers (In xs at (s .used) x) r) where
+  answer : Answers (Member xs s x) r
+  answer = member-answers g (other .unless none) b rest
+
+  pub searched-again : r ≡ true → AddedTo xs s x xs s
+  searched-again e = added-again g (answer .when e)
+
+  pub searched-crowded : r ≡ false → s .used ≡ s .limit → Crowded (λ y. y ≡ x) xs s
+  searched-crowded e h = record { full = omega arith; missing = x; wanted = refl; absent = answer .unless e }
+
+  pub searched-growing : r ≡ false → s .used < s .limit → Growing xs s at x
+  searched-growing e free = record { good = g; bound = b; absent = answer .unless e; free = free }

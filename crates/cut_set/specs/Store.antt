@@ -1,16 +1,20 @@
 -- The set: a part of a list, and the numbers that say where its runs end. TO READ: contracts mean what stands here.
 --     Good xs s               s keeps a set in xs
 --     Finished, Found, Member     what is finished, what is newly found, and either
+--     NothingFound, foundIn, foundEnd     nothing is newly found; what is, as a list; the place behind it
+--     FoundRun, AllRun        what is newly found is one run; all members are
+--     placesOf, unusedOf      the number of places, and of unused ones
 --     Emptied, Gathered, AllFinished, Joined      what the calls that only rearrange do
 --     Stored P, Crowded P     all numbers with P are now in the set; there is no room for one of them
 --     Adding                  what adding a number does, by its answer
 -- Assumes nothing.
-use Prim.Native.Nat.{ℕ, _+_, _≤_, _<_}
+use Prim.Native.Nat.{ℕ, _+_, _-_, _≤_, _<_}
 use mathlib.Core.Path.{_≡_}
 use mathlib.Core.List.{List}
 use mathlib.Core.Logic.{_↔_, _⊎_}
 use lib.ListN.{length, getD}
-use Rattle.runs.specs.Runs.{In, Run, Rising, Distinct, Bound}
+use lib.Seq.{slice}
+use Rattle.runs.specs.Runs.{In, Run, RisingIn, DistinctIn, Bound}
 use Rattle.cut_set.specs.declared.CutSet.{CutSet}
 use Rattle.cut_set.specs.declared.Added.{Added}
 use Rattle.cut_set.specs.declared.Added.the-variants.{Held, Full}
@@ -25,7 +29,7 @@ pub record Good (xs : List ℕ) (s : CutSet) : Type 0 where
   pub few-found : s .used ≤ s .fresh + 512
   pub room : s .used ≤ s .limit
   pub within : s .limit ≤ length xs
-  pub distinct : Distinct xs (s .base) (s .used)
+  pub distinct : DistinctIn xs (s .base) (s .used)
 
 -- y is a finished member
 abbrev pub Finished : List ℕ → CutSet → ℕ → Type 0
@@ -39,9 +43,31 @@ Found xs s y = In xs (s .done) (s .used) y
 abbrev pub Member : List ℕ → CutSet → ℕ → Type 0
 Member xs s y = In xs (s .base) (s .used) y
 
+-- no member is newly found
+abbrev pub NothingFound : CutSet → Type 0
+NothingFound s = s .done ≡ s .used
+
+-- the newly found members in the order of their places, and the place behind the last one
+abbrev pub foundIn : List ℕ → CutSet → List ℕ
+foundIn xs s = slice (s .done) (s .used) xs
+
+abbrev pub foundEnd : CutSet → ℕ
+foundEnd s = s .used
+
 -- the newly found members are one rising run, the places [done, used)
 abbrev pub FoundRun : List ℕ → CutSet → Type 0
-FoundRun xs s = Rising xs (s .done) (s .used)
+FoundRun xs s = RisingIn xs (s .done) (s .used)
+
+-- all members are one rising run, the places [base, used)
+abbrev pub AllRun : List ℕ → CutSet → Type 0
+AllRun xs s = RisingIn xs (s .base) (s .used)
+
+-- how many places the set has, and how many of them hold no member
+abbrev pub placesOf : CutSet → ℕ
+placesOf s = s .limit - s .base
+
+abbrev pub unusedOf : CutSet → ℕ
+unusedOf s = s .limit - s .used
 
 -- the numbers outside the set's part are the same in both lists
 abbrev pub Outside : CutSet → List ℕ → List ℕ → Type 0
@@ -80,12 +106,12 @@ pub record Gathered (xs : List ℕ) (s : CutSet) (ys : List ℕ) (t : CutSet) : 
 -- besides, all members are now finished
 pub record AllFinished (xs : List ℕ) (s : CutSet) (ys : List ℕ) (t : CutSet) : Type 0 where
   pub kept : Kept xs s ys t
-  pub all : t .done ≡ t .used
+  pub all : NothingFound t
 
--- besides, all members are now one rising run, the places [base, used)
+-- besides, all members are now one rising run
 pub record Joined (xs : List ℕ) (s : CutSet) (ys : List ℕ) (t : CutSet) : Type 0 where
   pub kept : Kept xs s ys t
-  pub run : Rising ys (t .base) (t .used)
+  pub run : AllRun ys t
 
 -- every number with P is now a member; besides, only numbers with P have come, newly found, and nothing has gone
 pub record Stored (P : ℕ → Type 0) (xs : List ℕ) (s : CutSet) (ys : List ℕ) (t : CutSet) : Type 0 where

@@ -20,7 +20,7 @@ use borrow.Author.Tests.{lt-ltb, le-ltb}
 use lib.Dec.{eqb}
 use lib.ListN.{length, take, drop}
 use Rattle.script.specs.Refusals.{numberOf, placeOf}
-use Rattle.script.specs.Reading.{Reading, admitted, refused, readScript, scriptOf}
+use Rattle.script.specs.Reading.{Reading, admitted, refused, readScript, verdictOf}
 use Rattle.script.specs.Finding.{findingOf}
 use Rattle.script.specs.declared.refusal.Refusal.{Refusal}
 use Rattle.script.specs.declared.Verdict.{Verdict}
@@ -103,10 +103,10 @@ verdictHeard (Verdict.Admitted p q n) = success (record { p = p; q = q; count = 
 verdictHeard (Verdict.Refused r) = refusalHeard r
 
 read-heard : (script : List ℕ) (place : ℕ) (was : Read)
-    → Hears place was (verdictHeard (scriptOf (readScript script) .verdict)) (readDoor script place was)
+    → Hears place was (verdictHeard (verdictOf (readScript script))) (readDoor script place was)
 read-heard script place was = go (readScript script)
   where
-    go : (a : Reading) → Hears place was (verdictHeard (scriptOf a .verdict)) (door (ofReading a) place was)
+    go : (a : Reading) → Hears place was (verdictHeard (verdictOf a)) (door (ofReading a) place was)
     go (admitted p q ms) = success-heard place was _
     go (refused r) = refusal-heard place was r
 

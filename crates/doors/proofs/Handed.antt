@@ -9,11 +9,10 @@ use Prim.Native.Nat.{ℕ}
 use mathlib.Core.Path.{_≡_, sym, _∙_}
 use mathlib.Core.List.{List}
 use Rattle.script.specs.Refusals.{numberOf, placeOf}
-use Rattle.script.specs.Reading.{readScript, scriptOf}
+use Rattle.script.specs.Reading.{readScript, verdictOf}
 use Rattle.script.specs.Finding.{findingOf}
 use Rattle.script.specs.declared.refusal.Refusal.{Refusal}
 use Rattle.script.specs.declared.Finding.{Finding}
-use Rattle.script.specs.declared.Script.{Script}
 use Rattle.script.specs.declared.Verdict.{Verdict}
 use Rattle.script.proofs.Admitted.{holds-admitted, reading-refused}
 use Rattle.refinement.specs.declared.Side.{Side}
@@ -26,13 +25,14 @@ use Rattle.doors.specs.Doors.{ReportReply}
 use Rattle.reporting.specs.Reporting.{reportingOf}
 use Rattle.reporting.specs.declared.Reported.{Reported}
 
-module _ (script : List ℕ) (was-place : ℕ) (was : Read) {r : Script} (reads : r ≡ scriptOf (readScript script)) where
-  pub read-given : {p q count : ℕ} → r .verdict ≡ Verdict.Admitted p q count
+module _ (script : List ℕ) (was-place : ℕ) (was : Read) {told : Verdict}
+    (reads : told ≡ verdictOf (readScript script)) where
+  pub read-given : {p q count : ℕ} → told ≡ Verdict.Admitted p q count
       → _≡_ {A = Reply Read} (record { number = 0; place = was-place; given = record { p = p; q = q; count = count } })
       (readDoor script was-place was)
   read-given v = let held = holds-admitted script reads v in rw (held .read, held .counted)
 
-  pub read-refused : {f : Refusal} {number place : ℕ} → r .verdict ≡ Verdict.Refused f → number ≡ numberOf f
+  pub read-refused : {f : Refusal} {number place : ℕ} → told ≡ Verdict.Refused f → number ≡ numberOf f
       → place ≡ placeOf f
       → _≡_ {A = Reply Read} (record { number = number; place = place; given = was }) (readDoor script was-place was)
   read-refused v n p = rw (reading-refused script reads v, n, p)

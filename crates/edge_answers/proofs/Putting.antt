@@ -5,10 +5,9 @@
 use Prim.Native.Nat.{ℕ}
 use mathlib.Core.Path.{_≡_, sym, ap, _∙_}
 use mathlib.Core.List.{List, _++_}
-use Rattle.script.specs.Reading.{readScript, scriptOf}
+use Rattle.script.specs.Reading.{readScript, verdictOf}
 use Rattle.script.specs.Refusals.{numberOf, placeOf}
 use Rattle.script.specs.declared.refusal.Refusal.{Refusal}
-use Rattle.script.specs.declared.Script.{Script}
 use Rattle.script.specs.declared.Verdict.{Verdict}
 use Rattle.text.specs.Putting.{Put}
 use Rattle.text.proofs.Stores.{put-then, put-same}
@@ -33,10 +32,10 @@ put-answered says {heading = heading} answered told x y =
     put-same (ap (λ a. heading ++ says a) (sym told ∙ answered)) (put-then x y)
 
 pub put-read :
-    (script : List ℕ) {heading t₀ t₁ t₂ : List ℕ} {k₀ k₁ k₂ : ℕ} {r : Script} {told : Verdict}
-    → r ≡ scriptOf (readScript script)
-    → r .verdict ≡ told
+    (script : List ℕ) {heading t₀ t₁ t₂ : List ℕ} {k₀ k₁ k₂ : ℕ} {read told : Verdict}
+    → read ≡ verdictOf (readScript script)
+    → read ≡ told
     → Put heading t₀ k₀ t₁ k₁
     → Put (readText told) t₁ k₁ t₂ k₂
     → Put (readLine heading script) t₀ k₀ t₂ k₂
-put-read script read told x y = put-answered readText (ap (λ (s : Script). s .verdict) read) told x y
+put-read script reads told x y = put-answered readText reads told x y

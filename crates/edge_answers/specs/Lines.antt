@@ -5,7 +5,7 @@
 use Prim.Native.Nat.{ℕ}
 use mathlib.Core.List.{List, [], _∷_, _++_}
 use lib.ListN.{replicate}
-use Rattle.script.specs.Reading.{readScript, scriptOf}
+use Rattle.script.specs.Reading.{readScript, verdictOf}
 use Rattle.script.specs.Refusals.{numberOf, placeOf}
 use Rattle.script.specs.declared.refusal.Refusal.{Refusal}
 use Rattle.script.specs.declared.Verdict.{Verdict}
@@ -63,7 +63,7 @@ carriedText (Carried.Refused r) = refusedText r
 -- ---- lines
 
 abbrev pub readLine : List ℕ → List ℕ → List ℕ
-readLine heading script = heading ++ readText (scriptOf (readScript script) .verdict)
+readLine heading script = heading ++ readText (verdictOf (readScript script))
 
 -- every table here has 40 numbers, which is room for eight rows
 abbrev pub refinedLine : List ℕ → List ℕ → List ℕ → List ℕ

@@ -43,8 +43,7 @@ pub fn put_read(text: &mut [u8], at: usize, heading: &[u8], script: &[u8]) -> us
     ensures { λ r. ⌜ r ≤ at + 71 ⌝ }
 {
     let next = put_bytes(text, at, heading);
-    let read = reader::read(script);
-    let verdict = read.verdict;
+    let verdict = reader::read(script);
     match verdict {
         Verdict::Admitted {
             p: _,

@@ -1,71 +1,35 @@
--- What the reader's loop keeps: the commands passed are good, and the columns hold their matches.
+-- What the reader's loop keeps: the commands passed are good, and as many matches as are counted.
 --     rest-drop           a part of a slice from an offset to the end is the remainder
---     Columns             the columns hold these matches, and blanks behind them
---     columns-taken       one more match, stored at the count
 --     next-reach          the match that a step takes leads one good command further
 --     opens-script, refuses-script     what the two calls on the first command bring
---     Progress            both together, between two commands
---     step-refused, step-finished, progress-taken     what the loop's two calls bring
+--     Progress            what holds between two commands
+--     step-refused, step-finished, step-taken     what the loop's two calls bring
 -- Assumes nothing.
-use Prim.Native.Nat.{ℕ, suc, _+_, _-_, _<_}
+use Prim.Native.Nat.{ℕ, _+_, _-_}
 use mathlib.Core.Path.{_≡_, refl, sym, ap, subst, _∙_}
-use mathlib.Core.Bool.{Bool, false}
-use mathlib.Core.List.{List, [], _∷_, _++_, map, map-append}
+use mathlib.Core.List.{List, [], _∷_, _++_}
 use native.Mathlib.Omega.{arith}
 use native.Mathlib.Decide.{decLe}
 use native.Mathlib.Nat.{lt-of-not-le}
-use lib.ListN.{length, take, drop, set, replicate, length-drop, length-append, length-map}
-use lib.Seq.{take-all, set-at, append-snoc}
+use lib.ListN.{length, take, drop, length-drop, length-append}
+use lib.Seq.{take-all}
 use Rattle.script.specs.Limits.{mostMatches}
 use Rattle.script.specs.Commands.{lengthsWidth, matchWidth, numberAt, commandOf}
 use Rattle.script.specs.Steps.{openingOf, stepOf}
-use Rattle.script.specs.Reading.{refused, column, readScript, scriptOf}
+use Rattle.script.specs.Reading.{refused, readScript, verdictOf}
 use Rattle.script.specs.Outcomes.{MatchAt, LengthsAt, Reach, opened, taken}
 use Rattle.script.specs.declared.refusal.Refusal.{Refusal}
 use Rattle.script.specs.declared.command.Match.{Match}
 use Rattle.script.specs.declared.command.Command.{Command}
 use Rattle.script.specs.declared.step.Opening.{Opening}
 use Rattle.script.specs.declared.step.Step.{Step}
-use Rattle.script.specs.declared.Script.{Script}
 use Rattle.script.specs.declared.Verdict.{Verdict}
 use Rattle.script.proofs.Seen.{Seen, seen}
-use Rattle.script.proofs.Outcome.{reach-place, reach-ends, opening-at}
+use Rattle.script.proofs.Outcome.{reach-ends, opening-at}
 use Rattle.script.proofs.Judged.{Judged, judged, short-room, short-full, Opens, opens}
 
 pub rest-drop : (s : List ℕ) (at : ℕ) → take (length s - at) (drop at s) ≡ drop at s
 rest-drop s at = take-all (length s - at) (drop at s) (omega (arith, length-drop at s))
-
--- ---- the columns
-
-column-taken : {X : Type 0} (blank : X) (field : Match → X) (ms : List Match) (m : Match) → length ms < mostMatches
-    → set (column blank field ms) (length ms) (field m) ≡ column blank field (ms ++ m ∷ [])
-column-taken blank field ms m room =
-    let left : ℕ = mostMatches - length (ms ++ m ∷ []) in
-    let one-less : mostMatches - length ms ≡ suc left = omega (arith, length-append ms (m ∷ [])) in
-    rw (one-less, map-append)
-    (set-at (map field ms) blank (replicate left blank) (field m) (length ms) (length-map ms field)
-    ∙ sym (append-snoc (map field ms) (field m) (replicate left blank)))
-
-pub record Columns (ms : List Match) (count : ℕ) (left-a left-b letters : List ℕ) (reversed : List Bool) : Type 0 where
-  pub counted : length ms ≡ count
-  pub left-a-held : left-a ≡ column 0 (λ m. m .«left_a») ms
-  pub left-b-held : left-b ≡ column 0 (λ m. m .«left_b») ms
-  pub letters-held : letters ≡ column 0 (λ m. m .length) ms
-  pub reversed-held : reversed ≡ column false (λ m. m .reversed) ms
-
-pub columns-taken : {ms : List Match} {count : ℕ} {left-a left-b letters : List ℕ} {reversed : List Bool}
-    → Columns ms count left-a left-b letters reversed → (m : Match) → length ms < mostMatches
-    → Columns (ms ++ m ∷ []) (count + 1)
-    (set left-a count (m .«left_a»)) (set left-b count (m .«left_b»))
-    (set letters count (m .length)) (set reversed count (m .reversed))
-columns-taken {ms} {count} h m room =
-    record {
-      counted = length-append ms (m ∷ []) ∙ ap (λ (n : ℕ). n + 1) (h .counted);
-      left-a-held = rw (h .left-a-held, ← h .counted) (column-taken 0 (λ m. m .«left_a») ms m room);
-      left-b-held = rw (h .left-b-held, ← h .counted) (column-taken 0 (λ m. m .«left_b») ms m room);
-      letters-held = rw (h .letters-held, ← h .counted) (column-taken 0 (λ m. m .length) ms m room);
-      reversed-held = rw (h .reversed-held, ← h .counted) (column-taken false (λ m. m .reversed) ms m room);
-    }
 
 -- ---- the commands passed
 
@@ -140,75 +104,37 @@ module _ (s : List ℕ) {c : Command} {o : Opening} (ec : c ≡ commandOf s) (eo
   pub opens-script : {p q : ℕ} → o ≡ Opening.Open p q → Reach s p q 9 []
   opens-script e = opening-reach (opening-is e)
 
-  pub refuses-script : {f : Refusal} {r : Script} → o ≡ Opening.Refuse f → r ≡ scriptOf (refused f)
-      → r ≡ scriptOf (readScript s)
-  refuses-script e is = is ∙ ap scriptOf (sym (opening-refused s (opening-is e)))
+  pub refuses-script : {f : Refusal} {r : Verdict} → o ≡ Opening.Refuse f → r ≡ Verdict.Refused f
+      → r ≡ verdictOf (readScript s)
+  refuses-script e is = rw (opening-refused s (opening-is e)) is
 
--- ---- both together, between two commands
+-- ---- between two commands
 
-pub record Progress (s : List ℕ) (p q : ℕ) (left-a left-b letters : List ℕ) (reversed : List Bool)
-    (count at : ℕ) : Type 0 where
+pub record Progress (s : List ℕ) (p q count at : ℕ) : Type 0 where
   pub matches : List Match
   pub reach : Reach s p q at matches
-  pub columns : Columns matches count left-a left-b letters reversed
+  pub counted : length matches ≡ count
 
-module _ {s : List ℕ} {p q : ℕ} {left-a left-b letters : List ℕ} {reversed : List Bool} {count at : ℕ}
-    (h : Progress s p q left-a left-b letters reversed count at) where
-  -- the loop's two calls compute the step at the offset
-  pub comes : {c : Command} {t t′ : Step} → c ≡ commandOf (take (length s - at) (drop at s))
-      → t ≡ stepOf p q count at c → t ≡ t′
-      → stepOf p q (length (h .matches)) at (commandOf (drop at s)) ≡ t′
-  comes ec et e = rw (h .columns .counted, ← rest-drop s at, ← ec) (sym et ∙ e)
-
-  pub progress-refused : {r : Refusal} → stepOf p q (length (h .matches)) at (commandOf (drop at s)) ≡ Step.Refuse r
-      → readScript s ≡ refused r
-  progress-refused e = reach-ends (h .reach) (seen s at) e
-
-  pub progress-finished : stepOf p q (length (h .matches)) at (commandOf (drop at s)) ≡ Step.Finish
-      → record {
-        verdict = Verdict.Admitted p q count;
-        «left_a» = left-a;
-        «left_b» = left-b;
-        length = letters;
-        reversed = reversed;
-      }
-      ≡ scriptOf (readScript s)
-  progress-finished e =
-      let held = h .columns in
-      rw (
-        reach-ends (h .reach) (seen s at) e,
-        ← held .counted,
-        held .left-a-held,
-        held .left-b-held,
-        held .letters-held,
-        held .reversed-held,
-      )
-
-  pub progress-taken : {m : Match} → stepOf p q (length (h .matches)) at (commandOf (drop at s)) ≡ Step.Take m
-      → Progress s p q (set left-a count (m .«left_a»)) (set left-b count (m .«left_b»))
-      (set letters count (m .length)) (set reversed count (m .reversed)) (count + 1) (at + matchWidth)
-  progress-taken {m} e =
-      record {
-        matches = h .matches ++ m ∷ [];
-        reach = next-reach (h .reach) e;
-        columns = columns-taken (h .columns) m
-            (omega (arith, reach-place (next-reach (h .reach) e) .1, length-append (h .matches) (m ∷ [])));
-      }
-
-  -- the same from what the loop's two calls ensure
+module _ {s : List ℕ} {p q count at : ℕ} (h : Progress s p q count at) where
+  -- from what the loop's two calls ensure
   module _ {c : Command} {t : Step} (ec : c ≡ commandOf (take (length s - at) (drop at s)))
       (et : t ≡ stepOf p q count at c) where
-    pub step-refused : {f : Refusal} {r : Script} → t ≡ Step.Refuse f → r ≡ scriptOf (refused f)
-        → r ≡ scriptOf (readScript s)
-    step-refused e is = is ∙ ap scriptOf (sym (progress-refused (comes ec et e)))
+    -- they compute the step at the offset
+    comes : {t′ : Step} → t ≡ t′ → stepOf p q (length (h .matches)) at (commandOf (drop at s)) ≡ t′
+    comes e = rw (h .counted, ← rest-drop s at, ← ec) (sym et ∙ e)
 
-    pub step-finished : t ≡ Step.Finish
-        → record {
-          verdict = Verdict.Admitted p q count;
-          «left_a» = left-a;
-          «left_b» = left-b;
-          length = letters;
-          reversed = reversed;
+    pub step-refused : {f : Refusal} {r : Verdict} → t ≡ Step.Refuse f → r ≡ Verdict.Refused f
+        → r ≡ verdictOf (readScript s)
+    step-refused e is = rw (reach-ends (h .reach) (seen s at) (comes e)) is
+
+    pub step-finished : {r : Verdict} → t ≡ Step.Finish → r ≡ Verdict.Admitted p q count
+        → r ≡ verdictOf (readScript s)
+    step-finished e is = rw (reach-ends (h .reach) (seen s at) (comes e), h .counted) is
+
+    pub step-taken : {m : Match} → t ≡ Step.Take m → Progress s p q (count + 1) (at + matchWidth)
+    step-taken {m} e =
+        record {
+          matches = h .matches ++ m ∷ [];
+          reach = next-reach (h .reach) (comes e);
+          counted = length-append (h .matches) (m ∷ []) ∙ ap (λ (n : ℕ). n + 1) (h .counted);
         }
-        ≡ scriptOf (readScript s)
-    step-finished e = progress-finished (comes ec et e)

@@ -1,10 +1,11 @@
 -- From what the inner functions ensure to what the refining call ensures.
 --     told-good, crowded-tabled
 --                        what the closure's answer tells: a good set of cuts, or that no table has room
---     left-a-reaches, left-b-reaches, length-reaches, reversed-reaches, prefix-length, columns-few, columns-fit
+--     reaches, prefix-length, columns-few, columns-fit
 --                        the columns of an admitted script hold as many numbers as there are matches, and they fit
 --     refining-met, read-refused, read-refined
 --                        the contract, by one equation, which holds of a refused script and of an admitted one
+--     few-roomy, many-roomy     columns with room for the matches of a short script, and of any
 --     cuts-writable      a set that holds all cuts of A, joined into one run, is what writing the rows needs
 --     rows-tabled        the rows written are the least table
 --     cleared-refined    the rows written and the work buffer cleared are the call's outcome
@@ -13,12 +14,13 @@ use Prim.Native.Nat.{ℕ, _+_, _≤_, _<_}
 use mathlib.Core.Path.{_≡_, refl, sym, ap, subst, _∙_}
 use mathlib.Core.Logic.{_↔_}
 use mathlib.Core.Bool.{Bool}
-use mathlib.Core.List.{List, [], map}
+use mathlib.Core.List.{List, map}
 use native.Mathlib.Omega.{arith}
-use lib.ListN.{length, getD, take, replicate, length-take, length-map}
+use lib.ListN.{length, take, replicate, length-take, length-map}
 use lib.Seq.{slice, sets}
-use Rattle.script.specs.Reading.{readScript, scriptOf}
-use Rattle.script.specs.declared.Script.{Script}
+use Rattle.script.specs.Limits.{mostMatches}
+use Rattle.script.specs.Reading.{readScript, verdictOf}
+use Rattle.script.specs.Columns.{matchesRead, columnRead, ColumnsRead}
 use Rattle.script.specs.declared.Verdict.{Verdict}
 use Rattle.script.specs.declared.refusal.Refusal.{Refusal}
 use Rattle.script.specs.declared.refusal.Refusal.the-variants.{TooManyPieces}
@@ -26,24 +28,27 @@ use Rattle.script.specs.declared.command.Match.{Match as ScriptMatch}
 use Rattle.refinement.specs.declared.Side.{Side}
 use Rattle.refinement.specs.Order.{_∈_}
 use Rattle.refinement.specs.Match.{Match}
-use Rattle.refinement.specs.Cut.{Cut, end, left-end, right-end}
+use Rattle.refinement.specs.Cut.{end, left-end, right-end}
 use Rattle.refinement.specs.Refinement.{Matches}
-use Rattle.refinement.specs.Least.{leastTable}
+use Rattle.runs.specs.Runs.{In}
 use Rattle.cut_set.specs.Store.{Good, Joined}
 use Rattle.cut_set.specs.declared.CutSet.{CutSet}
-use Rattle.refining.specs.Columns.{Fit, matchesOf}
-use Rattle.stepping.specs.Engine.{at}
+use Rattle.reading_cuts.specs.Reading.{AllPlaces}
+use Rattle.reading_cuts.specs.declared.Places.{Places}
+use Rattle.refining.specs.Columns.{Columns, columnsOf, countOf, fromAt, lettersAt, Fit}
+use Rattle.stepping.specs.Engine.{CutOn}
 use Rattle.closing.specs.AllCuts.{AllCuts, Closure}
 use Rattle.refining.specs.Rows.{piecesCut, pieceNumbers}
-use Rattle.refining.specs.Refining.{capacityOf, workNeeded, zeroed, Refining, refiningOf}
+use Rattle.refining.specs.Refining.{Given, heldIn, leastOf, capacityOf, workNeeded, zeroed, refiningOf}
 use Rattle.refining.specs.Demands.{answerOf, Demand1, Demand2, Demand3}
 use Rattle.writing_rows.specs.Writing.{Writable, Written}
-use Rattle.refine.specs.Calls.{Tabled, MatchesRefined}
+use Rattle.refine.specs.Calls.{Tabled, MatchesRefined, ScriptRefined, Roomy, shortScript}
 use Rattle.closing.specs.declared.Closed.{Closed}
 use Rattle.refining.specs.declared.answers.Refined.{Refined}
 use Rattle.stepping.proofs.Indexed.{∈-matches, matches-good}
 use Rattle.carrying_match.proofs.RunLists.{slice-in, in-slice, slice-rising}
-use Rattle.script.proofs.Admitted.{Holds, holds-admitted, reading-refused}
+use Rattle.script.proofs.Admitted.{Holds, holds-admitted, reading-refused, matches-few}
+use Rattle.script.proofs.Columns.{column-filled}
 use Rattle.refining.proofs.Numbered.{held-admitted, held-fit}
 use Rattle.refining.proofs.Demands.{refining-contract}
 use Rattle.refine.proofs.RowsLeast.{rows-least}
@@ -52,102 +57,108 @@ use Rattle.refining.proofs.RefiningCases.{refining-refused, refining-admitted}
 
 -- what the closure's answer tells
 told-cuts :
-    {ms : List Match} {cap : ℕ} {ys : List ℕ} {answer : Closed} {s : CutSet} → Closure ms cap ys answer
-    → answer ≡ Closed.CutsOfA s → AllCuts ms cap ys s
-told-cuts {ms} {cap} {ys} h e = subst (Closure ms cap ys) e h
+    {g : Given} {cap : ℕ} {ys : List ℕ} {answer : Closed} {s : CutSet} → Closure g cap ys answer
+    → answer ≡ Closed.CutsOfA s → AllCuts g cap ys s
+told-cuts {g} {cap} {ys} h e = subst (Closure g cap ys) e h
 
 pub told-good :
-    (ms : List Match) (cap : ℕ) (ys : List ℕ) {answer : Closed} {s : CutSet} → answer ≡ Closed.CutsOfA s
-    → Closure ms cap ys answer → Good ys s
-told-good ms cap ys e h = told-cuts h e .good
+    (g : Given) (cap : ℕ) (ys : List ℕ) {answer : Closed} {s : CutSet} → answer ≡ Closed.CutsOfA s
+    → Closure g cap ys answer → Good ys s
+told-good g cap ys e h = told-cuts h e .good
 
 pub crowded-tabled :
-    (ms : List Match) (table ys : List ℕ) {answer : Closed} → answer ≡ Closed.TooMany
-    → Closure ms (capacityOf table) ys answer → Tabled ms table table (Refined.Refused TooManyPieces)
-crowded-tabled ms table ys e h = (refl, subst (Closure ms (capacityOf table) ys) e h, refl)
-
--- the first numbers of a column, of one that reaches that far
-pub prefix-length : {X : Type 0} (column : List X) {count : ℕ} → count ≤ length column
-    → count ≡ length (take count column)
-prefix-length column {count} reaches = omega (arith, length-take count column)
-
--- a column whose first numbers are the fields of the matches reaches that far
-column-reaches :
-    {X : Type 0} (column : List X) (field : ScriptMatch → X) (ms : List ScriptMatch) {count : ℕ}
-    → take count column ≡ map field ms → length ms ≡ count → count ≤ length column
-column-reaches column field ms {count} e n =
-    omega (arith, length-take count column, ap length e ∙ length-map ms field ∙ n)
+    (g : Given) (table ys : List ℕ) {answer : Closed} → answer ≡ Closed.TooMany
+    → Closure g (capacityOf table) ys answer → Tabled g table table (Refined.Refused TooManyPieces)
+crowded-tabled g table ys e h = (refl, subst (Closure g (capacityOf table) ys) e h, refl)
 
 -- the columns of an admitted script, by the reader's stated result
-module _ (script : List ℕ) {r : Script} {p q count : ℕ} (e : r ≡ scriptOf (readScript script))
-    (v : r .verdict ≡ Verdict.Admitted p q count) where
-  held : Holds script r p q count
+module _ (script : List ℕ) {told : Verdict} {p q count : ℕ} (e : told ≡ verdictOf (readScript script))
+    (v : told ≡ Verdict.Admitted p q count) where
+  held : Holds script p q count
   held = holds-admitted script e v
 
-  pub left-a-reaches : count ≤ length (r .«left_a»)
-  left-a-reaches = column-reaches (r .«left_a») (λ m. m .«left_a») (held .matches) (held .left-a) (held .counted)
+  -- a column with room for the matches begins with their fields
+  module _ {X : Type 0} (field : ScriptMatch → X) (before : List X) {after : List X}
+      (is : after ≡ columnRead script field before)
+      (room : length (matchesRead (readScript script)) ≤ length before) where
+    begins : take count after ≡ map field (held .matches)
+    begins =
+        ap (λ (n : ℕ). take n after) (sym (held .counted)) ∙ ap (take (length (held .matches))) is
+        ∙ column-filled script field before (held .read) (rw (held .read) at room)
 
-  pub left-b-reaches : count ≤ length (r .«left_b»)
-  left-b-reaches = column-reaches (r .«left_b») (λ m. m .«left_b») (held .matches) (held .left-b) (held .counted)
+    pub reaches : count ≤ length after
+    reaches = omega (arith, length-take count after, ap length begins ∙ length-map (held .matches) field, held .counted)
 
-  pub length-reaches : count ≤ length (r .length)
-  length-reaches = column-reaches (r .length) (λ m. m .length) (held .matches) (held .letters) (held .counted)
+    pub prefix-length : count ≡ length (take count after)
+    prefix-length = omega (arith, reaches, length-take count after)
 
-  pub reversed-reaches : count ≤ length (r .reversed)
-  reversed-reaches = column-reaches (r .reversed) (λ m. m .reversed) (held .matches) (held .reversed) (held .counted)
+  module _ {a b d a′ b′ d′ : List ℕ} {r r′ : List Bool} (roomy : Roomy script a b d r)
+      (columns : ColumnsRead script a b d r a′ b′ d′ r′) where
+    left-a-begins : take count a′ ≡ map (λ m. m .«left_a») (held .matches)
+    left-a-begins = begins (λ m. m .«left_a») a (columns .left-a) (roomy .left-a)
 
-  pub columns-few : length (take count (r .length)) < 4294967296
-  columns-few = omega (arith, prefix-length (r .length) length-reaches, held .few)
+    left-b-begins : take count b′ ≡ map (λ m. m .«left_b») (held .matches)
+    left-b-begins = begins (λ m. m .«left_b») b (columns .left-b) (roomy .left-b)
 
-  pub columns-fit :
-      Fit (take count (r .«left_a»)) (take count (r .«left_b»)) (take count (r .length)) (take count (r .reversed))
-  columns-fit = held-fit held
+    letters-begin : take count d′ ≡ map (λ m. m .length) (held .matches)
+    letters-begin = begins (λ m. m .length) d (columns .letters) (roomy .letters)
 
-module _ {a b d : List ℕ} {r : List Bool} (fit : Fit a b d r) (table : List ℕ) {xs ys : List ℕ} {s t : CutSet}
-    {answer : Closed} (told : answer ≡ Closed.CutsOfA s) (joined : Joined xs s ys t)
-    (closed : Closure (matchesOf a b d r) (capacityOf table) xs answer) where
-  cuts : AllCuts (matchesOf a b d r) (capacityOf table) xs s
+    reversed-begins : take count r′ ≡ map (λ m. m .reversed) (held .matches)
+    reversed-begins = begins (λ m. m .reversed) r (columns .reversed) (roomy .reversed)
+
+    pub columns-few : length (take count d′) < 4294967296
+    columns-few =
+        let counted = ap length letters-begin ∙ length-map (held .matches) (λ m. m .length) in
+        omega (arith, counted, held .counted, held .few)
+
+    pub columns-fit : Fit (columnsOf (take count a′) (take count b′) (take count d′) (take count r′))
+    columns-fit = held-fit held left-a-begins left-b-begins letters-begin reversed-begins
+
+    pub read-refined : (table work : List ℕ) {reply : Refined} {table′ work′ : List ℕ}
+        → MatchesRefined (heldIn (columnsOf (take count a′) (take count b′) (take count d′) (take count r′))) table work
+        reply table′ work′
+        → ScriptRefined script table work reply table′ work′
+    read-refined table work refined =
+        refined
+        ∙ sym (refining-admitted script table work
+        (held-admitted held left-a-begins left-b-begins letters-begin reversed-begins))
+
+module _ {columns : Columns} (fit : Fit columns) (table : List ℕ) {xs ys : List ℕ} {s t : CutSet} {run : Places}
+    {answer : Closed} (told : answer ≡ Closed.CutsOfA s) (joined : Joined xs s ys t) (places : AllPlaces ys t run)
+    (closed : Closure (heldIn columns) (capacityOf table) xs answer) where
+  cuts : AllCuts (heldIn columns) (capacityOf table) xs s
   cuts = told-cuts closed told
 
-  ordered : t .base ≤ t .used
-  ordered =
-      let good = joined .kept .good in
-      omega (
-        arith,
-        good .finished-long .order,
-        good .finished-short .order,
-        good .found-long .order,
-        good .found-short .order,
-      )
-
-  inside : t .used ≤ length ys
-  inside = let good = joined .kept .good in omega (arith, good .room, good .within)
+  -- a cut of A stands in the run
+  cut-in : (x : ℕ) → CutOn (heldIn columns) Side.A x → In ys (run .start) (run .end) x
+  cut-in x c = places .all x .1 (joined .kept .members x .1 (cuts .cuts x .1 c))
 
   -- the numbers of the run are the cuts of A
-  run-cuts : (x : ℕ) → (x ∈ slice (t .base) (t .used) ys) ↔ Cut (matchesOf a b d r) [] (at Side.A x)
-  run-cuts x = (
-    λ i. cuts .cuts x .0 (joined .kept .members x .0 (slice-in ys inside ordered i)),
-    λ c. in-slice ys inside ordered (joined .kept .members x .1 (cuts .cuts x .1 c)),
-  )
+  run-cuts : (x : ℕ) → (x ∈ slice (run .start) (run .end) ys) ↔ CutOn (heldIn columns) Side.A x
+  run-cuts x =
+      let inside = places .run .within in
+      let ordered = places .run .order in (
+        λ i. cuts .cuts x .0 (joined .kept .members x .0 (places .all x .0 (slice-in ys inside ordered i))),
+        λ c. in-slice ys inside ordered (cut-in x c),
+      )
 
-  rows-are : piecesCut a b d r (slice (t .base) (t .used) ys) (length d) ≡ leastTable (matchesOf a b d r) []
-  rows-are = rows-least fit (slice-rising ys inside ordered _<_ (λ i j l m n. joined .run i j l m n)) run-cuts
+  rows-are : piecesCut columns (slice (run .start) (run .end) ys) (countOf columns) ≡ leastOf (heldIn columns)
+  rows-are = let rises = slice-rising ys (places .run .within) (places .run .order) _<_ (places .run .rising) in
+      rows-least fit rises run-cuts
 
-  pub cuts-writable : length d < 4294967296 → Writable a b d r ys (t .base) (t .used) table
+  pub cuts-writable : countOf columns < 4294967296 → Writable columns ys (run .start) (run .end) table
   cuts-writable few =
       record {
-        run = record { order = ordered; within = inside; rising = joined .run };
-        left-in = λ k h. joined .kept .members (getD a k 0) .1
-            (cuts .cuts (getD a k 0) .1 (end (∈-matches a b d r h) (left-end Side.A)));
+        run = places .run;
+        left-in = λ k h. cut-in (fromAt columns k) (end (∈-matches columns h) (left-end Side.A));
         right-in = λ k h.
-            joined .kept .members (getD a k 0 + getD d k 0) .1
-            (cuts .cuts (getD a k 0 + getD d k 0) .1 (end (∈-matches a b d r h) (right-end Side.A)));
+            cut-in (fromAt columns k + lettersAt columns k) (end (∈-matches columns h) (right-end Side.A));
         few = few;
         room = omega (arith, ap length rows-are, cuts .fits);
       }
 
-  pub rows-tabled : {after : List ℕ} {n : ℕ} → Written a b d r (slice (t .base) (t .used) ys) table after n
-      → Tabled (matchesOf a b d r) table after (Refined.Rows n)
+  pub rows-tabled : {after : List ℕ} {n : ℕ} → Written columns (slice (run .start) (run .end) ys) table after n
+      → Tabled (heldIn columns) table after (Refined.Rows n)
   rows-tabled w = (
     w .count ∙ ap length rows-are,
     cuts .fits,
@@ -155,30 +166,30 @@ module _ {a b d : List ℕ} {r : List Bool} (fit : Fit a b d r) (table : List �
   )
 
 tabled-refined :
-    {ms : List Match} → Matches ms → (table table′ work : List ℕ) (r : Refined) → workNeeded table ≤ length work
-    → Tabled ms table table′ r
-    → MatchesRefined ms table work r table′ (zeroed work)
-tabled-refined {ms} M table table′ work (Refined.Rows n) room t =
-    rw (t .0, t .2 ∙ written-sets (leastTable ms []) table (t .1)) (sym (matches-written ms table work room (t .1)))
-tabled-refined {ms} M table table′ work (Refined.Refused f) room t =
-    rw (t .0, t .2) (sym (matches-crowded ms table work room (exceeds-many M (t .1))))
+    (g : Given) → Matches (g .matches) → (table table′ work : List ℕ) (r : Refined) → workNeeded table ≤ length work
+    → Tabled g table table′ r
+    → MatchesRefined g table work r table′ (zeroed work)
+tabled-refined g M table table′ work (Refined.Rows n) room t =
+    rw (t .0, t .2 ∙ written-sets (leastOf g) table (t .1)) (sym (matches-written g table work room (t .1)))
+tabled-refined g M table table′ work (Refined.Refused f) room t =
+    rw (t .0, t .2) (sym (matches-crowded g table work room (exceeds-many M (t .1))))
 
 pub cleared-refined :
-    {a b d : List ℕ} {reversed : List Bool} → Fit a b d reversed → (table table′ work work′ : List ℕ)
+    {columns : Columns} → Fit columns → (table table′ work work′ : List ℕ)
     {ended : List ℕ} {r : Refined}
     → workNeeded table ≤ length work
-    → Tabled (matchesOf a b d reversed) table table′ r
+    → Tabled (heldIn columns) table table′ r
     → length work′ ≡ length work
     → ended ≡ zeroed work′
-    → MatchesRefined (matchesOf a b d reversed) table work r table′ ended
-cleared-refined {a} {b} {d} {reversed} fit table table′ work work′ {r = r} room tabled same cleared =
+    → MatchesRefined (heldIn columns) table work r table′ ended
+cleared-refined {columns} fit table table′ work work′ {r = r} room tabled same cleared =
     rw (cleared ∙ ap (λ (n : ℕ). replicate n 0) same)
-    (tabled-refined (matches-good a b d reversed fit) table table′ work r room tabled)
+    (tabled-refined (heldIn columns) (matches-good columns fit) table table′ work r room tabled)
 
 -- the contract of `refine`, by the one equation of what the call leaves
 pub refining-met :
     {script table work : List ℕ} {reply : Refined} {table′ work′ : List ℕ}
-    → _≡_ {A = Refining} (record { reply = reply; table = table′; work = work′ }) (refiningOf script table work)
+    → ScriptRefined script table work reply table′ work′
     → (reply ≡ refiningOf script table work .reply)
     × ((table′ ≡ refiningOf script table work .table)
     × ((work′ ≡ refiningOf script table work .work)
@@ -188,19 +199,22 @@ pub refining-met :
 refining-met {script} {table} {work} e = refining-contract script table work (sym e)
 
 pub read-refused :
-    (script table work : List ℕ) {r : Script} {f : Refusal} {reply : Refined} → r ≡ scriptOf (readScript script)
-    → r .verdict ≡ Verdict.Refused f
+    (script table work : List ℕ) {told : Verdict} {f : Refusal} {reply : Refined} → told ≡ verdictOf (readScript script)
+    → told ≡ Verdict.Refused f
     → reply ≡ Refined.Refused f
-    → _≡_ {A = Refining} (record { reply = reply; table = table; work = work }) (refiningOf script table work)
+    → ScriptRefined script table work reply table work
 read-refused script table work e v is =
     rw is (sym (refining-refused script table work (reading-refused script e v)))
 
-pub read-refined :
-    (script table work : List ℕ) {r : Script} {p q count : ℕ} {reply : Refined} {table′ work′ : List ℕ}
-    → r ≡ scriptOf (readScript script)
-    → r .verdict ≡ Verdict.Admitted p q count
-    → MatchesRefined (matchesOf (take count (r .«left_a»)) (take count (r .«left_b»)) (take count (r .length))
-    (take count (r .reversed))) table work reply table′ work′
-    → _≡_ {A = Refining} (record { reply = reply; table = table′; work = work′ }) (refiningOf script table work)
-read-refined script table work e v refined =
-    refined ∙ sym (refining-admitted script table work (held-admitted (holds-admitted script e v)))
+-- columns of 64 have room for the matches of a short script, and columns of 2,048 for those of any
+pub few-roomy : {s a b d : List ℕ} {r : List Bool} → length s ≤ shortScript → length a ≡ 64 → length b ≡ 64
+    → length d ≡ 64 → length r ≡ 64 → Roomy s a b d r
+few-roomy {s} short ea eb ed er =
+    let few : length (matchesRead (readScript s)) ≤ 64 = omega (arith, matches-few s) in
+    record { left-a = omega arith; left-b = omega arith; letters = omega arith; reversed = omega arith }
+
+pub many-roomy : {s a b d : List ℕ} {r : List Bool} → length a ≡ mostMatches → length b ≡ mostMatches
+    → length d ≡ mostMatches → length r ≡ mostMatches → Roomy s a b d r
+many-roomy {s} ea eb ed er =
+    let few : length (matchesRead (readScript s)) ≤ mostMatches = matches-few s .1 in
+    record { left-a = omega arith; left-b = omega arith; letters = omega arith; reversed = omega arith }

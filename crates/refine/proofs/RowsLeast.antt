@@ -7,17 +7,17 @@ use mathlib.Core.Bool.{Bool, true, false, cond, false≢true}
 use mathlib.Core.Logic.{_↔_, ite, if-pos, if-neg}
 use mathlib.Core.List.{List, [], _∷_, _++_, map, flatMap, filter, append-nil, append-assoc}
 use native.Mathlib.Omega.{arith}
-use lib.ListN.{length, getD}
 use Rattle.refinement.specs.declared.Side.the-variants.{A}
 use Rattle.refinement.specs.Order.{_∈_, Rising}
-use Rattle.refinement.specs.Match.{Match, left, spanned}
-use Rattle.refinement.specs.Cut.{Cut}
+use Rattle.refinement.specs.Match.{Match, left, Place, spanned}
 use Rattle.refinement.specs.Least.{spans?, leastCuts, cutsWithin, piecesBetween, piecesOf, tableFrom, leastTable}
 use Rattle.refinement.proofs.Lists.{∈-filter, ∈-unfilter, rising-filter}
 use Rattle.refinement.proofs.Geometry.{spanned-iff}
 use Rattle.refinement.proofs.Theorem.{cuts-of-match}
-use Rattle.refining.specs.Columns.{Fit, upFrom, matchAt, matchesOf}
+use Rattle.refining.specs.Columns.{Columns, countOf, fromAt, lettersAt, Fit, upFrom, matchAt, matchesOf}
+use Rattle.refining.specs.Refining.{heldIn, leastOf}
 use Rattle.refining.specs.Rows.{within, piecesCut}
+use Rattle.stepping.specs.Engine.{CutOn}
 use Rattle.stepping.proofs.Indexed.{matches-good}
 
 -- The numbers that a match spans, by the test and by the decision.
@@ -32,40 +32,43 @@ within-filter m (x ∷ xs) = step (spanned (left m A) (m .length) x) refl (withi
     step false e {zs} same =
         same ∙ sym (if-neg (spans? m A x) (λ t. false≢true (sym e ∙ spanned-iff m A x .1 t)) (x ∷ zs) zs)
 
-module _ {a b d : List ℕ} {r : List Bool} (fit : Fit a b d r) where
+module _ {columns : Columns} (fit : Fit columns) where
+  abbrev all-cuts : List Place
+  all-cuts = leastCuts (matchesOf columns) (heldIn columns .marks)
+
   module _ {run : List ℕ} (rise : Rising _<_ run)
-      (all : (x : ℕ) → (x ∈ run) ↔ Cut (matchesOf a b d r) [] (record { track = 0; position = x })) where
+      (all : (x : ℕ) → (x ∈ run) ↔ CutOn (heldIn columns) A x) where
     match-cuts :
         (k : ℕ)
-        → within (getD a k 0) (getD d k 0) run ≡ cutsWithin (leastCuts (matchesOf a b d r) []) (matchAt a b d r k) A
+        → within (fromAt columns k) (lettersAt columns k) run ≡ cutsWithin all-cuts (matchAt columns k) A
     match-cuts k =
-        let m = matchAt a b d r k in
+        let m = matchAt columns k in
         within-filter m run
-        ∙ cuts-of-match (matchesOf a b d r) [] (matches-good a b d r fit) m (filter (spans? m A) run)
-        (rising-filter (spans? m A) _<_ run rise) (λ h. (
+        ∙ cuts-of-match (matchesOf columns) (heldIn columns .marks) (matches-good columns fit) m
+        (filter (spans? m A) run) (rising-filter (spans? m A) _<_ run rise) (λ h. (
           λ i. let t = ∈-unfilter (spans? m A) run i in (t .1, all h .0 (t .0)),
           λ t. ∈-filter (spans? m A) (all h .1 (t .1)) (t .0),
         ))
 
     -- the rows of the first k matches, and the least table's of the others
     rows-from :
-        (n k : ℕ) → k + n ≡ length d
-        → piecesCut a b d r run (length d)
-        ≡ piecesCut a b d r run k
-        ++ flatMap (piecesOf (leastCuts (matchesOf a b d r) [])) (map (matchAt a b d r) (upFrom k n))
+        (n k : ℕ) → k + n ≡ countOf columns
+        → piecesCut columns run (countOf columns)
+        ≡ piecesCut columns run k
+        ++ flatMap (piecesOf all-cuts) (map (matchAt columns) (upFrom k n))
     unfolding piecesCut flatMap upFrom piecesOf
     rows-from zero k e =
-        let same : length d ≡ k = omega arith in
-        ap (piecesCut a b d r run) same ∙ sym (append-nil (piecesCut a b d r run k))
+        let same : countOf columns ≡ k = omega arith in
+        ap (piecesCut columns run) same ∙ sym (append-nil (piecesCut columns run k))
     rows-from (suc n) k e =
-        let m = matchAt a b d r k in
-        let rows = piecesCut a b d r run k in
-        let cuts = cutsWithin (leastCuts (matchesOf a b d r) []) m A in
-        let rest = flatMap (piecesOf (leastCuts (matchesOf a b d r) [])) (map (matchAt a b d r) (upFrom (suc k) n)) in
+        let m = matchAt columns k in
+        let rows = piecesCut columns run k in
+        let cuts = cutsWithin all-cuts m A in
+        let rest = flatMap (piecesOf all-cuts) (map (matchAt columns) (upFrom (suc k) n)) in
         rows-from n (suc k) (omega arith)
         ∙ ap (λ xs. rows ++ piecesBetween m xs ++ rest) (match-cuts k)
         ∙ append-assoc rows (piecesBetween m cuts) rest
 
-    pub rows-least : piecesCut a b d r run (length d) ≡ leastTable (matchesOf a b d r) []
+    pub rows-least : piecesCut columns run (countOf columns) ≡ leastOf (heldIn columns)
     unfolding leastTable tableFrom piecesCut matchesOf
-    rows-least = rows-from (length d) 0 (omega arith)
+    rows-least = rows-from (countOf columns) 0 (omega arith)

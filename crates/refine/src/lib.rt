@@ -3,18 +3,28 @@ pub mod carrying;
 
 use closing::Closed;
 use closing::close;
+use reader::columns::read_columns;
 use refining::answers::Refined;
 use rows::ROW_WIDTH;
 use script::Refusal;
 use script::Verdict;
+use script::command::LENGTHS_WIDTH;
+use script::command::MATCH_WIDTH;
+use script::limits::MOST_MATCHES;
 use writing_rows::write_rows;
 ghost use mathlib.Core.Path.{_≡_};
 ghost use Prim.Native.Nat.{_≤_, _<_};
 ghost use lib.ListN.{length};
-ghost use Rattle.refining.specs.Columns.{Fit, matchesOf};
-ghost use Rattle.refining.specs.Refining.{workNeeded, zeroed, refiningOf};
-ghost use Rattle.refine.specs.Calls.{Tabled, MatchesRefined};
+ghost use Rattle.refining.specs.Columns.{columnsOf, Fit};
+ghost use Rattle.refining.specs.Refining.{heldIn, workNeeded, zeroed, refiningOf};
+ghost use Rattle.refine.specs.Calls.{Tabled, MatchesRefined, Roomy, ScriptRefined, shortScript};
 ghost use Rattle.refining.specs.Demands.{answerOf, Demand1, Demand2, Demand3};
+
+// Columns of this length take a script of a few matches; to make longer ones would be most of the work on it.
+const FEW_MATCHES: usize = 64;
+
+// Lengths, that many matches, end.
+const SHORT_SCRIPT: usize = LENGTHS_WIDTH + MATCH_WIDTH * FEW_MATCHES + 1;
 
 // Sets every number of the work buffer to zero, those past what refining needs too.
 fn clear(work: &mut [u32])
@@ -36,12 +46,13 @@ fn cut_and_write(
     table: &mut [u32],
     work: &mut [u32],
 ) -> Refined
-    requires { ⌜ Fit (now «left_a») (now «left_b») (now lengths) (now reversed) ⌝ }
+    requires { ⌜ Fit (columnsOf (now «left_a») (now «left_b») (now lengths) (now reversed)) ⌝ }
     requires { ⌜ workNeeded (now table) ≤ length (now work) ⌝ }
     requires { ⌜ length (now lengths) < 4294967296 ⌝ }
     ensures { λ r. ⌜
         Tabled
-        (matchesOf (now («left_a» .entry)) (now («left_b» .entry)) (now (lengths .entry)) (now (reversed .entry)))
+        (heldIn
+        (columnsOf (now («left_a» .entry)) (now («left_b» .entry)) (now (lengths .entry)) (now (reversed .entry))))
         (now (table .entry)) (now (table .exit)) r ⌝ }
 {
     match close(
@@ -55,14 +66,15 @@ fn cut_and_write(
         Closed::TooMany => Refined::Refused(Refusal::TooManyPieces),
         Closed::CutsOfA(set) => {
             let cuts = cut_set::join(work, set);
+            let run = reading_cuts::all_places(work, cuts);
             Refined::Rows(write_rows(
                 left_a,
                 left_b,
                 lengths,
                 reversed,
                 work,
-                cuts.base,
-                cuts.used,
+                run.start,
+                run.end,
                 table,
             ))
         }
@@ -78,11 +90,12 @@ fn refine_matches(
     table: &mut [u32],
     work: &mut [u32],
 ) -> Refined
-    requires { ⌜ Fit (now «left_a») (now «left_b») (now lengths) (now reversed) ⌝ }
+    requires { ⌜ Fit (columnsOf (now «left_a») (now «left_b») (now lengths) (now reversed)) ⌝ }
     requires { ⌜ length (now lengths) < 4294967296 ⌝ }
     ensures { λ r. ⌜
         MatchesRefined
-        (matchesOf (now («left_a» .entry)) (now («left_b» .entry)) (now (lengths .entry)) (now (reversed .entry)))
+        (heldIn
+        (columnsOf (now («left_a» .entry)) (now («left_b» .entry)) (now (lengths .entry)) (now (reversed .entry))))
         (now (table .entry)) (now (work .entry)) r (now (table .exit)) (now (work .exit)) ⌝ }
 {
     if work.len() < 4 * (table.len() / ROW_WIDTH) {
@@ -91,6 +104,77 @@ fn refine_matches(
     let answer = cut_and_write(left_a, left_b, lengths, reversed, table, work);
     clear(work);
     answer
+}
+
+// Reads the script into columns that have room for its matches, and refines them.
+fn refine_in(
+    script: &[u8],
+    left_a: &mut [u32],
+    left_b: &mut [u32],
+    lengths: &mut [u32],
+    reversed: &mut [bool],
+    table: &mut [u32],
+    work: &mut [u32],
+) -> Refined
+    requires { ⌜ Roomy (now script) (now «left_a») (now «left_b») (now lengths) (now reversed) ⌝ }
+    ensures { λ r. ⌜
+        ScriptRefined (now (script .entry)) (now (table .entry)) (now (work .entry)) r (now (table .exit))
+        (now (work .exit)) ⌝ }
+{
+    match read_columns(script, left_a, left_b, lengths, reversed) {
+        Verdict::Refused(refusal) => Refined::Refused(refusal),
+        Verdict::Admitted { p: _, q: _, count } => refine_matches(
+            &left_a[..count],
+            &left_b[..count],
+            &lengths[..count],
+            &reversed[..count],
+            table,
+            work,
+        ),
+    }
+}
+
+// A script whose bytes have room for few matches: no more columns are made than they can fill.
+fn refine_few(script: &[u8], table: &mut [u32], work: &mut [u32]) -> Refined
+    requires { ⌜ length (now script) ≤ shortScript ⌝ }
+    ensures { λ r. ⌜
+        ScriptRefined (now (script .entry)) (now (table .entry)) (now (work .entry)) r (now (table .exit))
+        (now (work .exit)) ⌝ }
+{
+    let mut left_a = [0; FEW_MATCHES];
+    let mut left_b = [0; FEW_MATCHES];
+    let mut lengths = [0; FEW_MATCHES];
+    let mut reversed = [false; FEW_MATCHES];
+    refine_in(
+        script,
+        &mut left_a[..],
+        &mut left_b[..],
+        &mut lengths[..],
+        &mut reversed[..],
+        table,
+        work,
+    )
+}
+
+// Any script.
+fn refine_many(script: &[u8], table: &mut [u32], work: &mut [u32]) -> Refined
+    ensures { λ r. ⌜
+        ScriptRefined (now (script .entry)) (now (table .entry)) (now (work .entry)) r (now (table .exit))
+        (now (work .exit)) ⌝ }
+{
+    let mut left_a = [0; MOST_MATCHES];
+    let mut left_b = [0; MOST_MATCHES];
+    let mut lengths = [0; MOST_MATCHES];
+    let mut reversed = [false; MOST_MATCHES];
+    refine_in(
+        script,
+        &mut left_a[..],
+        &mut left_b[..],
+        &mut lengths[..],
+        &mut reversed[..],
+        table,
+        work,
+    )
 }
 
 // Makes the piece table of a script. Success gives the count of rows, which stand from the table's start.
@@ -108,23 +192,8 @@ pub fn refine(script: &[u8], table: &mut [u32], work: &mut [u32]) -> Refined
     ensures demand3 { λ r. ⌜
         Demand3 (now (script .entry)) (now (table .entry)) (now (work .entry)) (answerOf r) (now (table .exit)) ⌝ }
 {
-    let read = reader::read(script);
-    let verdict = read.verdict;
-    match verdict {
-        Verdict::Refused(refusal) => Refined::Refused(refusal),
-        Verdict::Admitted { p: _, q: _, count } => {
-            let left_a = read.left_a;
-            let left_b = read.left_b;
-            let lengths = read.length;
-            let reversed = read.reversed;
-            refine_matches(
-                &left_a[..count],
-                &left_b[..count],
-                &lengths[..count],
-                &reversed[..count],
-                table,
-                work,
-            )
-        }
+    if script.len() <= SHORT_SCRIPT {
+        return refine_few(script, table, work);
     }
+    refine_many(script, table, work)
 }

@@ -29,7 +29,7 @@ use Rattle.refinement.specs.Match.{Match, other, onSide, left, right, Spans, sp
 use Rattle.refinement.specs.Least.{spans?}
 use Rattle.refinement.proofs.Geometry.{carry-spans, carry-back, spanned-iff}
 use Rattle.refinement.proofs.Tiling.{number-unique}
-use Rattle.refining.specs.Refining.{withNumber, numbered}
+use Rattle.refining.specs.Refining.{withNumber, numbered, Given}
 use Rattle.refining.specs.Demands.{Admitted, reads}
 use Rattle.refining.specs.Carrying.{carryingOver, carryingOf, carriedAnswer, CarryingOutcome, CarryingDemand}
 use Rattle.refining.specs.declared.answers.Carried.{Carried}
@@ -59,12 +59,12 @@ found n (m ∷ ms) number (suc zero) e =
     some (here (ap (λ (z : ℕ). withNumber z m) first))
 found n (m ∷ ms) number (suc (suc k)) e = found-later (found (suc n) ms number (suc k) (omega arith))
 
-finding : {script : List ℕ} {ms : List Match} → Admitted script ms → (number : ℕ)
-    → Found ms number number (findingOf (readScript script) number)
+finding : {script : List ℕ} {g : Given} → Admitted script g → (number : ℕ)
+    → Found (g .matches) number number (findingOf (readScript script) number)
 finding (reads {ms = xs} o) number = rw (outcome-admitted o) (found 0 xs number number (omega arith))
 
-listed-number : {script : List ℕ} {ms : List Match} {m : Match} → Admitted script ms → m ∈ ms
-    → (m .number ≡ 0) ⊎ (length ms < m .number) → ⊥
+listed-number : {script : List ℕ} {g : Given} {m : Match} → Admitted script g → m ∈ g .matches
+    → (m .number ≡ 0) ⊎ (length (g .matches) < m .number) → ⊥
 listed-number (reads {ms = xs} o) i (inl e) = omega (arith, numbered-range 1 xs i)
 listed-number (reads {ms = xs} o) i (inr h) = omega (arith, numbered-range 1 xs i)
 
@@ -106,22 +106,22 @@ module _ (script : List ℕ) (number : ℕ) (side : Side) (position : ℕ) where
     carrying-to to-is test = carrying-found e ∙ rw (← from-is, ← to-is, test)
 
   -- the match of the theory's list that has the number is the one that is carried over
-  carrying-listed : {ms : List Match} {m : Match} → Admitted script ms → m ∈ ms → m .number ≡ number
+  carrying-listed : {g : Given} {m : Match} → Admitted script g → m ∈ g .matches → m .number ≡ number
       → carryingOf script number side position ≡ carryingOver m side position
-  carrying-listed {ms} {m} a i e = go refl (finding a number)
+  carrying-listed {g} {m} a i e = go refl (finding a number)
     where
-      go : {f : Finding} → findingOf (readScript script) number ≡ f → Found ms number number f
+      go : {f : Finding} → findingOf (readScript script) number ≡ f → Found (g .matches) number number f
           → carryingOf script number side position ≡ carryingOver m side position
       go e′ (some j) =
-          let same = number-unique ms (admitted-matches a .numbered) j i (sym e) in
+          let same = number-unique (g .matches) (admitted-matches a .numbered) j i (sym e) in
           carrying-found e′ ∙ ap (λ (z : Match). carryingOver z side position) same
-      go e′ (none h) = absurd (listed-number a i (subst (λ (z : ℕ). (z ≡ 0) ⊎ (length ms < z)) (sym e) h))
+      go e′ (none h) = absurd (listed-number a i (subst (λ (z : ℕ). (z ≡ 0) ⊎ (length (g .matches) < z)) (sym e) h))
 
-  carrying-unlisted : {ms : List Match} → Admitted script ms → (number ≡ 0) ⊎ (length ms < number)
+  carrying-unlisted : {g : Given} → Admitted script g → (number ≡ 0) ⊎ (length (g .matches) < number)
       → carryingOf script number side position ≡ Refused NoSuchMatch
-  carrying-unlisted {ms} a h = go refl (finding a number)
+  carrying-unlisted {g} a h = go refl (finding a number)
     where
-      go : {f : Finding} → findingOf (readScript script) number ≡ f → Found ms number number f
+      go : {f : Finding} → findingOf (readScript script) number ≡ f → Found (g .matches) number number f
           → carryingOf script number side position ≡ Refused NoSuchMatch
       go e (some j) = absurd (listed-number a j h)
       go e (none h′) = carrying-refused e
@@ -140,7 +140,7 @@ module _ (script : List ℕ) (number : ℕ) (side : Side) (position : ℕ) where
   carrying-stated : CarryingOutcome script number side position (carriedAnswer (carryingOf script number side position))
   carrying-stated = by-reading (readScript script) refl
     where
-      by-span : {ms : List Match} {m : Match} → Admitted script ms → m ∈ ms → m .number ≡ number
+      by-span : {g : Given} {m : Match} → Admitted script g → m ∈ g .matches → m .number ≡ number
           → Dec (Spans m side position)
           → CarryingOutcome script number side position (carriedAnswer (carryingOf script number side position))
       by-span {m = m} a i e (yes t) =
@@ -148,7 +148,7 @@ module _ (script : List ℕ) (number : ℕ) (side : Side) (position : ℕ) where
       by-span {m = m} a i e (no n) =
           rw (carrying-listed a i e, over-off m side position n) (CarryingOutcome.off-the-match a i e n)
 
-      by-found : {ms : List Match} {f : Finding} → Admitted script ms → Found ms number number f
+      by-found : {g : Given} {f : Finding} → Admitted script g → Found (g .matches) number number f
           → CarryingOutcome script number side position (carriedAnswer (carryingOf script number side position))
       by-found a (some {x} i) = by-span a i refl (spans? (withNumber number x) side position)
       by-found a (none h) = rw (carrying-unlisted a h) (CarryingOutcome.no-such-match a h)

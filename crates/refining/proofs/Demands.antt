@@ -7,7 +7,7 @@
 use Prim.Native.Nat.{ℕ, _*_, _≤_}
 use mathlib.Core.Path.{_≡_, refl, sym, ap, _∙_}
 use mathlib.Core.Logic.{_≢_}
-use mathlib.Core.List.{List, []}
+use mathlib.Core.List.{List}
 use native.Mathlib.Omega.{arith}
 use lib.ListN.{length, drop, length-replicate, length-append, length-drop}
 use lib.Seq.{take-at, drop-at}
@@ -17,11 +17,11 @@ use Rattle.script.proofs.Outcome.{outcome-alone, outcome-refused}
 use Rattle.rows.specs.Rows.{rowWidth}
 use Rattle.refinement.specs.Match.{Match}
 use Rattle.refinement.specs.Refinement.{Matches, ResolvedRefinement}
-use Rattle.refinement.specs.Least.{leastTable}
 use Rattle.refinement.proofs.Theorem.{table-resolved, table-in-order, table-least}
-use Rattle.refinement.proofs.Paper.{paper-agrees}
+use Rattle.refinement.proofs.Paper.{paper-holds}
 use Rattle.refining.specs.Rows.{pieceNumbers}
-use Rattle.refining.specs.Refining.{capacityOf, workNeeded, Refining, refiningOfMatches, refiningOf}
+use Rattle.refining.specs.Refining.{Given, leastOf, capacityOf, workNeeded, Refining}
+use Rattle.refining.specs.Refining.{refiningOfMatches, refiningOf}
 use Rattle.refining.specs.Demands.{answerOf, Fits, MatchesOutcome, Leaves, Stand, MatchesDemand1, MatchesDemand2}
 use Rattle.refining.specs.Demands.{MatchesDemand3, Admitted, reads, RefiningOutcome, Demand1, Demand2, Demand3}
 use Rattle.refining.specs.declared.answers.Refined.{Refined}
@@ -50,8 +50,8 @@ script-twelve : {script : List ℕ} {number place : ℕ} → Outcome script (ref
 script-twelve o e = omega (arith, script-number o)
 
 refused-admitted :
-    {script : List ℕ} {number place : ℕ} {ms : List Match} → Outcome script (refusal number place)
-    → Admitted script ms → ⊥
+    {script : List ℕ} {number place : ℕ} {g : Given} → Outcome script (refusal number place)
+    → Admitted script g → ⊥
 refused-admitted o (reads o′) = let z : _≡_ {A = ℕ} 0 1 = cc (outcome-alone o, outcome-alone o′) in omega arith
 
 refusal-value : {n number place : ℕ} → _≡_ {A = Answer ℕ} (refusal number place) (value n) → ⊥
@@ -81,8 +81,8 @@ kept {number = number} other =
       work-length = refl;
     }
 
-case-leaves : {ms : List Match} {table work : List ℕ} {reply : Refined} {table′ work′ : List ℕ}
-    → MatchesCase ms table work reply table′ work′ → Leaves table work (answerOf reply) table′ work′
+case-leaves : {g : Given} {table work : List ℕ} {reply : Refined} {table′ work′ : List ℕ}
+    → MatchesCase g table work reply table′ work′ → Leaves table work (answerOf reply) table′ work′
 case-leaves (short h) = kept (λ e. omega arith)
 case-leaves {work = work} (crowded enough exceeds) =
     record {
@@ -94,48 +94,49 @@ case-leaves {work = work} (crowded enough exceeds) =
       table-length = refl;
       work-length = length-replicate (length work) 0;
     }
-case-leaves {ms} {table} {work} (writing enough room) =
-    let rows = pieceNumbers (leastTable ms []) in
-    let five = length-numbers (leastTable ms []) in
+case-leaves {g} {table} {work} (writing enough room) =
+    let rows = pieceNumbers (leastOf g) in
+    let five = length-numbers (leastOf g) in
     record {
       refused-table = λ _ _ e. absurd (refusal-value (sym e));
       refused-work = λ _ _ e _. absurd (refusal-value (sym e));
       crowded-work = λ _ e. absurd (refusal-value (sym e));
       success-work = λ _ _. refl;
       past-rows = λ n e.
-          let count : length (leastTable ms []) ≡ n = cc in
+          let count : length (leastOf g) ≡ n = cc in
           let here : length rows ≡ rowWidth * n = omega arith in
           drop-at rows (drop (length rows) table) (rowWidth * n) here ∙ ap (λ (k : ℕ). drop k table) here;
       table-length = simp (length-append, length-drop) (omega arith);
       work-length = length-replicate (length work) 0;
     }
 
-module _ {ms : List Match} (M : Matches ms) where
-  resolved : ResolvedRefinement ms [] (leastTable ms [])
-  resolved = table-resolved ms [] M
+module _ {g : Given} (M : Matches (g .matches)) where
+  resolved : ResolvedRefinement (g .matches) (g .marks) (leastOf g)
+  resolved = table-resolved (g .matches) (g .marks) M
 
   module _ {table work : List ℕ} where
     -- any outcome whose condition is met is what `refiningOfMatches` replies
-    outcome-matches : {a : Answer ℕ} → MatchesOutcome ms table work a
-        → a ≡ answerOf (refiningOfMatches ms table work .reply)
-    outcome-matches (MatchesOutcome.work-too-short h) = rw (matches-short ms table work h)
+    outcome-matches : {a : Answer ℕ} → MatchesOutcome g table work a
+        → a ≡ answerOf (refiningOfMatches g table work .reply)
+    outcome-matches (MatchesOutcome.work-too-short h) = rw (matches-short g table work h)
     outcome-matches (MatchesOutcome.too-many-pieces enough exceeds) =
-        rw (matches-crowded ms table work enough (exceeds-many M exceeds))
+        rw (matches-crowded g table work enough (exceeds-many M exceeds))
     outcome-matches (MatchesOutcome.least-rows {rs} enough R L room) =
-        let most = table-least ms [] M .fewest rs R in
-        let least = L .fewest (leastTable ms []) resolved in
-        let same : length rs ≡ length (leastTable ms []) = omega arith in
-        rw (matches-written ms table work enough (omega arith), same)
+        let most = table-least (g .matches) (g .marks) M .fewest rs R in
+        let least = L .fewest (leastOf g) resolved in
+        let same : length rs ≡ length (leastOf g) = omega arith in
+        rw (matches-written g table work enough (omega arith), same)
 
-    case-stated : {reply : Refined} {table′ work′ : List ℕ} → MatchesCase ms table work reply table′ work′
-        → MatchesOutcome ms table work (answerOf reply)
+    case-stated : {reply : Refined} {table′ work′ : List ℕ} → MatchesCase g table work reply table′ work′
+        → MatchesOutcome g table work (answerOf reply)
     case-stated (short h) = MatchesOutcome.work-too-short h
     case-stated (crowded enough exceeds) = MatchesOutcome.too-many-pieces enough exceeds
-    case-stated (writing enough room) = MatchesOutcome.least-rows enough resolved (table-least ms [] M) room
+    case-stated (writing enough room) =
+        MatchesOutcome.least-rows enough resolved (table-least (g .matches) (g .marks) M) room
 
     -- a refusal, where no resolved refinement fits
-    no-value : {number place : ℕ} {table′ : List ℕ} → (workNeeded table ≤ length work → Fits ms (capacityOf table) → ⊥)
-        → MatchesDemand2 ms table work (refusal number place) table′
+    no-value : {number place : ℕ} {table′ : List ℕ} → (workNeeded table ≤ length work → Fits g (capacityOf table) → ⊥)
+        → MatchesDemand2 g table work (refusal number place) table′
     no-value none =
         record {
           gets = λ enough fits. absurd (none enough fits);
@@ -143,54 +144,54 @@ module _ {ms : List Match} (M : Matches ms) where
           pieces = λ _ e. absurd (refusal-value e);
         }
 
-    case-demand2 : {reply : Refined} {table′ work′ : List ℕ} → MatchesCase ms table work reply table′ work′
-        → MatchesDemand2 ms table work (answerOf reply) table′
+    case-demand2 : {reply : Refined} {table′ work′ : List ℕ} → MatchesCase g table work reply table′ work′
+        → MatchesDemand2 g table work (answerOf reply) table′
     case-demand2 (short h) = no-value (λ enough _. omega arith)
     case-demand2 (crowded _ exceeds) = no-value (λ _ fits. fits-exceeds fits exceeds)
     case-demand2 (writing enough _) =
-        let paper = paper-agrees M .0 resolved in
+        let paper = paper-holds M resolved in
         record {
-          gets = λ _ _. (length (leastTable ms []), refl);
+          gets = λ _ _. (length (leastOf g), refl);
           no-less-work = λ _ _. enough;
           pieces = λ n e. record {
-            rows = leastTable ms [];
-            stand = written-stand (leastTable ms []) table n e;
-            in-order = table-in-order ms [] M;
+            rows = leastOf g;
+            stand = written-stand (leastOf g) table n e;
+            in-order = table-in-order (g .matches) (g .marks) M;
             resolved = resolved;
             refines-paper = paper .0;
             resolved-paper = paper .1;
           };
         }
 
-    case-demand3 : {reply : Refined} {table′ work′ : List ℕ} → MatchesCase ms table work reply table′ work′
-        → MatchesDemand3 ms table work (answerOf reply) table′
+    case-demand3 : {reply : Refined} {table′ work′ : List ℕ} → MatchesCase g table work reply table′ work′
+        → MatchesDemand3 g table work (answerOf reply) table′
     case-demand3 (short h) =
         record {
-          some = (leastTable ms [], resolved);
+          some = (leastOf g, resolved);
           refuses = λ enough. absurd (omega arith);
           or-value = λ enough _. absurd (omega arith);
           otherwise = λ _ e. absurd (refusal-value e);
         }
     case-demand3 (crowded _ exceeds) =
         record {
-          some = (leastTable ms [], resolved);
+          some = (leastOf g, resolved);
           refuses = λ _. (λ _. exceeds, λ _. refl);
           or-value = λ _ other. absurd (other refl);
           otherwise = λ _ e. absurd (refusal-value e);
         }
     case-demand3 (writing _ room) =
         record {
-          some = (leastTable ms [], resolved);
+          some = (leastOf g, resolved);
           refuses = λ _. (
             λ e. absurd (refusal-value (sym e)),
             λ exceeds. absurd (omega (arith, exceeds-many M exceeds)),
           );
-          or-value = λ _ _. (length (leastTable ms []), refl);
+          or-value = λ _ _. (length (leastOf g), refl);
           otherwise = λ n e. record {
-            rows = leastTable ms [];
-            stand = written-stand (leastTable ms []) table n e;
+            rows = leastOf g;
+            stand = written-stand (leastOf g) table n e;
             resolved = resolved;
-            least = table-least ms [] M;
+            least = table-least (g .matches) (g .marks) M;
           };
         }
 
@@ -220,10 +221,10 @@ module _ {script table work : List ℕ} where
         of-matches = λ _ a. absurd (refused-admitted o a);
         no-other-script = λ _ e. absurd (refusal-value e);
       }
-  script-demand2 (matched {ms} a c) =
+  script-demand2 (matched {g} a c) =
       record {
         of-matches = λ _ a′. rw (admitted-unique a′ a) (case-demand2 (admitted-matches a) c);
-        no-other-script = λ _ _. (ms, a);
+        no-other-script = λ _ _. (g, a);
       }
 
   script-demand3 : {reply : Refined} {table′ work′ : List ℕ} → Case script table work reply table′ work′
@@ -234,20 +235,20 @@ module _ {script table work : List ℕ} where
 
 -- ---- the laws
 
-module _ {ms : List Match} (M : Matches ms) (table work : List ℕ) {reply : Refined} {table′ : List ℕ}
-    (replied : reply ≡ refiningOfMatches ms table work .reply)
-    (tabled : table′ ≡ refiningOfMatches ms table work .table) where
-  pub matches-demand1 : {work′ : List ℕ} → work′ ≡ refiningOfMatches ms table work .work
-      → MatchesDemand1 ms table work (answerOf reply) table′ work′
+module _ {g : Given} (M : Matches (g .matches)) (table work : List ℕ) {reply : Refined} {table′ : List ℕ}
+    (replied : reply ≡ refiningOfMatches g table work .reply)
+    (tabled : table′ ≡ refiningOfMatches g table work .table) where
+  pub matches-demand1 : {work′ : List ℕ} → work′ ≡ refiningOfMatches g table work .work
+      → MatchesDemand1 g table work (answerOf reply) table′ work′
   matches-demand1 worked =
       let c = matches-case M table work in
       rw (replied, tabled, worked)
       (record { stated = case-stated M c; alone = λ _ o. outcome-matches M o; leaves = case-leaves c })
 
-  pub matches-demand2 : MatchesDemand2 ms table work (answerOf reply) table′
+  pub matches-demand2 : MatchesDemand2 g table work (answerOf reply) table′
   matches-demand2 = rw (replied, tabled) (case-demand2 M (matches-case M table work))
 
-  pub matches-demand3 : MatchesDemand3 ms table work (answerOf reply) table′
+  pub matches-demand3 : MatchesDemand3 g table work (answerOf reply) table′
   matches-demand3 = rw (replied, tabled) (case-demand3 M (matches-case M table work))
 
 module _ (script table work : List ℕ) {reply : Refined} {table′ : List ℕ}

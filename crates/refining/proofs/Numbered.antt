@@ -1,31 +1,30 @@
--- The matches of an admitted script as the theory has them, and as the columns hold them that the reader returns.
+-- The matches of an admitted script as the theory has them, and as columns of their fields hold them.
 --     admitted-of        a script that is read as admitted is Admitted
 --     admitted-unique    its matches are no others
 --     admitted-matches   each has a letter, and their numbers rise
 --     numbered-range     numbers from n on, as many as there are matches
 --     columns-numbered   columns of their fields hold them
 --     columns-fit        and are Fit
---     held-admitted, held-fit     both, of the columns that the reader returns
+--     held-admitted, held-fit     both laws, by what the reader's reply tells of the matches
 -- Assumes nothing.
 use Prim.Native.Nat.{ℕ, zero, suc, _+_, _≤_, _<_}
-use mathlib.Core.Path.{_≡_, refl, sym, ap, ap₂, subst, _∙_}
+use mathlib.Core.Path.{_≡_, refl, sym, ap, ap₂, _∙_}
 use mathlib.Core.Bool.{Bool, false}
 use mathlib.Core.Logic.{⊎-elim}
 use mathlib.Core.List.{List, [], _∷_, map, List·Memᴰ·cases-cons, List·Memᴰ·not-nil}
 use mathlib.Core.List.{List·Memᴰ·head as here, List·Memᴰ·tail as there}
 use native.Mathlib.Omega.{arith}
-use lib.ListN.{length, getD, take, length-map, List·getD-map}
+use lib.ListN.{length, getD, length-map, List·getD-map}
 use Rattle.script.specs.Reading.{admitted, readScript}
 use Rattle.script.specs.Outcomes.{InRange, Within, Outcome}
 use Rattle.script.specs.declared.command.Match.{Match as ScriptMatch}
-use Rattle.script.specs.declared.Script.{Script}
 use Rattle.script.proofs.Outcome.{reach-within, read-outcome, outcome-admitted}
 use Rattle.script.proofs.Admitted.{Holds}
 use Rattle.refinement.specs.Order.{_∈_, Rising}
 use Rattle.refinement.specs.Match.{Match}
 use Rattle.refinement.specs.Refinement.{Matches}
-use Rattle.refining.specs.Columns.{Fit, upFrom, matchAt, matchesOf}
-use Rattle.refining.specs.Refining.{withNumber, numbered}
+use Rattle.refining.specs.Columns.{Columns, columnsOf, countOf, Fit, upFrom, matchAt, matchesOf}
+use Rattle.refining.specs.Refining.{withNumber, numbered, Given, givenBy, heldIn}
 use Rattle.refining.specs.Demands.{Admitted, reads}
 
 -- ---- the theory's list
@@ -53,15 +52,15 @@ numbered-lettered n (x ∷ ms) h i =
 
 module _ {script : List ℕ} where
   pub admitted-of :
-      {p q : ℕ} {ms : List ScriptMatch} → readScript script ≡ admitted p q ms → Admitted script (numbered 1 ms)
+      {p q : ℕ} {ms : List ScriptMatch} → readScript script ≡ admitted p q ms → Admitted script (givenBy ms)
   admitted-of e = reads (read-outcome e)
 
-  pub admitted-unique : {ms ms′ : List Match} → Admitted script ms → Admitted script ms′ → ms ≡ ms′
+  pub admitted-unique : {g g′ : Given} → Admitted script g → Admitted script g′ → g ≡ g′
   admitted-unique (reads {ms = xs} o) (reads {ms = ys} o′) =
       let e : xs ≡ ys = cc (outcome-admitted o, outcome-admitted o′) in
-      ap (numbered 1) e
+      ap givenBy e
 
-  pub admitted-matches : {ms : List Match} → Admitted script ms → Matches ms
+  pub admitted-matches : {g : Given} → Admitted script g → Matches (g .matches)
   admitted-matches (reads {ms = ms} (Outcome.is-admitted r b e)) =
       record {
         lettered = λ m i. numbered-lettered 1 ms (λ x k. reach-within r k .some) i;
@@ -89,9 +88,9 @@ getD-∈ [] k d h = absurd (omega arith)
 getD-∈ (x ∷ xs) zero d h = here refl
 getD-∈ (x ∷ xs) (suc k) d h = there (getD-∈ xs k d (omega arith))
 
-module _ {a b d : List ℕ} {r : List Bool} (ms : List ScriptMatch) (left-a : a ≡ map (λ m. m .«left_a») ms)
-    (left-b : b ≡ map (λ m. m .«left_b») ms) (letters : d ≡ map (λ m. m .length) ms)
-    (reversed : r ≡ map (λ m. m .reversed) ms) where
+module _ {c : Columns} (ms : List ScriptMatch) (left-a : c .from-lefts ≡ map (λ m. m .«left_a») ms)
+    (left-b : c .to-lefts ≡ map (λ m. m .«left_b») ms) (letters : c .lengths ≡ map (λ m. m .length) ms)
+    (reversed : c .ways ≡ map (λ m. m .reversed) ms) where
   field-at : {X : Type 0} (field : ScriptMatch → X) {column : List X} → column ≡ map field ms → (k : ℕ)
       → getD column k (field blank) ≡ field (getD ms k blank)
   field-at field e k = ap (λ l. getD l k (field blank)) e ∙ List·getD-map field ms k blank
@@ -100,11 +99,11 @@ module _ {a b d : List ℕ} {r : List Bool} (ms : List ScriptMatch) (left-a : a 
       {X : Type 0} (field : ScriptMatch → X) {column : List X} → column ≡ map field ms → length column ≡ length ms
   length-of field e = ap length e ∙ length-map ms field
 
-  pub columns-numbered : matchesOf a b d r ≡ numbered 1 ms
+  pub columns-numbered : matchesOf c ≡ numbered 1 ms
   unfolding matchesOf blank
   columns-numbered =
-      ap (λ (n : ℕ). map (matchAt a b d r) (upFrom 0 n)) (length-of (λ m. m .length) letters)
-      ∙ numbered-map (matchAt a b d r) 0 ms (λ k i e below.
+      ap (λ (n : ℕ). map (matchAt c) (upFrom 0 n)) (length-of (λ m. m .length) letters)
+      ∙ numbered-map (matchAt c) 0 ms (λ k i e below.
       let here : i ≡ k = omega arith in
       rw (
         here,
@@ -114,12 +113,12 @@ module _ {a b d : List ℕ} {r : List Bool} (ms : List ScriptMatch) (left-a : a 
         field-at (λ m. m .reversed) reversed k,
       ))
 
-  pub columns-fit : {p q : ℕ} → InRange p → InRange q → ((m : ScriptMatch) → m ∈ ms → Within p q m) → Fit a b d r
+  pub columns-fit : {p q : ℕ} → InRange p → InRange q → ((m : ScriptMatch) → m ∈ ms → Within p q m) → Fit c
   unfolding blank
   columns-fit {p} {q} rp rq within =
       let count = length-of (λ m. m .length) letters in
       let letters-at = field-at (λ m. m .length) letters in
-      let at : (k : ℕ) → k < length d → Within p q (getD ms k blank) =
+      let at : (k : ℕ) → k < countOf c → Within p q (getD ms k blank) =
       λ k below. within (getD ms k blank) (getD-∈ ms k blank (omega (arith, count))) in
       record {
         from-length = length-of (λ m. m .«left_a») left-a ∙ sym count;
@@ -132,17 +131,13 @@ module _ {a b d : List ℕ} {r : List Bool} (ms : List ScriptMatch) (left-a : a 
             omega (arith, at k below .in-b, rq .few, letters-at k, field-at (λ m. m .«left_b») left-b k);
       }
 
-module _ {script : List ℕ} {s : Script} {p q count : ℕ} (held : Holds script s p q count) where
-  pub held-admitted :
-      Admitted script
-      (matchesOf (take count (s .«left_a»)) (take count (s .«left_b»)) (take count (s .length))
-      (take count (s .reversed)))
-  held-admitted =
-      rw (columns-numbered (held .matches) (held .left-a) (held .left-b) (held .letters) (held .reversed))
-      (admitted-of (held .read))
+-- columns of the fields of an admitted script's matches
+module _ {script : List ℕ} {p q count : ℕ} (held : Holds script p q count) {a b d : List ℕ} {r : List Bool}
+    (left-a : a ≡ map (λ m. m .«left_a») (held .matches)) (left-b : b ≡ map (λ m. m .«left_b») (held .matches))
+    (letters : d ≡ map (λ m. m .length) (held .matches)) (reversed : r ≡ map (λ m. m .reversed) (held .matches)) where
+  pub held-admitted : Admitted script (heldIn (columnsOf a b d r))
+  held-admitted = rw (columns-numbered (held .matches) left-a left-b letters reversed) (admitted-of (held .read))
 
-  pub held-fit :
-      Fit (take count (s .«left_a»)) (take count (s .«left_b»)) (take count (s .length)) (take count (s .reversed))
+  pub held-fit : Fit (columnsOf a b d r)
   held-fit =
-      columns-fit (held .matches) (held .left-a) (held .left-b) (held .letters) (held .reversed) (held .p-range)
-      (held .q-range) (λ m i. held .within i)
+      columns-fit (held .matches) left-a left-b letters reversed (held .p-range) (held .q-range) (λ m i. held .within i)

@@ -11,7 +11,7 @@
 use Prim.Native.Nat.{ℕ, _≤_, _<_}
 use mathlib.Core.Path.{_≡_, refl, ap, _∙_}
 use mathlib.Core.Logic.{_⊎_, inl, inr}
-use mathlib.Core.List.{List, [], _++_}
+use mathlib.Core.List.{List, _++_}
 use native.Mathlib.Omega.{arith}
 use native.Mathlib.Nat.{zero-add}
 use native.Mathlib.Decide.{decLt}
@@ -27,10 +27,10 @@ use Rattle.script.specs.declared.refusal.Refusal.the-variants.{WorkTooShort, To
 use Rattle.script.proofs.Outcome.{read-outcome, outcome-admitted}
 use Rattle.refinement.specs.Match.{Match}
 use Rattle.refinement.specs.Refinement.{Matches}
-use Rattle.refinement.specs.Least.{leastTable}
 use Rattle.refinement.proofs.Theorem.{table-resolved, table-least}
 use Rattle.refining.specs.Rows.{pieceNumbers}
-use Rattle.refining.specs.Refining.{capacityOf, workNeeded, zeroed, Refining, refiningOfMatches, refiningOf}
+use Rattle.refining.specs.Refining.{Given, leastOf, capacityOf, workNeeded, zeroed}
+use Rattle.refining.specs.Refining.{Refining, refiningOfMatches, refiningOf}
 use Rattle.refining.specs.Demands.{Admitted, reads, Fits, EveryExceeds}
 use Rattle.refining.specs.declared.answers.Refined.{Refined}
 use Rattle.refining.specs.declared.answers.Refined.the-variants.{Rows, Refused}
@@ -39,18 +39,19 @@ use Rattle.refining.proofs.Numbered.{admitted-of, admitted-matches}
 
 -- ---- room for some resolved refinement, or for none
 
-module _ {ms : List Match} (M : Matches ms) where
-  pub exceeds-many : {capacity : ℕ} → EveryExceeds ms capacity → capacity < length (leastTable ms [])
-  exceeds-many exceeds = exceeds (leastTable ms []) (table-resolved ms [] M)
+module _ {g : Given} (M : Matches (g .matches)) where
+  pub exceeds-many : {capacity : ℕ} → EveryExceeds g capacity → capacity < length (leastOf g)
+  exceeds-many exceeds = exceeds (leastOf g) (table-resolved (g .matches) (g .marks) M)
 
-  pub fits-or-exceeds : (capacity : ℕ) → Fits ms capacity ⊎ EveryExceeds ms capacity
-  fits-or-exceeds capacity = go (decLt capacity (length (leastTable ms [])))
+  pub fits-or-exceeds : (capacity : ℕ) → Fits g capacity ⊎ EveryExceeds g capacity
+  fits-or-exceeds capacity = go (decLt capacity (length (leastOf g)))
     where
-      go : Dec (capacity < length (leastTable ms [])) → Fits ms capacity ⊎ EveryExceeds ms capacity
-      go (yes many) = inr (λ rs R. omega (arith, table-least ms [] M .fewest rs R))
-      go (no few) = inl (record { rows = leastTable ms []; resolved = table-resolved ms [] M; room = omega arith })
+      go : Dec (capacity < length (leastOf g)) → Fits g capacity ⊎ EveryExceeds g capacity
+      go (yes many) = inr (λ rs R. omega (arith, table-least (g .matches) (g .marks) M .fewest rs R))
+      go (no few) =
+          inl (record { rows = leastOf g; resolved = table-resolved (g .matches) (g .marks) M; room = omega arith })
 
-pub fits-exceeds : {ms : List Match} {capacity : ℕ} → Fits ms capacity → EveryExceeds ms capacity → ⊥
+pub fits-exceeds : {g : Given} {capacity : ℕ} → Fits g capacity → EveryExceeds g capacity → ⊥
 fits-exceeds f exceeds = omega (arith, exceeds (f .rows) (f .resolved))
 
 -- ---- matches
@@ -66,62 +67,62 @@ written-sets rs table room =
     sets-eq (pieceNumbers rs) table 0 (omega (arith, length-numbers rs))
     ∙ ap (λ (k : ℕ). pieceNumbers rs ++ drop k table) (zero-add (length (pieceNumbers rs)))
 
-module _ (ms : List Match) (table work : List ℕ) where
+module _ (g : Given) (table work : List ℕ) where
   pub matches-short : length work < workNeeded table
-      → refiningOfMatches ms table work ≡ record { reply = Refused WorkTooShort; table = table; work = work }
+      → refiningOfMatches g table work ≡ record { reply = Refused WorkTooShort; table = table; work = work }
   unfolding refiningOfMatches
   matches-short short = rw (lt-ltb (length work) (workNeeded table) short)
 
-  pub matches-crowded : workNeeded table ≤ length work → capacityOf table < length (leastTable ms [])
-      → refiningOfMatches ms table work ≡ record { reply = Refused TooManyPieces; table = table; work = zeroed work }
+  pub matches-crowded : workNeeded table ≤ length work → capacityOf table < length (leastOf g)
+      → refiningOfMatches g table work ≡ record { reply = Refused TooManyPieces; table = table; work = zeroed work }
   unfolding refiningOfMatches
   matches-crowded enough many =
       rw (
         le-ltb (length work) (workNeeded table) enough,
-        lt-ltb (capacityOf table) (length (leastTable ms [])) many,
+        lt-ltb (capacityOf table) (length (leastOf g)) many,
       )
 
-  pub matches-written : workNeeded table ≤ length work → length (leastTable ms []) ≤ capacityOf table
-      → refiningOfMatches ms table work ≡ record {
-        reply = Rows (length (leastTable ms []));
-        table = written (leastTable ms []) table;
+  pub matches-written : workNeeded table ≤ length work → length (leastOf g) ≤ capacityOf table
+      → refiningOfMatches g table work ≡ record {
+        reply = Rows (length (leastOf g));
+        table = written (leastOf g) table;
         work = zeroed work;
       }
   unfolding refiningOfMatches
   matches-written enough room =
       rw (
         le-ltb (length work) (workNeeded table) enough,
-        le-ltb (capacityOf table) (length (leastTable ms [])) room,
+        le-ltb (capacityOf table) (length (leastOf g)) room,
       )
 
 -- the reply and the buffers after the call, with the case that they are of
-pub data MatchesCase (ms : List Match) (table work : List ℕ) : Refined → List ℕ → List ℕ → Type 0 where
-  short : length work < workNeeded table → MatchesCase ms table work (Refused WorkTooShort) table work
+pub data MatchesCase (g : Given) (table work : List ℕ) : Refined → List ℕ → List ℕ → Type 0 where
+  short : length work < workNeeded table → MatchesCase g table work (Refused WorkTooShort) table work
   crowded :
-      workNeeded table ≤ length work → EveryExceeds ms (capacityOf table)
-      → MatchesCase ms table work (Refused TooManyPieces) table (zeroed work)
+      workNeeded table ≤ length work → EveryExceeds g (capacityOf table)
+      → MatchesCase g table work (Refused TooManyPieces) table (zeroed work)
   writing :
-      workNeeded table ≤ length work → length (leastTable ms []) ≤ capacityOf table
-      → MatchesCase ms table work (Rows (length (leastTable ms []))) (written (leastTable ms []) table) (zeroed work)
+      workNeeded table ≤ length work → length (leastOf g) ≤ capacityOf table
+      → MatchesCase g table work (Rows (length (leastOf g))) (written (leastOf g) table) (zeroed work)
 
-abbrev MatchesCaseOf : List Match → List ℕ → List ℕ → Refining → Type 0
-MatchesCaseOf ms table work x = MatchesCase ms table work (x .reply) (x .table) (x .work)
+abbrev MatchesCaseOf : Given → List ℕ → List ℕ → Refining → Type 0
+MatchesCaseOf g table work x = MatchesCase g table work (x .reply) (x .table) (x .work)
 
-module _ {ms : List Match} (M : Matches ms) (table work : List ℕ) where
-  pub matches-case : MatchesCaseOf ms table work (refiningOfMatches ms table work)
+module _ {g : Given} (M : Matches (g .matches)) (table work : List ℕ) where
+  pub matches-case : MatchesCaseOf g table work (refiningOfMatches g table work)
   matches-case = by-work (decLt (length work) (workNeeded table))
     where
-      by-room : workNeeded table ≤ length work → Fits ms (capacityOf table) ⊎ EveryExceeds ms (capacityOf table)
-          → MatchesCaseOf ms table work (refiningOfMatches ms table work)
+      by-room : workNeeded table ≤ length work → Fits g (capacityOf table) ⊎ EveryExceeds g (capacityOf table)
+          → MatchesCaseOf g table work (refiningOfMatches g table work)
       by-room enough (inl f) =
-          let fewest = table-least ms [] M .fewest (f .rows) (f .resolved) in
-          let room : length (leastTable ms []) ≤ capacityOf table = omega (arith, f .room) in
-          rw (matches-written ms table work enough room) (writing enough room)
+          let fewest = table-least (g .matches) (g .marks) M .fewest (f .rows) (f .resolved) in
+          let room : length (leastOf g) ≤ capacityOf table = omega (arith, f .room) in
+          rw (matches-written g table work enough room) (writing enough room)
       by-room enough (inr exceeds) =
-          rw (matches-crowded ms table work enough (exceeds-many M exceeds)) (crowded enough exceeds)
+          rw (matches-crowded g table work enough (exceeds-many M exceeds)) (crowded enough exceeds)
 
-      by-work : Dec (length work < workNeeded table) → MatchesCaseOf ms table work (refiningOfMatches ms table work)
-      by-work (yes h) = rw (matches-short ms table work h) (short h)
+      by-work : Dec (length work < workNeeded table) → MatchesCaseOf g table work (refiningOfMatches g table work)
+      by-work (yes h) = rw (matches-short g table work h) (short h)
       by-work (no h) = by-room (omega arith) (fits-or-exceeds M (capacityOf table))
 
 -- ---- scripts
@@ -133,7 +134,7 @@ module _ (script table work : List ℕ) where
   refining-refused e = rw e
 
   pub refining-admitted :
-      {ms : List Match} → Admitted script ms → refiningOf script table work ≡ refiningOfMatches ms table work
+      {g : Given} → Admitted script g → refiningOf script table work ≡ refiningOfMatches g table work
   unfolding refiningOf
   refining-admitted (reads o) = rw (outcome-admitted o)
 
@@ -141,8 +142,8 @@ pub data Case (script table work : List ℕ) : Refined → List ℕ → List ℕ
   refusing :
       {r : Refusal} → Outcome script (refusal (numberOf r) (placeOf r)) → Case script table work (Refused r) table work
   matched :
-      {ms : List Match} {reply : Refined} {table′ work′ : List ℕ} → Admitted script ms
-      → MatchesCase ms table work reply table′ work′ → Case script table work reply table′ work′
+      {g : Given} {reply : Refined} {table′ work′ : List ℕ} → Admitted script g
+      → MatchesCase g table work reply table′ work′ → Case script table work reply table′ work′
 
 abbrev CaseOf : List ℕ → List ℕ → List ℕ → Refining → Type 0
 CaseOf script table work x = Case script table work (x .reply) (x .table) (x .work)

@@ -19,7 +19,7 @@ use Rattle.refinement.specs.Order.{_∈_}
 use Rattle.refinement.specs.Match.{Match}
 use Rattle.refinement.specs.Refinement.{Refines}
 use Rattle.refining.specs.Rows.{direction, rowOfPiece, pieceNumbers}
-use Rattle.refining.specs.Refining.{numbered}
+use Rattle.refining.specs.Refining.{numbered, Given}
 use Rattle.refining.specs.Demands.{Admitted, reads, Stand}
 
 pub length-numbers : (rs : List Match) → length (pieceNumbers rs) ≡ rowWidth * length rs
@@ -36,11 +36,12 @@ numbered-ab n (x ∷ ms) i =
     ⊎-elim (λ e. record { on-a = ap (λ (z : Match). z .trackA) e; on-b = ap (λ (z : Match). z .trackB) e })
     (λ j. numbered-ab (suc n) ms j) (List·Memᴰ·cases-cons i)
 
-admitted-ab : {script : List ℕ} {ms : List Match} {m : Match} → Admitted script ms → m ∈ ms → BetweenAB m
+admitted-ab : {script : List ℕ} {g : Given} {m : Match} → Admitted script g → m ∈ g .matches → BetweenAB m
 admitted-ab (reads {ms = xs} o) i = numbered-ab 1 xs i
 
 rows-ab :
-    {script : List ℕ} {ms rs : List Match} → Admitted script ms → Refines ms rs → (r : Match) → r ∈ rs → BetweenAB r
+    {script : List ℕ} {g : Given} {rs : List Match} → Admitted script g → Refines (g .matches) rs → (r : Match) → r ∈ rs
+    → BetweenAB r
 rows-ab a R r i =
     let p = R .pieces r i in
     let m = admitted-ab a (p .1) in
@@ -83,7 +84,7 @@ numbers-inj (r ∷ rs) (r′ ∷ rs′) h h′ e =
     ap₂ _∷_ same (numbers-inj rs rs′ (λ x k. h x (there k)) (λ x k. h′ x (there k)) later)
 
 pub stand-unique :
-    {script table : List ℕ} {ms rs rs′ : List Match} {n : ℕ} → Admitted script ms → Refines ms rs → Refines ms rs′
-    → Stand rs n table → Stand rs′ n table → rs ≡ rs′
+    {script table : List ℕ} {g : Given} {rs rs′ : List Match} {n : ℕ} → Admitted script g → Refines (g .matches) rs
+    → Refines (g .matches) rs′ → Stand rs n table → Stand rs′ n table → rs ≡ rs′
 stand-unique {rs = rs} {rs′ = rs′} a R R′ s s′ =
     numbers-inj rs rs′ (rows-ab a R) (rows-ab a R′) (sym (s .numbers) ∙ s′ .numbers)

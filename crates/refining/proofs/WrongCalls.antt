@@ -31,7 +31,7 @@ use Rattle.refinement.specs.Refinement.{Matches, Piece, Refines, rowsOver}
 use Rattle.refinement.specs.Least
 use Rattle.refinement.proofs.Theorem.{table-resolved, table-least}
 use Rattle.refining.specs.Rows.{pieceNumbers}
-use Rattle.refining.specs.Refining.{capacityOf, workNeeded, zeroed}
+use Rattle.refining.specs.Refining.{Given, unmarked, leastOf, capacityOf, workNeeded, zeroed}
 use Rattle.refining.specs.Demands.{Fits, EveryExceeds, MatchesOutcome, Stand, Pieces}
 use Rattle.refining.specs.Demands.{Admitted, RefiningOutcome, Demand1, Demand2, Demand3}
 use Rattle.refining.proofs.Numbered.{admitted-of, admitted-matches}
@@ -65,12 +65,12 @@ firstPass ms = Least.tableFrom (Least.grow 1 ms (Least.addNew (Least.ends ms) []
 
 -- what the laws need of the definitions, by one computation
 record Computed : Type 0 where
-  stairs-admitted : Admitted (script stairs) stairs
-  least : length (Least.leastTable stairs []) ≡ 8
+  stairs-admitted : Admitted (script stairs) (unmarked stairs)
+  least : length (leastOf (unmarked stairs)) ≡ 8
   single : length (Least.singleLetters stairs) ≡ 16
   first : length (firstPass stairs) ≡ 6
-  letter-admitted : Admitted (script (letter 0)) (letter 0)
-  next-admitted : Admitted (script (letter 1)) (letter 1)
+  letter-admitted : Admitted (script (letter 0)) (unmarked (letter 0))
+  next-admitted : Admitted (script (letter 1)) (unmarked (letter 1))
 
 computed : Computed
 unfolding small command script stairs letter firstPass readFrom readScript flatMap insertBy sortBy Dec·and decLe
@@ -95,14 +95,15 @@ matches = admitted-matches (computed .stairs-admitted)
 module _ {table work table′ : List ℕ} where
   single-letters-refused : ¬ Demand3 (script stairs) table work (value (length (Least.singleLetters stairs))) table′
   single-letters-refused d =
-      let L = d .of-matches stairs (computed .stairs-admitted) .otherwise _ refl in
-      let fewest = L .least .fewest (Least.leastTable stairs []) (table-resolved stairs [] matches) in
+      let L = d .of-matches (unmarked stairs) (computed .stairs-admitted) .otherwise _ refl in
+      let resolved = table-resolved stairs (unmarked stairs .marks) matches in
+      let fewest = L .least .fewest (leastOf (unmarked stairs)) resolved in
       omega (arith, fewest, L .stand .count, computed .least, computed .single)
 
   first-pass-refused : ¬ Demand2 (script stairs) table work (value (length (firstPass stairs))) table′
   first-pass-refused d =
-      let P = d .of-matches stairs (computed .stairs-admitted) .pieces _ refl in
-      let fewest = table-least stairs [] matches .fewest (P .rows) (P .resolved) in
+      let P = d .of-matches (unmarked stairs) (computed .stairs-admitted) .pieces _ refl in
+      let fewest = table-least stairs (unmarked stairs .marks) matches .fewest (P .rows) (P .resolved) in
       omega (arith, fewest, P .stand .count, computed .least, computed .first)
 
 -- the first row of a table is a piece of some match
@@ -113,14 +114,14 @@ record FirstRow (ms : List Match) (table : List ℕ) : Type 0 where
   length-at : getD table 3 0 ≡ row .length
 
 -- there is one where there is a match, for it has a letter
-first-row : {m : Match} {ms : List Match} {table : List ℕ} {n : ℕ} → 1 ≤ m .length → Pieces (m ∷ ms) n table
-    → FirstRow (m ∷ ms) table
+first-row : {g : Given} {m : Match} {table : List ℕ} {n : ℕ} → m ∈ g .matches → 1 ≤ m .length → Pieces g n table
+    → FirstRow (g .matches) table
 unfolding rowsOver numbersOf
-first-row {m} {ms} {table} {n} lettered P = go (P .rows) (P .resolved .refines) (P .stand)
+first-row {g} {m} {table} {n} i lettered P = go (P .rows) (P .resolved .refines) (P .stand)
   where
-    go : (rs : List Match) → Refines (m ∷ ms) rs → Stand rs n table → FirstRow (m ∷ ms) table
+    go : (rs : List Match) → Refines (g .matches) rs → Stand rs n table → FirstRow (g .matches) table
     go [] R s =
-        let once = R .once m (here refl) (m .leftA) (record { from-left = omega arith; before-right = omega arith }) in
+        let once = R .once m i (m .leftA) (record { from-left = omega arith; before-right = omega arith }) in
         absurd (omega (arith, once))
     go (r ∷ rs) R s =
         let reaches : 3 < rowWidth * n = omega (arith, s .count) in
@@ -135,10 +136,10 @@ first-row {m} {ms} {table} {n} lettered P = go (P .rows) (P .resolved .refines) 
         }
 
 -- a piece has a letter, so that its fourth number is not 0
-made-up-count-refused : {bytes table work : List ℕ} {m : Match} {ms : List Match} → Admitted bytes (m ∷ ms)
+made-up-count-refused : {bytes table work : List ℕ} {g : Given} {m : Match} → Admitted bytes g → m ∈ g .matches
     → _≡_ {A = ℕ} (getD table 3 0) 0 → (n : ℕ) → ¬ Demand2 bytes table work (value n) table
-made-up-count-refused {m = m} {ms = ms} a blank n d =
-    let F = first-row (admitted-matches a .lettered m (here refl)) (d .of-matches (m ∷ ms) a .pieces n refl) in
+made-up-count-refused {g = g} {m = m} a i blank n d =
+    let F = first-row i (admitted-matches a .lettered m i) (d .of-matches g a .pieces n refl) in
     omega (arith, F .length-at, F .piece .2 .lettered)
 
 fixed-table-refused : {table work table₂ work₂ fixed : List ℕ} {n n₂ : ℕ}
@@ -146,8 +147,10 @@ fixed-table-refused : {table work table₂ work₂ fixed : List ℕ} {n n₂ : �
     → ¬ Demand2 (script (letter 1)) table₂ work₂ (value n₂) fixed
 unfolding letter
 fixed-table-refused {n = n} {n₂ = n₂} d d₂ =
-    let F = first-row (omega arith) (d .of-matches (letter 0) (computed .letter-admitted) .pieces n refl) in
-    let S = first-row (omega arith) (d₂ .of-matches (letter 1) (computed .next-admitted) .pieces n₂ refl) in
+    let P = d .of-matches (unmarked (letter 0)) (computed .letter-admitted) .pieces n refl in
+    let P₂ = d₂ .of-matches (unmarked (letter 1)) (computed .next-admitted) .pieces n₂ refl in
+    let F = first-row (here refl) (omega arith) P in
+    let S = first-row (here refl) (omega arith) P₂ in
     let ends = ap (λ (m : Match). right m A) (List·Memᴰ·eq-of-singleton (F .piece .1)) in
     let starts = ap (λ (m : Match). left m A) (List·Memᴰ·eq-of-singleton (S .piece .1)) in
     let low : F .row .leftA < 1 = omega (arith, F .piece .2 .ends-within A, F .piece .2 .lettered, ends) in
@@ -162,41 +165,41 @@ refusal-value e = let z : _≡_ {A = ℕ} 0 1 = cc in omega arith
 eleven-twelve : {place place′ : ℕ} → _≡_ {A = Answer ℕ} (refusal 11 place) (refusal 12 place′) → ⊥
 eleven-twelve e = let z : _≡_ {A = ℕ} 11 12 = cc in omega arith
 
-module _ {bytes table work table′ : List ℕ} {ms : List Match} (a : Admitted bytes ms)
+module _ {bytes table work table′ : List ℕ} {g : Given} (a : Admitted bytes g)
     (enough : workNeeded table ≤ length work) where
-  twelve-with-room-refused : Fits ms (capacityOf table) → ¬ Demand3 bytes table work (refusal 12 0) table′
-  twelve-with-room-refused fits d = fits-exceeds fits (d .of-matches ms a .refuses enough .0 refl)
+  twelve-with-room-refused : Fits g (capacityOf table) → ¬ Demand3 bytes table work (refusal 12 0) table′
+  twelve-with-room-refused fits d = fits-exceeds fits (d .of-matches g a .refuses enough .0 refl)
 
   twelve-one-row-early-refused :
-      capacityOf table ≡ length (Least.leastTable ms []) → ¬ Demand3 bytes table work (refusal 12 0) table′
+      capacityOf table ≡ length (leastOf g) → ¬ Demand3 bytes table work (refusal 12 0) table′
   twelve-one-row-early-refused just d =
-      let resolved = table-resolved ms [] (admitted-matches a) in
-      twelve-with-room-refused (record { rows = Least.leastTable ms []; resolved = resolved; room = omega arith }) d
+      let resolved = table-resolved (g .matches) (g .marks) (admitted-matches a) in
+      twelve-with-room-refused (record { rows = leastOf g; resolved = resolved; room = omega arith }) d
 
-  refusal-with-room-refused : {number place : ℕ} {work′ : List ℕ} → Fits ms (capacityOf table)
+  refusal-with-room-refused : {number place : ℕ} {work′ : List ℕ} → Fits g (capacityOf table)
       → (¬ Demand1 bytes table work (refusal number place) table′ work′)
       × (¬ Demand2 bytes table work (refusal number place) table′)
   refusal-with-room-refused fits =
       let M = admitted-matches a in
-      let least = table-least ms [] M in
+      let least = table-least (g .matches) (g .marks) M in
       let fewest = least .fewest (fits .rows) (fits .resolved) in
-      let room : length (Least.leastTable ms []) ≤ capacityOf table = omega (arith, fewest, fits .room) in
-      let rows = MatchesOutcome.least-rows enough (table-resolved ms [] M) least room in
+      let room : length (leastOf g) ≤ capacityOf table = omega (arith, fewest, fits .room) in
+      let rows = MatchesOutcome.least-rows enough (table-resolved (g .matches) (g .marks) M) least room in
       let outcome = RefiningOutcome.of-matches a rows in
-      (λ d. refusal-value (sym (d .alone _ outcome)), λ d. refusal-value (d .of-matches ms a .gets enough fits .1))
+      (λ d. refusal-value (sym (d .alone _ outcome)), λ d. refusal-value (d .of-matches g a .gets enough fits .1))
 
   other-refusal-refused : {number place : ℕ} → number ≢ 12 → ¬ Demand3 bytes table work (refusal number place) table′
   other-refusal-refused {number} other d =
-      refusal-value (d .of-matches ms a .or-value enough (λ e. let twelve : number ≡ 12 = cc in other twelve) .1)
+      refusal-value (d .of-matches g a .or-value enough (λ e. let twelve : number ≡ 12 = cc in other twelve) .1)
 
-  eleven-for-twelve-refused : {place : ℕ} {work′ : List ℕ} → EveryExceeds ms (capacityOf table)
+  eleven-for-twelve-refused : {place : ℕ} {work′ : List ℕ} → EveryExceeds g (capacityOf table)
       → ¬ Demand1 bytes table work (refusal 11 place) table′ work′
   eleven-for-twelve-refused exceeds d =
       let outcome = RefiningOutcome.of-matches a (MatchesOutcome.too-many-pieces enough exceeds) in
       eleven-twelve (sym (d .alone (refusal 12 0) outcome))
 
 module _ {bytes table work table′ work′ : List ℕ} {place : ℕ} where
-  twelve-for-eleven-refused : {ms : List Match} → Admitted bytes ms → length work < workNeeded table
+  twelve-for-eleven-refused : {g : Given} → Admitted bytes g → length work < workNeeded table
       → ¬ Demand1 bytes table work (refusal 12 place) table′ work′
   twelve-for-eleven-refused a short d =
       eleven-twelve (d .alone (refusal 11 0) (RefiningOutcome.of-matches a (MatchesOutcome.work-too-short short)))

@@ -21,7 +21,7 @@ use Rattle.script.specs.declared.Finding.{Finding}
 use Rattle.refinement.specs.declared.Side.{Side}
 use Rattle.refinement.specs.Order.{_∈_}
 use Rattle.refinement.specs.Match.{Match, left, Spans, spanned, carry}
-use Rattle.refining.specs.Refining.{withNumber}
+use Rattle.refining.specs.Refining.{withNumber, Given}
 use Rattle.refining.specs.Demands.{Admitted}
 use Rattle.refining.specs.declared.answers.Carried.{Carried}
 use Rattle.refining.specs.declared.answers.Carried.the-variants.{To, Refused}
@@ -51,15 +51,15 @@ pub data CarryingOutcome (script : List ℕ) (number : ℕ) (side : Side) (posit
       {n place : ℕ} → Outcome script (refusal n place) → CarryingOutcome script number side position (refusal n place)
   -- 13: number 0 or above the count
   no-such-match :
-      {ms : List Match} → Admitted script ms → (number ≡ 0) ⊎ (length ms < number)
+      {g : Given} → Admitted script g → (number ≡ 0) ⊎ (length (g .matches) < number)
       → CarryingOutcome script number side position (refusal 13 0)
   -- 14: position outside its span on the side named
   off-the-match :
-      {ms : List Match} {m : Match} → Admitted script ms → m ∈ ms → m .number ≡ number → ¬ Spans m side position
+      {g : Given} {m : Match} → Admitted script g → m ∈ g .matches → m .number ≡ number → ¬ Spans m side position
       → CarryingOutcome script number side position (refusal 14 0)
   -- no refusal: what the match of that number carries the position to
   carried :
-      {ms : List Match} {m : Match} → Admitted script ms → m ∈ ms → m .number ≡ number → Spans m side position
+      {g : Given} {m : Match} → Admitted script g → m ∈ g .matches → m .number ≡ number → Spans m side position
       → CarryingOutcome script number side position (value (carry m side position))
 
 pub record CarryingDemand (script : List ℕ) (number : ℕ) (side : Side) (position : ℕ) (answer : Answer ℕ) : Type 0 where

@@ -1,6 +1,10 @@
 -- What the refining call does, on every script and any two lent buffers. TO READ: contracts mean what stands here.
 --     withNumber n m                a match of a script as one of the theory, with the number n
 --     numbered n ms                 the matches of a script as those of the theory, numbered from n on
+--     Given                         what is refined: matches, and the marks of request #106
+--     unmarked ms                   matches without marks
+--     givenBy ms, heldIn c          what a script with the matches ms gives; what the columns c hold
+--     leastOf g                     the least table of what is given
 --     capacityOf table              how many rows the lent table has room for
 --     workNeeded table              how many numbers the work buffer needs
 --     zeroed work                   the work buffer, all zero
@@ -16,8 +20,9 @@ use Rattle.script.specs.Reading.{Reading, admitted, refused, readScript}
 use Rattle.script.specs.declared.command.Match.{Match as ScriptMatch}
 use Rattle.script.specs.declared.refusal.Refusal.the-variants.{WorkTooShort, TooManyPieces}
 use Rattle.rows.specs.Rows.{rowWidth}
-use Rattle.refinement.specs.Match.{Match, matchAB}
+use Rattle.refinement.specs.Match.{Match, matchAB, Place}
 use Rattle.refinement.specs.Least.{leastTable}
+use Rattle.refining.specs.Columns.{Columns, matchesOf}
 use Rattle.refining.specs.Rows.{pieceNumbers}
 use Rattle.refining.specs.declared.answers.Refined.{Refined}
 use Rattle.refining.specs.declared.answers.Refined.the-variants.{Rows, Refused}
@@ -29,6 +34,27 @@ withNumber n m = matchAB n (m .«left_a») (m .«left_b») (m .length) (m .rever
 abbrev pub numbered : ℕ → List ScriptMatch → List Match
 numbered n [] = []
 numbered n (m ∷ ms) = withNumber n m ∷ numbered (suc n) ms
+
+-- what is refined: matches, and the marks of request #106
+pub record Given : Type 0 where
+  pub matches : List Match
+  pub marks : List Place
+
+-- the one place that says that there are no marks before request #106
+abbrev pub unmarked : List Match → Given
+unmarked ms = record { matches = ms; marks = [] }
+
+-- SCOPE, "Numbering": the matches of a script, from 1 on
+abbrev pub givenBy : List ScriptMatch → Given
+givenBy ms = unmarked (numbered 1 ms)
+
+-- the matches of columns, which are numbered so too
+abbrev pub heldIn : Columns → Given
+heldIn c = unmarked (matchesOf c)
+
+-- the rows that the call writes, where there is room
+abbrev pub leastOf : Given → List Match
+leastOf g = leastTable (g .matches) (g .marks)
 
 -- SCOPE, "Capacity": as many rows as the table has whole ones
 abbrev pub capacityOf : List ℕ → ℕ
@@ -47,11 +73,11 @@ pub record Refining : Type 0 where
   pub table : List ℕ
   pub work : List ℕ
 
--- the matches of an admitted script: 11, then 12, then the rows of the least table. SCOPE, "Past the rows" and "Work
+-- what an admitted script gives: 11, then 12, then the rows of the least table. SCOPE, "Past the rows" and "Work
 -- after": the numbers behind the rows stay, and the work buffer is zero after success and after 12.
-unfoldable pub refiningOfMatches : List Match → List ℕ → List ℕ → Refining
-refiningOfMatches ms table work =
-    let least = leastTable ms [] in
+unfoldable pub refiningOfMatches : Given → List ℕ → List ℕ → Refining
+refiningOfMatches g table work =
+    let least = leastOf g in
     let rows = pieceNumbers least in
     let over = rows ++ drop (length rows) table in
     let short : Refining = record { reply = Refused WorkTooShort; table = table; work = work } in
@@ -62,7 +88,7 @@ refiningOfMatches ms table work =
 -- SCOPE, "Order of refining" and "Kept when refused": the script's own refusal comes first, and alters nothing
 abbrev pub refiningOfReading : Reading → List ℕ → List ℕ → Refining
 refiningOfReading (refused r) table work = record { reply = Refused r; table = table; work = work }
-refiningOfReading (admitted p q ms) table work = refiningOfMatches (numbered 1 ms) table work
+refiningOfReading (admitted p q ms) table work = refiningOfMatches (givenBy ms) table work
 
 unfoldable pub refiningOf : List ℕ → List ℕ → List ℕ → Refining
 refiningOf script table work = refiningOfReading (readScript script) table work

@@ -2,17 +2,16 @@
 --     rowOfPiece          a piece as a row
 --     pieceNumbers        the numbers of a table of pieces
 --     within i d xs       the numbers of xs that a match with left end i and length d spans
---     piecesCut           the pieces of the first n matches
+--     piecesCut c run n   the pieces of the first n matches of the columns c
 -- 01, "The table and its buffers". Assumes nothing.
 use Prim.Native.Nat.{ℕ, zero, suc}
 use mathlib.Core.Bool.{Bool, true, false, cond}
 use mathlib.Core.List.{List, [], _∷_, _++_, map}
-use lib.ListN.{getD}
 use Rattle.rows.specs.Rows.{numbersOf}
 use Rattle.rows.specs.declared.Row.{Row}
 use Rattle.refinement.specs.Match.{Match, spanned}
 use Rattle.refinement.specs.Least.{piecesBetween}
-use Rattle.refining.specs.Columns.{matchAt}
+use Rattle.refining.specs.Columns.{Columns, fromAt, lettersAt, matchAt}
 
 -- SCOPE, "Rows": 0 direct, 1 reversed
 abbrev pub direction : Bool → ℕ
@@ -38,7 +37,7 @@ abbrev pub within : ℕ → ℕ → List ℕ → List ℕ
 within i d [] = []
 within i d (x ∷ xs) = let rest = within i d xs in cond (spanned i d x) (x ∷ rest) rest
 
-unfoldable pub piecesCut : List ℕ → List ℕ → List ℕ → List Bool → List ℕ → ℕ → List Match
-piecesCut a b d r run zero = []
-piecesCut a b d r run (suc k) =
-    piecesCut a b d r run k ++ piecesBetween (matchAt a b d r k) (within (getD a k 0) (getD d k 0) run)
+unfoldable pub piecesCut : Columns → List ℕ → ℕ → List Match
+piecesCut c run zero = []
+piecesCut c run (suc k) =
+    piecesCut c run k ++ piecesBetween (matchAt c k) (within (fromAt c k) (lettersAt c k) run)

@@ -10,9 +10,8 @@ use mathlib.Core.Path.{_≡_, sym, ap, ap₂, subst, _∙_}
 use mathlib.Core.List.{List}
 use native.Mathlib.Omega.{arith}
 use lib.ListN.{length, length-replicate}
-use Rattle.script.specs.Reading.{readScript, scriptOf}
+use Rattle.script.specs.Reading.{readScript, verdictOf}
 use Rattle.script.specs.declared.refusal.Refusal.{Refusal}
-use Rattle.script.specs.declared.Script.{Script}
 use Rattle.script.specs.declared.Verdict.{Verdict}
 use Rattle.script.proofs.Admitted.{holds-admitted, reading-refused}
 use Rattle.rows.specs.Rows.{rowWidth}
@@ -52,15 +51,15 @@ report-refined script text p q count admits t w replied wrote e printed =
     ap (λ (b : List ℕ). reportingOfText b text) (admits ∙ sym (told ∙ lent)) ∙ printed
 
 pub report-refused :
-    (script text : List ℕ) {r : Script} {f : Refusal} {answer : Reporting} → r ≡ scriptOf (readScript script)
-    → r .verdict ≡ Verdict.Refused f
+    (script text : List ℕ) {told : Verdict} {f : Refusal} {answer : Reporting} → told ≡ verdictOf (readScript script)
+    → told ≡ Verdict.Refused f
     → reportingOfText (refusalText f) text ≡ answer
     → reportingOf script text ≡ answer
 unfolding reportOf
 report-refused script text e v printed = rw (reading-refused script e v) printed
 
-pub report-admits : (script : List ℕ) {r : Script} {p q count : ℕ} → r ≡ scriptOf (readScript script)
-    → r .verdict ≡ Verdict.Admitted p q count
+pub report-admits : (script : List ℕ) {told : Verdict} {p q count : ℕ} → told ≡ verdictOf (readScript script)
+    → told ≡ Verdict.Admitted p q count
     → reportOf script ≡ reportOfRefining p q count (refiningOf script lentTable lentWork)
 unfolding reportOf refiningOf
 report-admits script e v =

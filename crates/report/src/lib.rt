@@ -83,8 +83,7 @@ pub fn report(script: &[u8], text: &mut [u8]) -> Reported
     ensures reply { λ r. ⌜ r ≡ reportingOf (now (script .entry)) (now (text .entry)) .reply ⌝ }
     ensures text { λ _. ⌜ now (text .exit) ≡ reportingOf (now (script .entry)) (now (text .entry)) .text ⌝ }
 {
-    let read = reader::read(script);
-    let verdict = read.verdict;
+    let verdict = reader::read(script);
     match verdict {
         Verdict::Refused(refusal) => print_refusal(refusal, text),
         Verdict::Admitted { p, q, count } => report_admitted(script, p, q, count, text),

@@ -7,33 +7,31 @@
 -- Assumes nothing.
 use Prim.Native.Nat.{ℕ, _*_, _≤_, _<_}
 use mathlib.Core.Path.{_≡_, refl}
-use mathlib.Core.List.{List, [], _++_, map}
+use mathlib.Core.List.{List, _++_, map}
 use native.Mathlib.Omega.{arith}
 use native.Mathlib.Decide.{decLe}
 use lib.ListN.{length, drop, length-map, length-replicate}
 use borrow.Author.Tests.{lt-ltb, le-ltb}
 use Rattle.script.specs.Reading.{Reading, admitted, refused, readScript}
 use Rattle.script.specs.declared.refusal.Refusal.the-variants.{TooManyPieces}
-use Rattle.refinement.specs.Match.{Match}
-use Rattle.refinement.specs.Least.{leastTable}
 use Rattle.rows.specs.Rows.{rowWidth}
 use Rattle.refining.specs.Rows.{rowOfPiece}
-use Rattle.refining.specs.Refining.{capacityOf, numbered, refiningOfMatches}
+use Rattle.refining.specs.Refining.{Given, givenBy, leastOf, capacityOf, refiningOfMatches}
 use Rattle.reporting.specs.Reporting.{lentRows, lentTable, lentWork, reportOfRefining, reportOfReading, reportOf}
 use Rattle.reporting.specs.Reporting.{reportingOf, longestText}
 use Rattle.reporting.specs.declared.Reported.{Reported}
 use Rattle.reporting.proofs.Bounds.{refusal-text-short, table-text-short}
 use Rattle.reporting.proofs.LeastRows.{report-crowded, report-rows}
 
-matches-fit : (p q count : ℕ) (ms : List Match) (table work : List ℕ) → length table ≡ rowWidth * lentRows
-    → length work ≡ 4 * lentRows → length (reportOfRefining p q count (refiningOfMatches ms table work)) ≤ longestText
-matches-fit p q count ms table work rows numbers =
-    let least = leastTable ms [] in
+matches-fit : (p q count : ℕ) (g : Given) (table work : List ℕ) → length table ≡ rowWidth * lentRows
+    → length work ≡ 4 * lentRows → length (reportOfRefining p q count (refiningOfMatches g table work)) ≤ longestText
+matches-fit p q count g table work rows numbers =
+    let least = leastOf g in
     let text = table-text-short p q count (map rowOfPiece least) in
     elim (decLe (length least) (capacityOf table)) [
-      | yes room ↦ rw (report-rows p q count ms table work (omega arith) room)
+      | yes room ↦ rw (report-rows p q count g table work (omega arith) room)
           (omega (arith, length-map least rowOfPiece))
-      | no many ↦ rw (report-crowded p q count ms table work (omega arith) (omega arith))
+      | no many ↦ rw (report-crowded p q count g table work (omega arith) (omega arith))
           (omega (arith, refusal-text-short TooManyPieces))
     ]
 
@@ -44,7 +42,7 @@ report-fits s = go (readScript s)
     go : (r : Reading) → length (reportOfReading r) ≤ longestText
     go (refused r) = omega (arith, refusal-text-short r)
     go (admitted p q ms) =
-        matches-fit p q (length ms) (numbered 1 ms) lentTable lentWork
+        matches-fit p q (length ms) (givenBy ms) lentTable lentWork
         (length-replicate {A = ℕ} (rowWidth * lentRows) 0) (length-replicate {A = ℕ} (4 * lentRows) 0)
 
 -- a text that fills the buffer to its last byte has room

@@ -5,18 +5,17 @@
 -- Assumes nothing.
 use Prim.Native.Nat.{ℕ, _*_, _≤_, _<_}
 use mathlib.Core.Path.{_≡_, refl, ap, _∙_}
-use mathlib.Core.List.{List, [], map}
+use mathlib.Core.List.{List, map}
 use native.Mathlib.Omega.{arith}
 use lib.ListN.{length, drop, take}
 use lib.Seq.{take-at}
 use Rattle.script.specs.declared.refusal.Refusal.{Refusal}
 use Rattle.script.specs.declared.refusal.Refusal.the-variants.{TooManyPieces}
 use Rattle.refinement.specs.Match.{Match}
-use Rattle.refinement.specs.Least.{leastTable}
 use Rattle.rows.specs.Rows.{rowWidth, rowsOf}
 use Rattle.rows.proofs.Numbers.{rows-whole}
 use Rattle.refining.specs.Rows.{rowOfPiece, pieceNumbers}
-use Rattle.refining.specs.Refining.{capacityOf, workNeeded, refiningOfMatches, refiningOf}
+use Rattle.refining.specs.Refining.{Given, leastOf, capacityOf, workNeeded, refiningOfMatches, refiningOf}
 use Rattle.refining.specs.Demands.{Admitted}
 use Rattle.refining.specs.declared.answers.Refined.{Refined}
 use Rattle.refining.specs.declared.answers.Refined.the-variants.{Rows, Refused}
@@ -35,36 +34,36 @@ rows-written rs table =
     ∙ rows-whole (map rowOfPiece rs)
 
 -- the first n rows of the table are the least table's, and all of them
-pub record LeastRows (ms : List Match) (n : ℕ) (table : List ℕ) : Type 0 where
-  pub count : n ≡ length (leastTable ms [])
-  pub rows : rowsOf (take (rowWidth * n) table) ≡ map rowOfPiece (leastTable ms [])
+pub record LeastRows (g : Given) (n : ℕ) (table : List ℕ) : Type 0 where
+  pub count : n ≡ length (leastOf g)
+  pub rows : rowsOf (take (rowWidth * n) table) ≡ map rowOfPiece (leastOf g)
 
 refused-rows : {r : Refusal} {n : ℕ} → Refused r ≡ Rows n → ⊥
 refused-rows e = let z : _≡_ {A = ℕ} 0 1 = cc in omega arith
 
-pub least-rows : (script table work : List ℕ) {n : ℕ} {ms : List Match} → Admitted script ms
-    → refiningOf script table work .reply ≡ Rows n → LeastRows ms n (refiningOf script table work .table)
-least-rows script table work {n} {ms} a e = go (case script table work) e
+pub least-rows : (script table work : List ℕ) {n : ℕ} {g : Given} → Admitted script g
+    → refiningOf script table work .reply ≡ Rows n → LeastRows g n (refiningOf script table work .table)
+least-rows script table work {n} {g} a e = go (case script table work) e
   where
     go : {reply : Refined} {table′ work′ : List ℕ} → Case script table work reply table′ work′ → reply ≡ Rows n
-        → LeastRows ms n table′
+        → LeastRows g n table′
     go (refusing _) e = absurd (refused-rows e)
     go (matched _ (short _)) e = absurd (refused-rows e)
     go (matched _ (crowded _ _)) e = absurd (refused-rows e)
-    go (matched {ms = ms′} a′ (writing _ _)) e =
-        let count : n ≡ length (leastTable ms′ []) = cc in
+    go (matched {g = g′} a′ (writing _ _)) e =
+        let count : n ≡ length (leastOf g′) = cc in
         rw (admitted-unique a a′, count)
-        (record { count = refl; rows = rows-written (leastTable ms′ []) table })
+        (record { count = refl; rows = rows-written (leastOf g′) table })
 
 -- matches and enough work: the text is 12's refusal or the table's
-module _ (p q count : ℕ) (ms : List Match) (table work : List ℕ) (enough : workNeeded table ≤ length work) where
-  pub report-crowded : capacityOf table < length (leastTable ms [])
-      → reportOfRefining p q count (refiningOfMatches ms table work) ≡ refusalText TooManyPieces
-  report-crowded many = ap (reportOfRefining p q count) (matches-crowded ms table work enough many)
+module _ (p q count : ℕ) (g : Given) (table work : List ℕ) (enough : workNeeded table ≤ length work) where
+  pub report-crowded : capacityOf table < length (leastOf g)
+      → reportOfRefining p q count (refiningOfMatches g table work) ≡ refusalText TooManyPieces
+  report-crowded many = ap (reportOfRefining p q count) (matches-crowded g table work enough many)
 
-  pub report-rows : length (leastTable ms []) ≤ capacityOf table
-      → reportOfRefining p q count (refiningOfMatches ms table work)
-      ≡ tableText p q count (map rowOfPiece (leastTable ms []))
+  pub report-rows : length (leastOf g) ≤ capacityOf table
+      → reportOfRefining p q count (refiningOfMatches g table work)
+      ≡ tableText p q count (map rowOfPiece (leastOf g))
   report-rows room =
-      ap (reportOfRefining p q count) (matches-written ms table work enough room)
-      ∙ ap (tableText p q count) (rows-written (leastTable ms []) table)
+      ap (reportOfRefining p q count) (matches-written g table work enough room)
+      ∙ ap (tableText p q count) (rows-written (leastOf g) table)

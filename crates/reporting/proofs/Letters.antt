@@ -23,7 +23,6 @@ use Rattle.script.proofs.Outcome.{reach-place, reach-range, reach-within, read-
 use Rattle.refinement.specs.declared.Side.the-variants.{A}
 use Rattle.refinement.specs.Order.{_∈_}
 use Rattle.refinement.specs.Match.{Match}
-use Rattle.refinement.specs.Least.{leastTable}
 use Rattle.refinement.proofs.Theorem.{table-resolved}
 use Rattle.refinement.proofs.Letters.{letters, least-letters}
 use Rattle.rows.specs.Rows.{rowWidth}
@@ -31,7 +30,7 @@ use Rattle.table.specs.Summing.{total, count, lettersOf, classCount, summaryOf}
 use Rattle.rows.specs.declared.Row.{Row}
 use Rattle.table.proofs.Laws.{sumOf, between, classes-sum}
 use Rattle.refining.specs.Rows.{rowOfPiece}
-use Rattle.refining.specs.Refining.{numbered, refiningOf}
+use Rattle.refining.specs.Refining.{numbered, givenBy, leastOf, refiningOf}
 use Rattle.refining.specs.declared.answers.Refined.the-variants.{Rows}
 use Rattle.refining.proofs.Numbered.{admitted-of, admitted-matches}
 use Rattle.reporting.proofs.LeastRows.{LeastRows, least-rows}
@@ -91,27 +90,28 @@ count-all p (r ∷ rs) h = rw (h r (here refl)) (omega (arith, count-all p rs (�
 
 module _ (script table work : List ℕ) {p q n : ℕ} {ms : List ScriptMatch} (read : readScript script ≡ admitted p q ms)
     (success : refiningOf script table work .reply ≡ Rows n) where
-  made : LeastRows (numbered 1 ms) n (refiningOf script table work .table)
+  made : LeastRows (givenBy ms) n (refiningOf script table work .table)
   made = least-rows script table work (admitted-of read) success
 
   pub letters-kept : summaryOf (take (rowWidth * n) (refiningOf script table work .table)) .letters ≡ lengthsOf ms
   letters-kept =
       let m = granted script read in
       let few = lengths-few longest ms (m .short) in
-      let all : lettersOf (map rowOfPiece (leastTable (numbered 1 ms) [])) ≡ lengthsOf ms =
-      rows-letters (leastTable (numbered 1 ms) []) ∙ least-letters (numbered 1 ms) [] ∙ lengths-numbered 1 ms
+      let all : lettersOf (map rowOfPiece (leastOf (givenBy ms))) ≡ lengthsOf ms =
+      rows-letters (leastOf (givenBy ms)) ∙ least-letters (numbered 1 ms) (givenBy ms .marks) ∙ lengths-numbered 1 ms
       in
       rw (made .rows, all) (mod-eq-of-lt (omega (arith, m .few)))
 
   pub pieces-counted : summaryOf (take (rowWidth * n) (refiningOf script table work .table)) .pieces ≡ n
   pieces-counted =
-      rw (made .rows) (length-map (leastTable (numbered 1 ms) []) rowOfPiece ∙ sym (made .count))
+      rw (made .rows) (length-map (leastOf (givenBy ms)) rowOfPiece ∙ sym (made .count))
 
   -- a row has a letter, and no more than its match
-  classed : (r : Row) → r ∈ map rowOfPiece (leastTable (numbered 1 ms) []) → between 1 (2 ^ classCount) r ≡ true
+  classed : (r : Row) → r ∈ map rowOfPiece (leastOf (givenBy ms)) → between 1 (2 ^ classCount) r ≡ true
   classed r i =
-      let f = Memᴰ·of-map rowOfPiece (leastTable (numbered 1 ms) []) i in
-      let o = table-resolved (numbered 1 ms) [] (admitted-matches (admitted-of read)) .refines .pieces (f .0) (f .1) in
+      let f = Memᴰ·of-map rowOfPiece (leastOf (givenBy ms)) i in
+      let resolved = table-resolved (numbered 1 ms) (givenBy ms .marks) (admitted-matches (admitted-of read)) in
+      let o = resolved .refines .pieces (f .0) (f .1) in
       let piece = o .2 in
       let short = numbered-short 1 ms (granted script read .short) (o .1) in
       rw (← (f .2))
@@ -122,7 +122,7 @@ module _ (script table work : List ℕ) {p q n : ℕ} {ms : List ScriptMatch} (r
 
   pub classes-full : sumOf (summaryOf (take (rowWidth * n) (refiningOf script table work .table)) .classes) ≡ n
   classes-full =
-      let rows = map rowOfPiece (leastTable (numbered 1 ms) []) in
+      let rows = map rowOfPiece (leastOf (givenBy ms)) in
       classes-sum (take (rowWidth * n) (refiningOf script table work .table))
       ∙ rw (made .rows) (count-all (between 1 (2 ^ classCount)) rows classed)
       ∙ pieces-counted

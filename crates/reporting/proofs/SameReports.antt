@@ -25,12 +25,12 @@ use Rattle.refinement.specs.declared.Side.the-variants.{A, B}
 use Rattle.refinement.specs.Order.{_∈_}
 use Rattle.refinement.specs.Match.{Match}
 use Rattle.refinement.specs.Refinement.{Piece}
-use Rattle.refinement.specs.Least.{leastTable}
 use Rattle.refinement.proofs.Theorem.{table-resolved}
 use Rattle.rows.specs.Rows.{rowWidth, rowsOf}
 use Rattle.rows.specs.declared.Row.{Row}
 use Rattle.refining.specs.Rows.{direction, rowOfPiece}
-use Rattle.refining.specs.Refining.{numbered, Refining, refiningOfMatches, refiningOfReading, refiningOf}
+use Rattle.refining.specs.Refining.{numbered, givenBy, leastOf, Refining, refiningOfMatches}
+use Rattle.refining.specs.Refining.{refiningOfReading, refiningOf}
 use Rattle.refining.specs.declared.answers.Refined.{Refined}
 use Rattle.refining.specs.declared.answers.Refined.the-variants.{Rows, Refused}
 use Rattle.refining.proofs.Numbered.{admitted-of, admitted-matches}
@@ -128,8 +128,8 @@ table-sayable script table work {p} {q} {n} {ms} read e = go (read-outcome read)
       omega (arith, reach-range r .1 .few),
       omega (arith, reach-place r),
       rw (least-rows script table work (admitted-of read) e .rows) (λ x i.
-          let resolved = table-resolved (numbered 1 ms) [] (admitted-matches (admitted-of read)) in
-          let f = Memᴰ·of-map rowOfPiece (leastTable (numbered 1 ms) []) i in
+          let resolved = table-resolved (numbered 1 ms) (givenBy ms .marks) (admitted-matches (admitted-of read)) in
+          let f = Memᴰ·of-map rowOfPiece (leastOf (givenBy ms)) i in
           let o = resolved .refines .pieces (f .0) (f .1) in
           let m = numbered-fits 1 ms (λ y k. reach-within r k) (o .1) in
           subst Printable (f .2)
@@ -162,10 +162,10 @@ says-printed {script} (refuses {r} e) = go (readScript script) e
     go : (x : Reading) → refiningOfReading x lentTable lentWork .reply ≡ Refused r → reportOfReading x ≡ refusalText r
     go (refused r′) e = let same : r′ ≡ r = cc in ap refusalText same
     go (admitted p q ms) e =
-        ap (reportOfReply p q (length ms) (refiningOfMatches (numbered 1 ms) lentTable lentWork .table)) e
+        ap (reportOfReply p q (length ms) (refiningOfMatches (givenBy ms) lentTable lentWork .table)) e
 says-printed (lists {p} {q} {ms = ms} read e) =
     rw read
-    (ap (reportOfReply p q (length ms) (refiningOfMatches (numbered 1 ms) lentTable lentWork .table)) (rw read at e))
+    (ap (reportOfReply p q (length ms) (refiningOfMatches (givenBy ms) lentTable lentWork .table)) (rw read at e))
 
 says-sayable : {script : List ℕ} {a : Said} → Says script a → Sayable a
 says-sayable {script} (refuses e) = refusal-sayable script lentTable lentWork e

@@ -4,9 +4,11 @@
 --     reportOf script          what the program prints for an input
 --     Reporting                the reply of the call, and what the text buffer holds after it
 --     reportingOf script text  both, by what the script and the text buffer hold before it
+--     Briefly                  what a try with a small table does, by its answer
 --     longestText              so many bytes are room for every report; that they are is a law
 -- 01, "One run, complete". Assumes nothing.
 use Prim.Native.Nat.{ℕ, suc, _*_}
+use mathlib.Core.Path.{_≡_}
 use mathlib.Core.Bool.{cond}
 use mathlib.Core.List.{List, _++_}
 use lib.ListN.{length, take, drop, replicate}
@@ -14,10 +16,11 @@ use lib.Dec.{ltb}
 use Rattle.script.specs.Limits.{longestScript}
 use Rattle.script.specs.Reading.{Reading, admitted, refused, readScript}
 use Rattle.rows.specs.Rows.{rowWidth, rowsOf}
-use Rattle.refining.specs.Refining.{Refining, numbered, refiningOfMatches}
+use Rattle.refining.specs.Refining.{givenBy, Refining, refiningOfMatches}
 use Rattle.refining.specs.declared.answers.Refined.{Refined}
 use Rattle.reporting.specs.Lines.{refusalText, tableText}
 use Rattle.reporting.specs.declared.Reported.{Reported}
+use Rattle.reporting.specs.declared.Brief.{Brief}
 
 -- SCOPE, "Input": one byte more than the longest admitted script has
 abbrev pub inputRoom : ℕ
@@ -45,7 +48,7 @@ reportOfRefining p q count x = reportOfReply p q count (x .table) (x .reply)
 abbrev pub reportOfReading : Reading → List ℕ
 reportOfReading (refused r) = refusalText r
 reportOfReading (admitted p q ms) =
-    reportOfRefining p q (length ms) (refiningOfMatches (numbered 1 ms) lentTable lentWork)
+    reportOfRefining p q (length ms) (refiningOfMatches (givenBy ms) lentTable lentWork)
 
 -- SCOPE, "Text" and "Refusal line": for any string of bytes the one or the other
 unfoldable pub reportOf : List ℕ → List ℕ
@@ -65,6 +68,11 @@ reportingOfText printed text =
 
 abbrev pub reportingOf : List ℕ → List ℕ → Reporting
 reportingOf script text = reportingOfText (reportOf script) text
+
+-- an answer is that of the call; without one the buffer is as it was
+abbrev pub Briefly : List ℕ → List ℕ → List ℕ → Brief → Type 0
+Briefly script text text′ (Brief.Answered reply) = reportingOf script text ≡ record { reply = reply; text = text′ }
+Briefly script text text′ Brief.Larger = text′ ≡ text
 
 -- 3,000 rows of at most 86 bytes, thirty classes and the first two lines take less
 abbrev pub longestText : ℕ

@@ -6,3 +6,10 @@ pub enum Reported {
     Printed(usize),
     TextTooShort(usize),
 }
+
+// What a try with a small table answers: the reply of the call, or that the table needs more rows, and then nothing is
+// written.
+pub enum Brief {
+    Answered(Reported),
+    Larger,
+}

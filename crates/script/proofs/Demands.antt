@@ -1,72 +1,45 @@
--- The reader and the finder as `scriptOf` and `findingOf` define them meet their demands: of the outcomes exactly one
+-- The reader and the finder as `verdictOf` and `findingOf` define them meet their demands: of the outcomes exactly one
 -- applies, and it is the reply.
---     reading-demand, reading-contract     the demand, of any reply that equals `scriptOf`; with the equation before it
+--     reading-demand, reading-contract     of any reply that equals `verdictOf`; with the equation before it
 --     finding-demand, finding-contract     likewise of `findingOf`
 -- Assumes nothing.
-use Prim.Native.Nat.{ℕ, _-_}
-use mathlib.Core.Path.{_≡_, refl, sym, ap, subst, _∙_}
+use Prim.Native.Nat.{ℕ}
+use mathlib.Core.Path.{_≡_, refl, subst}
 use mathlib.Core.Logic.{inl, inr}
-use mathlib.Core.Bool.{false}
-use mathlib.Core.List.{List, [], map}
-use native.Mathlib.Omega.{arith}
+use mathlib.Core.List.{List}
 use native.Mathlib.Numerals.{add-one}
-use lib.ListN.{length, drop, replicate, length-map}
-use lib.Seq.{drop-at}
-use Rattle.script.specs.Limits.{mostMatches}
-use Rattle.script.specs.Reading.{Reading, admitted, refused, readScript, column, scriptWith, scriptOf}
-use Rattle.script.specs.Answers.{Answer, value, contents, readingAnswer}
+use Rattle.script.specs.Reading.{Reading, admitted, refused, readScript, verdictOf}
+use Rattle.script.specs.Answers.{Answer, value, contents}
 use Rattle.script.specs.Outcomes.{Outcome}
 use Rattle.script.specs.Finding.{findingOf}
-use Rattle.script.specs.Demands.{scriptAnswer, countOf, BlankFrom, ReadingDemand}
+use Rattle.script.specs.Demands.{Counted, verdictAnswer, ReadingOutcome, ReadingDemand}
 use Rattle.script.specs.Demands.{findingAnswer, FindingOutcome, FindingDemand}
 use Rattle.script.specs.declared.command.Match.{Match}
 use Rattle.script.specs.declared.Finding.{Finding}
 use Rattle.script.specs.declared.Verdict.{Verdict}
-use Rattle.script.specs.declared.Script.{Script}
-use Rattle.script.proofs.Outcome.{outcome-stated, outcome-alone, read-outcome, outcome-admitted}
-use Rattle.script.proofs.Outcome.{outcome-refused}
-use Rattle.script.proofs.Admitted.{holds-admitted}
-use Rattle.script.proofs.Found.{Numbered, none, behind, numbered, found-zero, found-above, found-behind, held-in}
+use Rattle.script.proofs.Outcome.{read-outcome, outcome-admitted, outcome-refused}
+use Rattle.script.proofs.Found.{Numbered, none, behind, numbered, found-zero, found-above, found-behind}
 
 -- ---- reading
 
-past : {X : Type 0} (blank : X) (field : Match → X) (ms : List Match)
-    → drop (length ms) (column blank field ms) ≡ replicate (mostMatches - length ms) blank
-past blank field ms =
-    drop-at (map field ms) (replicate (mostMatches - length ms) blank) (length ms) (length-map ms field)
+module _ (s : List ℕ) where
+  reading-alone : {a : Answer Counted} → ReadingOutcome s a → a ≡ verdictAnswer (verdictOf (readScript s))
+  reading-alone (ReadingOutcome.script-refused o) = let f = outcome-refused o in rw (f .read) (cc)
+  reading-alone (ReadingOutcome.script-admitted o) = rw (outcome-admitted o)
 
-blank-with : (v : Verdict) (ms : List Match) → BlankFrom (length ms) (scriptWith v ms)
-blank-with v ms =
-    record {
-      left-a = past 0 (λ m. m .«left_a») ms;
-      left-b = past 0 (λ m. m .«left_b») ms;
-      letters = past 0 (λ m. m .length) ms;
-      reversed = past false (λ m. m .reversed) ms;
-    }
+  reading-stated : ReadingOutcome s (verdictAnswer (verdictOf (readScript s)))
+  reading-stated = by-reading (readScript s) refl
+    where
+      by-reading : (x : Reading) → readScript s ≡ x → ReadingOutcome s (verdictAnswer (verdictOf x))
+      by-reading (refused f) e = ReadingOutcome.script-refused (read-outcome e)
+      by-reading (admitted p q ms) e = ReadingOutcome.script-admitted (read-outcome e)
 
-blank-from : (x : Reading) → BlankFrom (countOf (scriptOf x .verdict)) (scriptOf x)
-blank-from (admitted p q ms) = blank-with (Verdict.Admitted p q (length ms)) ms
-blank-from (refused f) = blank-with (Verdict.Refused f) []
+  module _ {v : Verdict} (is : v ≡ verdictOf (readScript s)) where
+    pub reading-demand : ReadingDemand s (verdictAnswer v)
+    reading-demand = rw is (record { stated = reading-stated; alone = λ _ o. reading-alone o })
 
-answer-same : (s : List ℕ) (x : Reading) → readScript s ≡ x → scriptAnswer (scriptOf x) ≡ readingAnswer x
-answer-same s (refused f) e = refl
-answer-same s (admitted p q ms) e =
-    let held = holds-admitted s {r = scriptOf (admitted p q ms)} (ap scriptOf (sym e)) refl in
-    let same : held .matches ≡ ms = cc (held .read) in
-    ap (λ (l : List Match). value (contents p q l)) (held-in held ∙ same)
-
-module _ (s : List ℕ) {r : Script} (is : r ≡ scriptOf (readScript s)) where
-  pub reading-demand : ReadingDemand s r
-  reading-demand =
-      let same = answer-same s (readScript s) refl in
-      rw is (record {
-        stated = rw same (outcome-stated s);
-        alone = λ _ o. sym (outcome-alone o) ∙ sym same;
-        blank = blank-from (readScript s);
-      })
-
-  pub reading-contract : (r ≡ scriptOf (readScript s)) × ReadingDemand s r
-  reading-contract = (is, reading-demand)
+    pub reading-contract : (v ≡ verdictOf (readScript s)) × ReadingDemand s (verdictAnswer v)
+    reading-contract = (is, reading-demand)
 
 -- ---- finding
 

@@ -1,6 +1,7 @@
 -- What stands at the start of a remainder of the script. TO READ: contracts mean what stands here.
 --     lengthsWidth, matchWidth     the bytes of a command, its command byte among them
 --     numberAt s at                the number in the four bytes from the offset at
+--     fieldsOf reversed s          what a match command says, with its direction
 --     commandOf s                  the command that s starts with
 -- 01, "The script". Assumes nothing.
 use Prim.Native.Nat.{ℕ, _+_, _*_}
@@ -8,6 +9,7 @@ use mathlib.Core.Bool.{Bool, true, false, cond}
 use mathlib.Core.List.{List}
 use lib.ListN.{length, getD}
 use lib.Dec.{ltb, eqb}
+use Rattle.script.specs.declared.command.Match.{Match}
 use Rattle.script.specs.declared.command.Command.{Command}
 use Rattle.script.specs.declared.command.Command.the-variants.{Missing, Unknown, Lengths, LengthsCutShort}
 use Rattle.script.specs.declared.command.Command.the-variants.{Pairing, MatchCutShort, End, EndThenMore}
@@ -28,11 +30,14 @@ numberAt s at =
 abbrev pub lengthsOf : List ℕ → Command
 lengthsOf s = cond (ltb (length s) lengthsWidth) LengthsCutShort (Lengths (numberAt s 1) (numberAt s 5))
 
--- SCOPE, "Commands": a match of either direction, with its left-A, its left-B and its length
+-- SCOPE, "Commands": the left-A, the left-B and the length of a match, in this order
+abbrev pub fieldsOf : Bool → List ℕ → Match
+fieldsOf reversed s =
+    record { «left_a» = numberAt s 1; «left_b» = numberAt s 5; length = numberAt s 9; reversed = reversed }
+
+-- SCOPE, "Commands": a match of either direction
 abbrev pub matchOf : Bool → List ℕ → Command
-matchOf reversed s =
-    cond (ltb (length s) matchWidth) MatchCutShort
-    (Pairing (record { «left_a» = numberAt s 1; «left_b» = numberAt s 5; length = numberAt s 9; reversed = reversed }))
+matchOf reversed s = cond (ltb (length s) matchWidth) MatchCutShort (Pairing (fieldsOf reversed s))
 
 -- SCOPE, "End": it has no operand, and nothing stands behind it
 abbrev pub endOf : List ℕ → Command

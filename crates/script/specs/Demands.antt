@@ -1,59 +1,72 @@
--- What the reader's reply and the finder's are in 01's numbers and places. TO READ: contracts mean what stands here.
---     heldIn r count       the matches in the first count places of the columns
---     scriptAnswer r       the reader's reply in 01's words
---     BlankFrom count r    the columns are blank from that place on
---     ReadingDemand        exactly one outcome's condition is met, it is the answer, and the columns are blank behind
+-- What the replies of reading and finding are in 01's numbers and places. TO READ: contracts mean what stands here.
+--     Counted              what the verdict tells of an admitted script: p, q and how many matches there are
+--     verdictAnswer v      the reader's reply in 01's words
+--     ReadingOutcome       what may come of reading, by its condition
+--     ReadingDemand        exactly one outcome's condition is met, and it is the answer
+--     ColumnDemand         what one lent column holds afterwards, element by element, by the outcome that is met
+--     ColumnsDemand        the four columns
 --     findingAnswer f      the finder's reply in 01's words
 --     FindingOutcome       what may come of asking for the match of a number, by its condition
 --     FindingDemand        exactly one outcome's condition is met, and it is the answer
--- 01, "The script" and "Refused scripts and calls". `proofs/Demands` shows that `scriptOf` and `findingOf` meet the
--- demands. Assumes nothing.
-use Prim.Native.Nat.{ℕ, zero, suc, _+_, _-_, _<_}
+-- 01, "The script" and "Refused scripts and calls". `proofs/Demands` shows that `verdictOf` and `findingOf` meet the
+-- demands, `proofs/Columns` that `columnRead` does. Assumes nothing.
+use Prim.Native.Nat.{ℕ, _+_, _≤_, _<_}
 use mathlib.Core.Path.{_≡_}
 use mathlib.Core.Logic.{_⊎_}
-use mathlib.Core.Bool.{false}
-use mathlib.Core.List.{List, [], _∷_, _++_}
-use lib.ListN.{length, drop, replicate}
+use mathlib.Core.Bool.{Bool}
+use mathlib.Core.List.{List, _∷_, _++_}
+use lib.ListN.{length, getD}
 use Rattle.script.specs.Refusals.{numberOf, placeOf}
-use Rattle.script.specs.Answers.{Answer, value, refusal, Contents, contents}
+use Rattle.script.specs.Answers.{Answer, value, refusal, contents}
 use Rattle.script.specs.Outcomes.{Outcome}
-use Rattle.script.specs.Finding.{matchIn}
 use Rattle.script.specs.declared.command.Match.{Match}
 use Rattle.script.specs.declared.Finding.{Finding}
 use Rattle.script.specs.declared.Verdict.{Verdict}
-use Rattle.script.specs.declared.Script.{Script}
 
 -- ---- reading
 
-unfoldable pub heldIn : Script → ℕ → List Match
-heldIn r zero = []
-heldIn r (suc k) = heldIn r k ++ matchIn r k ∷ []
+pub data Counted : Type 0 where
+  counted : (p q count : ℕ) → Counted
 
-abbrev pub verdictAnswer : Verdict → Script → Answer Contents
-verdictAnswer (Verdict.Admitted p q count) r = value (contents p q (heldIn r count))
-verdictAnswer (Verdict.Refused f) r = refusal (numberOf f) (placeOf f)
+abbrev pub verdictAnswer : Verdict → Answer Counted
+verdictAnswer (Verdict.Admitted p q count) = value (counted p q count)
+verdictAnswer (Verdict.Refused f) = refusal (numberOf f) (placeOf f)
 
-abbrev pub scriptAnswer : Script → Answer Contents
-scriptAnswer r = verdictAnswer (r .verdict) r
+pub data ReadingOutcome (s : List ℕ) : Answer Counted → Type 0 where
+  -- 1 to 10: the script's own refusal
+  script-refused : {n place : ℕ} → Outcome s (refusal n place) → ReadingOutcome s (refusal n place)
+  -- no refusal: the lengths, and how many matches stand behind them
+  script-admitted :
+      {p q : ℕ} {ms : List Match} → Outcome s (value (contents p q ms))
+      → ReadingOutcome s (value (counted p q (length ms)))
 
--- how many matches the columns hold: of a refused script none
-abbrev pub countOf : Verdict → ℕ
-countOf (Verdict.Admitted p q count) = count
-countOf (Verdict.Refused f) = 0
-
-pub record BlankFrom (count : ℕ) (r : Script) : Type 0 where
-  pub left-a : drop count (r .«left_a») ≡ replicate (2048 - count) 0
-  pub left-b : drop count (r .«left_b») ≡ replicate (2048 - count) 0
-  pub letters : drop count (r .length) ≡ replicate (2048 - count) 0
-  pub reversed : drop count (r .reversed) ≡ replicate (2048 - count) false
-
-pub record ReadingDemand (s : List ℕ) (r : Script) : Type 0 where
+pub record ReadingDemand (s : List ℕ) (answer : Answer Counted) : Type 0 where
   -- the answer is an outcome whose condition is met ..
-  pub stated : Outcome s (scriptAnswer r)
+  pub stated : ReadingOutcome s answer
   -- .. and any outcome whose condition is met is the answer
-  pub alone : (a : Answer Contents) → Outcome s a → a ≡ scriptAnswer r
-  -- what stands past the last match is zero
-  pub blank : BlankFrom (countOf (r .verdict)) r
+  pub alone : (a : Answer Counted) → ReadingOutcome s a → a ≡ answer
+
+-- ---- reading into columns
+
+pub record ColumnDemand {X : Type 0} (s : List ℕ) (field : Match → X) (before after : List X) : Type 0 where
+  pub as-long : length after ≡ length before
+  -- a match with n others before it stands at n, if the column reaches so far
+  pub held :
+      {p q : ℕ} (others rest : List Match) (m : Match) → Outcome s (value (contents p q (others ++ m ∷ rest)))
+      → length others < length before → (blank : X) → getD after (length others) blank ≡ field m
+  -- past the last match each value is kept
+  pub past :
+      {p q : ℕ} {ms : List Match} → Outcome s (value (contents p q ms))
+      → (k : ℕ) → length ms ≤ k → (blank : X) → getD after k blank ≡ getD before k blank
+  -- and of a refused script all of them
+  pub refused : {n place : ℕ} → Outcome s (refusal n place) → after ≡ before
+
+-- each column before and after
+pub record ColumnsDemand (s a b d : List ℕ) (r : List Bool) (a′ b′ d′ : List ℕ) (r′ : List Bool) : Type 0 where
+  pub left-a : ColumnDemand s (λ m. m .«left_a») a a′
+  pub left-b : ColumnDemand s (λ m. m .«left_b») b b′
+  pub letters : ColumnDemand s (λ m. m .length) d d′
+  pub reversed : ColumnDemand s (λ m. m .reversed) r r′
 
 -- ---- finding
 

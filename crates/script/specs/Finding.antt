@@ -2,14 +2,11 @@
 --     findingOf r number     the match, or the refusal: the script's own, or "no such match"
 -- 01, "The script"; SCOPE, "Numbering": from 1, in the order of the script. Assumes nothing.
 use Prim.Native.Nat.{ℕ, zero, suc}
-use mathlib.Core.Bool.{false}
 use mathlib.Core.List.{List, [], _∷_}
-use lib.ListN.{getD}
 use Rattle.script.specs.Reading.{Reading, admitted, refused}
 use Rattle.script.specs.declared.refusal.Refusal.the-variants.{NoSuchMatch}
 use Rattle.script.specs.declared.command.Match.{Match}
 use Rattle.script.specs.declared.Finding.{Finding}
-use Rattle.script.specs.declared.Script.{Script}
 
 abbrev pub foundIn : List Match → ℕ → Finding
 foundIn [] number = Finding.Refused NoSuchMatch
@@ -20,13 +17,3 @@ foundIn (m ∷ ms) (suc (suc number)) = foundIn ms (suc number)
 abbrev pub findingOf : Reading → ℕ → Finding
 findingOf (refused r) number = Finding.Refused r
 findingOf (admitted p q ms) number = foundIn ms number
-
--- what stands at an index of the columns
-abbrev pub matchIn : Script → ℕ → Match
-matchIn r index =
-    record {
-      «left_a» = getD (r .«left_a») index 0;
-      «left_b» = getD (r .«left_b») index 0;
-      length = getD (r .length) index 0;
-      reversed = getD (r .reversed) index false;
-    }

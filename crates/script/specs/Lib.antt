@@ -6,4 +6,5 @@ pub mod Reading
 pub mod Answers
 pub mod Outcomes
 pub mod Finding
+pub mod Columns
 pub mod Demands

@@ -1,13 +1,11 @@
 -- What a string of bytes is as a script. TO READ: contracts mean what stands here.
 --     Reading          admitted with p, q and the matches in script order, or refused
 --     readScript s     the reading of the bytes s
---     scriptOf r       the reply that stands for a reading: the verdict beside the columns of the matches
+--     verdictOf r      the reply that stands for a reading: p, q and the count of matches, or the refusal
 -- 01, "The script". Assumes nothing.
-use Prim.Native.Nat.{ℕ, zero, suc, _+_, _-_}
-use mathlib.Core.Bool.{false}
-use mathlib.Core.List.{List, [], _∷_, _++_, map}
-use lib.ListN.{length, drop, replicate}
-use Rattle.script.specs.Limits.{mostMatches}
+use Prim.Native.Nat.{ℕ, zero, suc, _+_}
+use mathlib.Core.List.{List, [], _∷_, _++_}
+use lib.ListN.{length, drop}
 use Rattle.script.specs.Commands.{lengthsWidth, matchWidth, commandOf}
 use Rattle.script.specs.Steps.{openingOf, stepOf}
 use Rattle.script.specs.declared.refusal.Refusal.{Refusal}
@@ -16,7 +14,6 @@ use Rattle.script.specs.declared.command.Match.{Match}
 use Rattle.script.specs.declared.step.Opening.{Opening}
 use Rattle.script.specs.declared.step.Step.{Step}
 use Rattle.script.specs.declared.Verdict.{Verdict}
-use Rattle.script.specs.declared.Script.{Script}
 
 -- SCOPE, "Admitted" and "Numbering": by no fault in the bytes; the matches stand in the order of the script
 pub data Reading : Type 0 where
@@ -47,21 +44,7 @@ readScript s =
     afterOpening (openingOf (commandOf s))
     (λ p q. readFrom (length s) p q lengthsWidth [] (drop lengthsWidth s))
 
--- a column of the reply: one field of each match, and blanks past the last
-abbrev pub column : {X : Type 0} → X → (Match → X) → List Match → List X
-column blank field ms = map field ms ++ replicate (mostMatches - length ms) blank
-
-abbrev pub scriptWith : Verdict → List Match → Script
-scriptWith v ms =
-    record {
-      verdict = v;
-      «left_a» = column 0 (λ m. m .«left_a») ms;
-      «left_b» = column 0 (λ m. m .«left_b») ms;
-      length = column 0 (λ m. m .length) ms;
-      reversed = column false (λ m. m .reversed) ms;
-    }
-
--- what the reader returns: of a refused script no match
-abbrev pub scriptOf : Reading → Script
-scriptOf (admitted p q ms) = scriptWith (Verdict.Admitted p q (length ms)) ms
-scriptOf (refused r) = scriptWith (Verdict.Refused r) []
+-- what the reader returns. SCOPE, "Numbering": the last match has the number that is their count
+abbrev pub verdictOf : Reading → Verdict
+verdictOf (admitted p q ms) = Verdict.Admitted p q (length ms)
+verdictOf (refused r) = Verdict.Refused r

@@ -5,7 +5,7 @@ use crate::command::MATCH_WIDTH;
 // The longest sequence, in letters.
 pub const LONGEST: u32 = 1_000_000_000;
 
-// The most matches of a script, and so the length of a column.
+// The most matches of a script.
 pub const MOST_MATCHES: usize = 2048;
 
 // The longest admitted script, in bytes: lengths, the most matches, end.

@@ -11,38 +11,41 @@ use mathlib.Core.Logic.{_↔_, ite}
 use mathlib.Core.Bool.{Bool, true, false, true≢false, cond}
 use mathlib.Core.List.{List, [], _∷_, _++_, map, filter}
 use native.Mathlib.Omega.{arith}
-use lib.ListN.{length, getD}
+use lib.ListN.{length}
 use Rattle.refinement.specs.declared.Side.{Side}
 use Rattle.refinement.specs.declared.Side.the-variants.{A, B}
 use Rattle.refinement.specs.Order.{_∈_, Distinct}
 use Rattle.refinement.specs.Match.{Match, left, place, Spans, spanned}
 use Rattle.refinement.specs.Cut.{Cut}
 use Rattle.refinement.specs.Refinement.{CutOf, ResolvedRefinement}
-use Rattle.refinement.specs.Least.{spans?, leastTable}
+use Rattle.refinement.specs.Least.{spans?}
 use Rattle.refinement.proofs.Lists.{∈-filter, ∈-unfilter, rising-filter}
 use Rattle.refinement.proofs.Geometry.{spanned-iff}
 use Rattle.refinement.proofs.Resolved.{has-cut}
 use Rattle.refinement.proofs.Count.{total, two-per-row, hits-bound, hits-all}
 use Rattle.refinement.proofs.Theorem.{table-resolved, table-cuts}
-use Rattle.refining.specs.Columns.{Fit, upFrom, matchAt, matchesOf}
+use Rattle.refining.specs.Columns.{Columns, seenFrom, countOf, fromAt, lettersAt, Fit, upFrom, matchAt, matchesOf}
+use Rattle.refining.specs.Refining.{heldIn, leastOf}
 use Rattle.carrying_match.specs.OneMatch.{hitsOn, Overflow}
 use Rattle.carrying_cuts.specs.Worker.{hitsOver}
-use Rattle.stepping.specs.Engine.{at, leftsOn}
+use Rattle.stepping.specs.Engine.{CutOn}
 use Rattle.refining.specs.Demands.{EveryExceeds}
 use Rattle.stepping.proofs.Indexed.{matches-length, matches-good, placed, alone}
 
-pub hits-none : (f d : List ℕ) (n : ℕ) → hitsOver f d n [] ≡ 0
-hits-none f d zero = refl
-hits-none f d (suc k) = omega (arith, hits-none f d k)
+pub hits-none : (columns : Columns) (n : ℕ) → hitsOver columns n [] ≡ 0
+hits-none columns zero = refl
+hits-none columns (suc k) = omega (arith, hits-none columns k)
 
 on-append : (i d : ℕ) (xs ys : List ℕ) → hitsOn i d (xs ++ ys) ≡ hitsOn i d xs + hitsOn i d ys
 on-append i d [] ys = omega arith
 on-append i d (x ∷ xs) ys = omega (arith, on-append i d xs ys)
 
 pub hits-append :
-    (f d : List ℕ) (n : ℕ) (xs ys : List ℕ) → hitsOver f d n (xs ++ ys) ≡ hitsOver f d n xs + hitsOver f d n ys
-hits-append f d zero xs ys = refl
-hits-append f d (suc k) xs ys = omega (arith, hits-append f d k xs ys, on-append (getD f k 0) (getD d k 0) xs ys)
+    (columns : Columns) (n : ℕ) (xs ys : List ℕ)
+    → hitsOver columns n (xs ++ ys) ≡ hitsOver columns n xs + hitsOver columns n ys
+hits-append columns zero xs ys = refl
+hits-append columns (suc k) xs ys =
+    omega (arith, hits-append columns k xs ys, on-append (fromAt columns k) (lettersAt columns k) xs ys)
 
 -- the hits of one match, as the theory counts them
 hits-filter : (m : Match) (u : Side) (xs : List ℕ) → hitsOn (left m u) (m .length) xs ≡ length (filter (spans? m u) xs)
@@ -60,101 +63,105 @@ hits-filter m u (x ∷ xs) =
     go (no n) true e h = absurd (n (spanned-iff m u x .0 e))
     go (no n) false e h = omega arith
 
-module _ (a b d : List ℕ) (r : List Bool) where
+module _ (columns : Columns) where
   hits-at :
       (u : Side) (xs : List ℕ) (k : ℕ)
-      → hitsOn (getD (leftsOn u a b) k 0) (getD d k 0) xs ≡ length (filter (spans? (matchAt a b d r k) u) xs)
-  hits-at A xs k = hits-filter (matchAt a b d r k) A xs
-  hits-at B xs k = hits-filter (matchAt a b d r k) B xs
+      → hitsOn (fromAt (seenFrom u columns) k) (lettersAt columns k) xs
+      ≡ length (filter (spans? (matchAt columns k) u) xs)
+  hits-at A xs k = hits-filter (matchAt columns k) A xs
+  hits-at B xs k = hits-filter (matchAt columns k) B xs
 
   hits-from :
       (u : Side) (xs : List ℕ) (n count : ℕ)
-      → hitsOver (leftsOn u a b) d (n + count) xs
-      ≡ hitsOver (leftsOn u a b) d n xs
-      + total (λ m. length (filter (spans? m u) xs)) (map (matchAt a b d r) (upFrom n count))
+      → hitsOver (seenFrom u columns) (n + count) xs
+      ≡ hitsOver (seenFrom u columns) n xs
+      + total (λ m. length (filter (spans? m u) xs)) (map (matchAt columns) (upFrom n count))
   unfolding upFrom
-  hits-from u xs n zero = omega (arith, ap (λ j. hitsOver (leftsOn u a b) d j xs) same)
+  hits-from u xs n zero = omega (arith, ap (λ j. hitsOver (seenFrom u columns) j xs) same)
     where
       same : n + 0 ≡ n
       same = omega arith
   hits-from u xs n (suc count) =
-      omega (arith, ap (λ j. hitsOver (leftsOn u a b) d j xs) same, hits-from u xs (suc n) count, hits-at u xs n)
+      omega (arith, ap (λ j. hitsOver (seenFrom u columns) j xs) same, hits-from u xs (suc n) count, hits-at u xs n)
     where
       same : n + suc count ≡ suc n + count
       same = omega arith
 
   hits-total :
       (u : Side) (xs : List ℕ)
-      → hitsOver (leftsOn u a b) d (length d) xs ≡ total (λ m. length (filter (spans? m u) xs)) (matchesOf a b d r)
+      → hitsOver (seenFrom u columns) (countOf columns) xs
+      ≡ total (λ m. length (filter (spans? m u) xs)) (matchesOf columns)
   unfolding matchesOf
-  hits-total u xs = omega (arith, ap (λ j. hitsOver (leftsOn u a b) d j xs) same, hits-from u xs 0 (length d))
+  hits-total u xs = omega (arith, ap (λ j. hitsOver (seenFrom u columns) j xs) same, hits-from u xs 0 (countOf columns))
     where
-      same : 0 + length d ≡ length d
+      same : 0 + countOf columns ≡ countOf columns
       same = omega arith
 
-  module _ (fit : Fit a b d r) where
+  module _ (fit : Fit columns) where
     pub hits-most :
-        {rs : List Match} → ResolvedRefinement (matchesOf a b d r) [] rs → (u : Side) (xs : List ℕ) → Distinct xs
-        → ((x : ℕ) → x ∈ xs → Cut (matchesOf a b d r) [] (at u x))
-        → hitsOver (leftsOn u a b) d (length d) xs ≤ length rs + length d
+        {rs : List Match} → ResolvedRefinement (matchesOf columns) (heldIn columns .marks) rs
+        → (u : Side) (xs : List ℕ) → Distinct xs
+        → ((x : ℕ) → x ∈ xs → CutOn (heldIn columns) u x)
+        → hitsOver (seenFrom u columns) (countOf columns) xs ≤ length rs + countOf columns
     hits-most {rs} R u xs once cuts =
-        let M = matches-good a b d r fit in
+        let M = matches-good columns fit in
         omega (
           arith,
           hits-total u xs,
-          matches-length a b d r,
+          matches-length columns,
           hits-bound M R u (λ m. filter (spans? m u) xs) (λ m i. rising-filter (spans? m u) _ xs once)
               (λ m i x j.
               let t = ∈-unfilter (spans? m u) xs j in
-              (t .1, subst (CutOf rs) (sym (placed a b d r i u x)) (has-cut M R (cuts x (t .0))))),
+              (t .1, subst (CutOf rs) (sym (placed columns i u x)) (has-cut M R (cuts x (t .0))))),
         )
 
     pub hits-whole :
-        (u : Side) (xs : List ℕ) → Distinct xs → ((x : ℕ) → (x ∈ xs) ↔ Cut (matchesOf a b d r) [] (at u x))
-        → hitsOver (leftsOn u a b) d (length d) xs ≡ length (leastTable (matchesOf a b d r) []) + length d
+        (u : Side) (xs : List ℕ) → Distinct xs → ((x : ℕ) → (x ∈ xs) ↔ CutOn (heldIn columns) u x)
+        → hitsOver (seenFrom u columns) (countOf columns) xs ≡ length (leastOf (heldIn columns)) + countOf columns
     hits-whole u xs once cuts =
-        let ms = matchesOf a b d r in
-        let M = matches-good a b d r fit in
+        let g = heldIn columns in
+        let M = matches-good columns fit in
         omega (
           arith,
           hits-total u xs,
-          matches-length a b d r,
-          hits-all M (table-resolved ms [] M) u (λ m. filter (spans? m u) xs)
+          matches-length columns,
+          hits-all M (table-resolved (g .matches) (g .marks) M) u (λ m. filter (spans? m u) xs)
               (λ m i. rising-filter (spans? m u) _ xs once)
               (λ m i x. (
                 λ j.
                     let t = ∈-unfilter (spans? m u) xs j in (
                       t .1,
-                      table-cuts ms [] M (place m u x) .1
-                          (subst (Cut ms []) (sym (placed a b d r i u x)) (cuts x .0 (t .0))),
+                      table-cuts (g .matches) (g .marks) M (place m u x) .1
+                          (subst (Cut (g .matches) (g .marks)) (sym (placed columns i u x)) (cuts x .0 (t .0))),
                     ),
                 λ t.
                     ∈-filter (spans? m u)
-                    (cuts x .1 (subst (Cut ms []) (placed a b d r i u x) (table-cuts ms [] M (place m u x) .0 (t .1))))
+                    (cuts x .1 (subst (Cut (g .matches) (g .marks)) (placed columns i u x)
+                    (table-cuts (g .matches) (g .marks) M (place m u x) .0 (t .1))))
                     (t .0),
               )),
         )
 
     pub hits-exceed :
         {cap : ℕ} (u : Side) (xs : List ℕ) → Distinct xs
-        → ((x : ℕ) → x ∈ xs → Cut (matchesOf a b d r) [] (at u x))
-        → cap + length d < hitsOver (leftsOn u a b) d (length d) xs → EveryExceeds (matchesOf a b d r) cap
+        → ((x : ℕ) → x ∈ xs → CutOn (heldIn columns) u x)
+        → cap + countOf columns < hitsOver (seenFrom u columns) (countOf columns) xs → EveryExceeds (heldIn columns) cap
     hits-exceed u xs once cuts more rs R = omega (arith, hits-most R u xs once cuts)
 
     pub overflow-exceeds :
         {cap places : ℕ} {Q : ℕ → Type 0} (u : Side) → places ≡ 2 * cap → Overflow Q places
-        → ((x : ℕ) → Q x → Cut (matchesOf a b d r) [] (at u x)) → EveryExceeds (matchesOf a b d r) cap
+        → ((x : ℕ) → Q x → CutOn (heldIn columns) u x) → EveryExceeds (heldIn columns) cap
     overflow-exceeds {cap} A e o cuts rs R =
         omega (
           arith,
           o .more,
-          two-per-row (R .refines) 0 (alone a b d r 0) (o .numbers) (o .distinct)
-              (λ x i. has-cut (matches-good a b d r fit) R (cuts x (o .all x i))),
+          two-per-row (R .refines) 0 (alone columns 0) (o .numbers) (o .distinct)
+              (λ x i. has-cut (matches-good columns fit) R (cuts x (o .all x i))),
         )
     overflow-exceeds {cap} B e o cuts rs R =
         omega (
           arith,
           o .more,
-          two-per-row (R .refines) 1 (alone a b d r 1) (o .numbers) (o .distinct)
-              (λ x i. has-cut (matches-good a b d r fit) R (cuts x (o .all x i))),
+          two-per-row (R .refines) 1 (alone columns 1) (o .numbers) (o .distinct)
+              (λ x i. has-cut (matches-good columns fit) R (cuts x (o .all x i))),
         )

@@ -11,21 +11,22 @@
 use Prim.Native.Nat.{ℕ, zero, suc, _+_, _≤_, _<_}
 use mathlib.Core.Path.{_≡_, refl, sym, ap, subst, _∙_}
 use mathlib.Core.Logic.{_↔_, ⊎-elim}
-use mathlib.Core.Bool.{Bool, true, false}
-use mathlib.Core.List.{List, _∷_, List·Memᴰ·cases-cons, List·Memᴰ·not-nil, Memᴰ·map, Memᴰ·of-map}
+use mathlib.Core.Bool.{true}
+use mathlib.Core.List.{_∷_, List·Memᴰ·cases-cons, List·Memᴰ·not-nil, Memᴰ·map, Memᴰ·of-map}
 use mathlib.Core.List.{List·Memᴰ·head as here, List·Memᴰ·tail as there}
 use native.Mathlib.Omega.{arith}
 use native.Mathlib.Decide.{ℕ-discrete}
-use lib.ListN.{length, getD, length-map}
+use lib.ListN.{length, length-map}
 use Rattle.refinement.specs.declared.Side.{Side}
 use Rattle.refinement.specs.declared.Side.the-variants.{A, B}
 use Rattle.refinement.specs.Order.{_∈_, Rising}
-use Rattle.refinement.specs.Match.{Match, other, track, place, Spans, spanned, carryOver, carry}
+use Rattle.refinement.specs.Match.{Match, track, place, Spans, spanned, carryOver, carry}
 use Rattle.refinement.specs.Refinement.{Matches}
 use Rattle.refinement.proofs.Geometry.{spanned-iff}
 use Rattle.refinement.proofs.Lists.{rising-map}
-use Rattle.refining.specs.Columns.{Fit, upFrom, matchAt, matchesOf}
-use Rattle.stepping.specs.Engine.{at, leftsOn}
+use Rattle.refining.specs.Columns.{Columns, seenFrom, countOf, fromAt, toAt, lettersAt, wayAt, Fit, upFrom}
+use Rattle.refining.specs.Columns.{matchAt, matchesOf}
+use Rattle.stepping.specs.Engine.{at}
 
 pub upFrom-∈ : (n count : ℕ) {k : ℕ} → k ∈ upFrom n count → (n ≤ k) × (k < n + count)
 unfolding upFrom
@@ -52,7 +53,7 @@ unfolding upFrom
 length-upFrom n zero = refl
 length-upFrom n (suc count) = ap suc (length-upFrom (suc n) count)
 
-pub fit-other : {a b d : List ℕ} {r : List Bool} → Fit a b d r → Fit b a d r
+pub fit-other : {columns : Columns} → Fit columns → Fit (seenFrom B columns)
 fit-other f = record {
   from-length = f .to-length;
   to-length = f .from-length;
@@ -62,36 +63,36 @@ fit-other f = record {
   to-fits = f .from-fits;
 }
 
-module _ (a b d : List ℕ) (r : List Bool) where
-  pub ∈-matches : {k : ℕ} → k < length d → matchAt a b d r k ∈ matchesOf a b d r
+module _ (columns : Columns) where
+  pub ∈-matches : {k : ℕ} → k < countOf columns → matchAt columns k ∈ matchesOf columns
   unfolding matchesOf
-  ∈-matches h = Memᴰ·map (matchAt a b d r) (∈-upFrom 0 (length d) (omega arith) (omega arith))
+  ∈-matches h = Memᴰ·map (matchAt columns) (∈-upFrom 0 (countOf columns) (omega arith) (omega arith))
 
-  pub matches-∈ : {m : Match} → m ∈ matchesOf a b d r → (k : ℕ) × (k < length d) × (matchAt a b d r k ≡ m)
+  pub matches-∈ : {m : Match} → m ∈ matchesOf columns → (k : ℕ) × (k < countOf columns) × (matchAt columns k ≡ m)
   unfolding matchesOf
   matches-∈ i =
-      let t = Memᴰ·of-map (matchAt a b d r) (upFrom 0 (length d)) i in
-      (t .0, omega (arith, upFrom-∈ 0 (length d) (t .1)), t .2)
+      let t = Memᴰ·of-map (matchAt columns) (upFrom 0 (countOf columns)) i in
+      (t .0, omega (arith, upFrom-∈ 0 (countOf columns) (t .1)), t .2)
 
-  pub matches-length : length (matchesOf a b d r) ≡ length d
+  pub matches-length : length (matchesOf columns) ≡ countOf columns
   unfolding matchesOf
-  matches-length = length-map (upFrom 0 (length d)) (matchAt a b d r) ∙ length-upFrom 0 (length d)
+  matches-length = length-map (upFrom 0 (countOf columns)) (matchAt columns) ∙ length-upFrom 0 (countOf columns)
 
-  pub matches-good : Fit a b d r → Matches (matchesOf a b d r)
+  pub matches-good : Fit columns → Matches (matchesOf columns)
   unfolding matchesOf
   matches-good f = record {
     lettered = λ m i.
         let t = matches-∈ i in subst (λ (z : Match). 1 ≤ z .length) (t .2) (f .lettered (t .0) (t .1));
     numbered =
-        rising-map _<_ (λ m m′. m .number < m′ .number) (matchAt a b d r) (upFrom 0 (length d))
-        (λ j k _ _ l. omega arith) (rising-upFrom 0 (length d));
+        rising-map _<_ (λ m m′. m .number < m′ .number) (matchAt columns) (upFrom 0 (countOf columns))
+        (λ j k _ _ l. omega arith) (rising-upFrom 0 (countOf columns));
   }
 
-  pub placed : {m : Match} → m ∈ matchesOf a b d r → (u : Side) (h : ℕ) → place m u h ≡ at u h
+  pub placed : {m : Match} → m ∈ matchesOf columns → (u : Side) (h : ℕ) → place m u h ≡ at u h
   placed i A h = ap (λ (z : Match). place z A h) (sym (matches-∈ i .2))
   placed i B h = ap (λ (z : Match). place z B h) (sym (matches-∈ i .2))
 
-  pub alone : (t : ℕ) (m : Match) → m ∈ matchesOf a b d r → ¬ ((track m A ≡ t) × (track m B ≡ t))
+  pub alone : (t : ℕ) (m : Match) → m ∈ matchesOf columns → ¬ ((track m A ≡ t) × (track m B ≡ t))
   alone t m i e =
       let p = matches-∈ i .2 in
       let f : 0 ≡ track m A = ap (λ (z : Match). track z A) p in
@@ -100,13 +101,13 @@ module _ (a b d : List ℕ) (r : List Bool) where
 
   pub index-spans :
       (u : Side) (k x : ℕ)
-      → (spanned (getD (leftsOn u a b) k 0) (getD d k 0) x ≡ true) ↔ Spans (matchAt a b d r k) u x
-  index-spans A k x = spanned-iff (matchAt a b d r k) A x
-  index-spans B k x = spanned-iff (matchAt a b d r k) B x
+      → (spanned (fromAt (seenFrom u columns) k) (lettersAt columns k) x ≡ true) ↔ Spans (matchAt columns k) u x
+  index-spans A k x = spanned-iff (matchAt columns k) A x
+  index-spans B k x = spanned-iff (matchAt columns k) B x
 
   pub index-carry :
       (u : Side) (k x : ℕ)
-      → carryOver (getD r k false) (getD (leftsOn u a b) k 0) (getD (leftsOn (other u) a b) k 0) (getD d k 0) x
-      ≡ carry (matchAt a b d r k) u x
+      → carryOver (wayAt columns k) (fromAt (seenFrom u columns) k) (toAt (seenFrom u columns) k) (lettersAt columns k)
+      x ≡ carry (matchAt columns k) u x
   index-carry A k x = refl
   index-carry B k x = refl

@@ -10,10 +10,8 @@
 use Prim.Native.Nat.{ℕ, _+_, _-_, _*_, _≤_, _<_}
 use mathlib.Core.Path.{_≡_, sym, ap, subst, _∙_}
 use mathlib.Core.Logic.{_↔_, ⊎-elim, _≢_}
-use mathlib.Core.Bool.{Bool}
-use mathlib.Core.List.{List, [], _++_, List·Memᴰ·append-cases, Memᴰ·append-left, Memᴰ·append-right}
+use mathlib.Core.List.{List, _++_, List·Memᴰ·append-cases, Memᴰ·append-left, Memᴰ·append-right}
 use native.Mathlib.Omega.{arith}
-use lib.ListN.{length}
 use Rattle.refinement.specs.declared.Side.{Side}
 use Rattle.refinement.specs.declared.Side.the-variants.{A, B}
 use Rattle.refinement.specs.Order.{_∈_, Distinct}
@@ -21,13 +19,14 @@ use Rattle.refinement.specs.Match.{Match, other, Spans, carry}
 use Rattle.refinement.specs.Cut.{Cut, carried}
 use Rattle.refinement.proofs.Lists.{rising-append, rising-weaken}
 use Rattle.runs.specs.Runs.{In}
-use Rattle.cut_set.specs.Store.{Good, Member, Finished, Found}
+use Rattle.cut_set.specs.Store.{Good, Member, Finished, Found, NothingFound}
 use Rattle.cut_set.specs.declared.CutSet.{CutSet}
 use Rattle.runs.proofs.Membership.{in-parts}
-use Rattle.refining.specs.Columns.{Fit, matchAt, matchesOf}
+use Rattle.refining.specs.Columns.{Columns, seenFrom, countOf, Fit, matchAt, matchesOf}
+use Rattle.refining.specs.Refining.{heldIn}
 use Rattle.carrying_match.specs.OneMatch.{before, behind, Ready, TooMuch, crowded, excess}
 use Rattle.carrying_cuts.specs.Worker.{Images, hitsOver, Listed, Turned, TurnedTooMany}
-use Rattle.stepping.specs.Engine.{at, setOn, hitsAt, leftsOn, Counted, Open, unused, Stepped}
+use Rattle.stepping.specs.Engine.{at, CutOn, setOn, hitsAt, Counted, Open, unused, Stepped}
 use Rattle.refining.specs.Demands.{EveryExceeds}
 use Rattle.stepping.specs.declared.Cuts.{Cuts}
 use Rattle.stepping.specs.declared.Closing.{Closing}
@@ -58,24 +57,24 @@ less-unused :
 less-unused A c c′ l e h f = omega (arith, l A, l B)
 less-unused B c c′ l e h f = omega (arith, l A, l B)
 
-module _ {a b d : List ℕ} {r : List Bool} {cap : ℕ} {xs : List ℕ} {c : Cuts} {s : Side}
-    (o : Open a b d r cap xs c s) where
+module _ {columns : Columns} {cap : ℕ} {xs : List ℕ} {c : Cuts} {s : Side}
+    (o : Open columns cap xs c s) where
   room : (u : Side) → setOn u c .limit - setOn u c .base ≡ 2 * cap
   room A = omega (arith, o .a-base, o .a-limit)
   room B = omega (arith, o .b-base, o .b-limit)
 
   image-cut :
-      {y : ℕ} → Images (leftsOn s a b) (leftsOn (other s) a b) d r (length d) (Found xs (setOn s c)) y
-      → Cut (matchesOf a b d r) [] (at (other s) y)
+      {y : ℕ} → Images (seenFrom s columns) (countOf columns) (Found xs (setOn s c)) y
+      → CutOn (heldIn columns) (other s) y
   image-cut {y} p =
-      let ms = matchesOf a b d r in
-      let m = matchAt a b d r (p .index) in
-      let i = ∈-matches a b d r (p .below) in
-      let spans = index-spans a b d r s (p .index) (p .x) .0 (p .image .spans) in
-      let is : y ≡ carry m s (p .x) = p .image .is ∙ index-carry a b d r s (p .index) (p .x) in
+      let g = heldIn columns in
+      let m = matchAt columns (p .index) in
+      let i = ∈-matches columns (p .below) in
+      let spans = index-spans columns s (p .index) (p .x) .0 (p .image .spans) in
+      let is : y ≡ carry m s (p .x) = p .image .is ∙ index-carry columns s (p .index) (p .x) in
       let from = o .sound s (p .x) (found-member (o .good s) (p .carried)) in
-      subst (Cut ms []) (placed a b d r i (other s) (carry m s (p .x)) ∙ ap (at (other s)) (sym is))
-      (carried i spans (subst (Cut ms []) (sym (placed a b d r i s (p .x))) from))
+      subst (Cut (g .matches) (g .marks)) (placed columns i (other s) (carry m s (p .x)) ∙ ap (at (other s)) (sym is))
+      (carried i spans (subst (Cut (g .matches) (g .marks)) (sym (placed columns i s (p .x))) from))
 
   module _ {ns : List ℕ} (l : Listed xs (setOn s c) ns) where
     -- the cuts carried so far and those of the turn
@@ -97,37 +96,37 @@ module _ {a b d : List ℕ} {r : List Bool} {cap : ℕ} {xs : List ℕ} {c : Cut
     )
 
     all-hits :
-        hitsAt s c + hitsOver (leftsOn s a b) d (length d) ns
-        ≡ hitsOver (leftsOn s a b) d (length d) (o .counted s .carried ++ ns)
+        hitsAt s c + hitsOver (seenFrom s columns) (countOf columns) ns
+        ≡ hitsOver (seenFrom s columns) (countOf columns) (o .counted s .carried ++ ns)
     all-hits =
         omega (
           arith,
           o .counted s .hits-are,
-          hits-append (leftsOn s a b) d (length d) (o .counted s .carried) ns,
+          hits-append (seenFrom s columns) (countOf columns) (o .counted s .carried) ns,
         )
 
   pub too-many :
-      Fit a b d r
-      → TurnedTooMany (leftsOn s a b) (leftsOn (other s) a b) d r xs (setOn s c) (setOn (other s) c) (hitsAt s c)
-      (cap + length d)
-      → EveryExceeds (matchesOf a b d r) cap
+      Fit columns
+      → TurnedTooMany (seenFrom s columns) xs (setOn s c) (setOn (other s) c) (hitsAt s c)
+      (cap + countOf columns)
+      → EveryExceeds (heldIn columns) cap
   too-many fit t = go (t .why)
     where
       go :
           TooMuch xs (setOn (other s) c)
-          (Images (leftsOn s a b) (leftsOn (other s) a b) d r (length d) (Found xs (setOn s c)))
-          (hitsAt s c + hitsOver (leftsOn s a b) d (length d) (t .found)) (cap + length d)
-          → EveryExceeds (matchesOf a b d r) cap
+          (Images (seenFrom s columns) (countOf columns) (Found xs (setOn s c)))
+          (hitsAt s c + hitsOver (seenFrom s columns) (countOf columns) (t .found)) (cap + countOf columns)
+          → EveryExceeds (heldIn columns) cap
       go (crowded v) =
-          overflow-exceeds a b d r fit (other s) (room (other s)) v (λ y. ⊎-elim (o .sound (other s) y) image-cut)
+          overflow-exceeds columns fit (other s) (room (other s)) v (λ y. ⊎-elim (o .sound (other s) y) image-cut)
       go (excess v) =
-          hits-exceed a b d r fit s (o .counted s .carried ++ t .found) (all-once (t .listed))
+          hits-exceed columns fit s (o .counted s .carried ++ t .found) (all-once (t .listed))
           (λ x i. o .sound s x (all-members (t .listed) x .0 i)) (omega (arith, all-hits (t .listed)))
 
   module _ (c′ : Cuts) {ys : List ℕ}
       (t :
-      Turned (leftsOn s a b) (leftsOn (other s) a b) d r xs (setOn s c) (setOn (other s) c) (hitsAt s c)
-      (cap + length d) ys (setOn s c′) (setOn (other s) c′) (hitsAt s c′))
+      Turned (seenFrom s columns) xs (setOn s c) (setOn (other s) c) (hitsAt s c)
+      (cap + countOf columns) ys (setOn s c′) (setOn (other s) c′) (hitsAt s c′))
     where
       base-same : (u : Side) → setOn u c′ .base ≡ setOn u c .base
       base-same =
@@ -147,36 +146,36 @@ module _ {a b d : List ℕ} {r : List Bool} {cap : ℕ} {xs : List ℕ} {c : Cut
       was : (x : ℕ) → Finished ys (setOn s c′) x → Member xs (setOn s c) x
       was x p = t .from-kept .kept .members x .0 (finished-member (t .from-kept .kept .good) p)
 
-      sound : (u : Side) (x : ℕ) → Member ys (setOn u c′) x → Cut (matchesOf a b d r) [] (at u x)
+      sound : (u : Side) (x : ℕ) → Member ys (setOn u c′) x → CutOn (heldIn columns) u x
       sound =
-          both (λ u. (x : ℕ) → Member ys (setOn u c′) x → Cut (matchesOf a b d r) [] (at u x)) s
+          both (λ u. (x : ℕ) → Member ys (setOn u c′) x → CutOn (heldIn columns) u x) s
           (λ x p. o .sound s x (t .from-kept .kept .members x .0 p))
           (λ x p.
           ⊎-elim (o .sound (other s) x) image-cut
           (members-come (o .good (other s)) (t .stored .good) (t .stored .finished) (t .stored .only) p))
 
       carry-image :
-          {m : Match} → m ∈ matchesOf a b d r → (x : ℕ) → Spans m s x → Found xs (setOn s c) x
-          → Images (leftsOn s a b) (leftsOn (other s) a b) d r (length d) (Found xs (setOn s c)) (carry m s x)
+          {m : Match} → m ∈ matchesOf columns → (x : ℕ) → Spans m s x → Found xs (setOn s c) x
+          → Images (seenFrom s columns) (countOf columns) (Found xs (setOn s c)) (carry m s x)
       carry-image i x h f =
-          let v = matches-∈ a b d r i in record {
+          let v = matches-∈ columns i in record {
             index = v .0;
             below = v .1;
             x = x;
             carried = f;
             image = record {
-              spans = index-spans a b d r s (v .0) x .1 (subst (λ (z : Match). Spans z s x) (sym (v .2)) h);
-              is = ap (λ (z : Match). carry z s x) (sym (v .2)) ∙ sym (index-carry a b d r s (v .0) x);
+              spans = index-spans columns s (v .0) x .1 (subst (λ (z : Match). Spans z s x) (sym (v .2)) h);
+              is = ap (λ (z : Match). carry z s x) (sym (v .2)) ∙ sym (index-carry columns s (v .0) x);
             };
           }
 
       closed :
-          (u : Side) (m : Match) → m ∈ matchesOf a b d r → (x : ℕ) → Spans m u x → Finished ys (setOn u c′) x
+          (u : Side) (m : Match) → m ∈ matchesOf columns → (x : ℕ) → Spans m u x → Finished ys (setOn u c′) x
           → Member ys (setOn (other u) c′) (carry m u x)
       closed =
           both
           (λ u.
-          (m : Match) → m ∈ matchesOf a b d r → (x : ℕ) → Spans m u x → Finished ys (setOn u c′) x
+          (m : Match) → m ∈ matchesOf columns → (x : ℕ) → Spans m u x → Finished ys (setOn u c′) x
           → Member ys (setOn (other u) c′) (carry m u x))
           s
           (λ m i x h p.
@@ -185,7 +184,7 @@ module _ {a b d : List ℕ} {r : List Bool} {cap : ℕ} {xs : List ℕ} {c : Cut
           (λ m i x h p.
           kept (other (other s)) (carry m (other s) x) (o .closed (other s) m i x h (t .stored .finished x .0 p)))
 
-      counted-turn : Counted (leftsOn s a b) d ys (setOn s c′) (hitsAt s c′)
+      counted-turn : Counted (seenFrom s columns) ys (setOn s c′) (hitsAt s c′)
       counted-turn =
           let l = t .listed in record {
             carried = o .counted s .carried ++ t .found;
@@ -201,7 +200,7 @@ module _ {a b d : List ℕ} {r : List Bool} {cap : ℕ} {xs : List ℕ} {c : Cut
 
       counted-other :
           hitsAt (other s) c′ ≡ hitsAt (other s) c
-          → Counted (leftsOn (other s) a b) d ys (setOn (other s) c′) (hitsAt (other s) c′)
+          → Counted (seenFrom (other s) columns) ys (setOn (other s) c′) (hitsAt (other s) c′)
       counted-other same =
           let k = o .counted (other s) in record {
             carried = k .carried;
@@ -213,7 +212,7 @@ module _ {a b d : List ℕ} {r : List Bool} {cap : ℕ} {xs : List ℕ} {c : Cut
             hits-are = same ∙ k .hits-are;
           }
 
-      pub turned-open : hitsAt (other s) c′ ≡ hitsAt (other s) c → Open a b d r cap ys c′ (other s)
+      pub turned-open : hitsAt (other s) c′ ≡ hitsAt (other s) c → Open columns cap ys c′ (other s)
       turned-open same = record {
         good = both (λ u. Good ys (setOn u c′)) s (t .from-kept .kept .good) (t .stored .good);
         a-base = base-same A ∙ o .a-base;
@@ -225,8 +224,8 @@ module _ {a b d : List ℕ} {r : List Bool} {cap : ℕ} {xs : List ℕ} {c : Cut
         closed = closed;
         settled = back (λ u. setOn u c′ .done ≡ setOn u c′ .used) s (t .from-kept .all);
         counted =
-            both (λ u. Counted (leftsOn u a b) d ys (setOn u c′) (hitsAt u c′)) s counted-turn (counted-other same);
-        few = both (λ u. hitsAt u c′ ≤ cap + length d) s (t .few) (omega (arith, o .few (other s)));
+            both (λ u. Counted (seenFrom u columns) ys (setOn u c′) (hitsAt u c′)) s counted-turn (counted-other same);
+        few = both (λ u. hitsAt u c′ ≤ cap + countOf columns) s (t .few) (omega (arith, o .few (other s)));
       }
 
       pub turned-less : ¬ (setOn (other s) c′ .done ≡ setOn (other s) c′ .used) → unused c′ < unused c
@@ -236,7 +235,7 @@ module _ {a b d : List ℕ} {r : List Bool} {cap : ℕ} {xs : List ℕ} {c : Cut
           (omega (arith, more, o .settled, t .stored .done-same, g .found-long .order, g .found-short .order)) (g .room)
 
 pub turn-ready :
-    {a b d : List ℕ} {r : List Bool} {cap : ℕ} {xs : List ℕ} {c : Cuts} (s : Side) → Open a b d r cap xs c s
+    {columns : Columns} {cap : ℕ} {xs : List ℕ} {c : Cuts} (s : Side) → Open columns cap xs c s
     → Ready xs (setOn s c) (setOn (other s) c)
 turn-ready A o = record {
   from-good = o .good A;
@@ -249,10 +248,10 @@ turn-ready B o = record {
   apart = behind (omega (arith, o .a-limit, o .b-base));
 }
 
-module _ {a b d : List ℕ} {r : List Bool} {cap : ℕ} {ys : List ℕ} {c : Cuts} where
+module _ {columns : Columns} {cap : ℕ} {ys : List ℕ} {c : Cuts} where
   pub finished :
-      (s : Side) → Open a b d r cap ys c s → setOn s c .done ≡ setOn s c .used
-      → Open a b d r cap ys c A × (c .a .done ≡ c .a .used)
+      (s : Side) → Open columns cap ys c s → NothingFound (setOn s c)
+      → Open columns cap ys c A × NothingFound (c .a)
   finished A o e = (o, e)
   finished B o e = (
     record {
@@ -272,9 +271,9 @@ module _ {a b d : List ℕ} {r : List Bool} {cap : ℕ} {ys : List ℕ} {c : Cut
   )
 
 pub stepped-on :
-    (a b d : List ℕ) (r : List Bool) (cap : ℕ) (ys : List ℕ) (c c′ : Cuts) → unused c′ < unused c → (answer : Closing)
-    → Stepped a b d r cap c′ ys answer → Stepped a b d r cap c ys answer
-stepped-on a b d r cap ys c c′ l (Closing.Done c″) h = h
-stepped-on a b d r cap ys c c′ l (Closing.MoreA c″) h = (h .0, omega (arith, h .1))
-stepped-on a b d r cap ys c c′ l (Closing.MoreB c″) h = (h .0, omega (arith, h .1))
-stepped-on a b d r cap ys c c′ l Closing.TooMany h = h
+    (columns : Columns) (cap : ℕ) (ys : List ℕ) (c c′ : Cuts) → unused c′ < unused c → (answer : Closing)
+    → Stepped columns cap c′ ys answer → Stepped columns cap c ys answer
+stepped-on columns cap ys c c′ l (Closing.Done c″) h = h
+stepped-on columns cap ys c c′ l (Closing.MoreA c″) h = (h .0, omega (arith, h .1))
+stepped-on columns cap ys c c′ l (Closing.MoreB c″) h = (h .0, omega (arith, h .1))
+stepped-on columns cap ys c c′ l Closing.TooMany h = h

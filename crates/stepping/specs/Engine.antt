@@ -1,24 +1,24 @@
 -- Between two steps: what the sets of cuts hold. A step carries the newly found cuts of its side; what is finished has
 -- been carried. (A worklist: finished and newly found are done and pending.)
 --     at u h              the position h of the side u as a place
+--     CutOn g u h         the position h of the side u is a cut of what is given
 --     Open                all that holds between two steps, s being the side whose newly found cuts are next
 --     unused              the unused cut places, which fall with each step
 --     Stepped             what a step does, by its answer
 -- Assumes nothing.
-use Prim.Native.Nat.{ℕ, _+_, _-_, _*_, _≤_, _<_}
+use Prim.Native.Nat.{ℕ, _+_, _*_, _≤_, _<_}
 use mathlib.Core.Path.{_≡_}
 use mathlib.Core.Logic.{_↔_}
-use mathlib.Core.Bool.{Bool}
-use mathlib.Core.List.{List, []}
-use lib.ListN.{length}
+use mathlib.Core.List.{List}
 use Rattle.refinement.specs.declared.Side.{Side}
 use Rattle.refinement.specs.declared.Side.the-variants.{A, B}
 use Rattle.refinement.specs.Order.{_∈_, Distinct}
 use Rattle.refinement.specs.Match.{Match, Place, other, left, right, Spans, carry}
 use Rattle.refinement.specs.Cut.{Cut}
-use Rattle.cut_set.specs.Store.{Good, Member, Finished}
+use Rattle.cut_set.specs.Store.{Good, Member, Finished, NothingFound, unusedOf}
 use Rattle.cut_set.specs.declared.CutSet.{CutSet}
-use Rattle.refining.specs.Columns.{matchesOf}
+use Rattle.refining.specs.Columns.{Columns, seenFrom, countOf, matchesOf}
+use Rattle.refining.specs.Refining.{Given, heldIn}
 use Rattle.refining.specs.Demands.{EveryExceeds}
 use Rattle.carrying_cuts.specs.Worker.{hitsOver}
 use Rattle.stepping.specs.declared.Cuts.{Cuts}
@@ -28,6 +28,9 @@ abbrev pub at : Side → ℕ → Place
 at A h = record { track = 0; position = h }
 at B h = record { track = 1; position = h }
 
+abbrev pub CutOn : Given → Side → ℕ → Type 0
+CutOn g u h = Cut (g .matches) (g .marks) (at u h)
+
 abbrev pub setOn : Side → Cuts → CutSet
 setOn A c = c .a
 setOn B c = c .b
@@ -36,40 +39,35 @@ abbrev pub hitsAt : Side → Cuts → ℕ
 hitsAt A c = c .«hits_a»
 hitsAt B c = c .«hits_b»
 
--- of the columns left-A and left-B the one of the side
-abbrev pub leftsOn : Side → List ℕ → List ℕ → List ℕ
-leftsOn A a b = a
-leftsOn B a b = b
-
 -- the carried cuts of a side, each once, and their hits
-pub record Counted (lefts d xs : List ℕ) (s : CutSet) (hits : ℕ) : Type 0 where
+pub record Counted (columns : Columns) (xs : List ℕ) (s : CutSet) (hits : ℕ) : Type 0 where
   pub carried : List ℕ
   pub once : Distinct carried
   pub finished : (x : ℕ) → (x ∈ carried) ↔ Finished xs s x
-  pub hits-are : hits ≡ hitsOver lefts d (length d) carried
+  pub hits-are : hits ≡ hitsOver columns (countOf columns) carried
 
-pub record Open (a b d : List ℕ) (r : List Bool) (cap : ℕ) (xs : List ℕ) (c : Cuts) (s : Side) : Type 0 where
+pub record Open (columns : Columns) (cap : ℕ) (xs : List ℕ) (c : Cuts) (s : Side) : Type 0 where
   pub good : (u : Side) → Good xs (setOn u c)
   pub a-base : c .a .base ≡ 0
   pub a-limit : c .a .limit ≡ 2 * cap
   pub b-base : c .b .base ≡ 2 * cap
   pub b-limit : c .b .limit ≡ 4 * cap
-  pub sound : (u : Side) (x : ℕ) → Member xs (setOn u c) x → Cut (matchesOf a b d r) [] (at u x)
+  pub sound : (u : Side) (x : ℕ) → Member xs (setOn u c) x → CutOn (heldIn columns) u x
   pub ended :
-      (m : Match) → m ∈ matchesOf a b d r → Member xs (c .a) (left m A) × Member xs (c .a) (right m A)
+      (m : Match) → m ∈ matchesOf columns → Member xs (c .a) (left m A) × Member xs (c .a) (right m A)
   pub closed :
-      (u : Side) (m : Match) → m ∈ matchesOf a b d r → (x : ℕ) → Spans m u x → Finished xs (setOn u c) x
+      (u : Side) (m : Match) → m ∈ matchesOf columns → (x : ℕ) → Spans m u x → Finished xs (setOn u c) x
       → Member xs (setOn (other u) c) (carry m u x)
-  pub settled : setOn (other s) c .done ≡ setOn (other s) c .used
-  pub counted : (u : Side) → Counted (leftsOn u a b) d xs (setOn u c) (hitsAt u c)
-  pub few : (u : Side) → hitsAt u c ≤ cap + length d
+  pub settled : NothingFound (setOn (other s) c)
+  pub counted : (u : Side) → Counted (seenFrom u columns) xs (setOn u c) (hitsAt u c)
+  pub few : (u : Side) → hitsAt u c ≤ cap + countOf columns
 
 abbrev pub unused : Cuts → ℕ
-unused c = (c .a .limit - c .a .used) + (c .b .limit - c .b .used)
+unused c = unusedOf (c .a) + unusedOf (c .b)
 
 -- after a step that began with the cuts c: all is carried; or the other side goes on, with fewer unused places
-abbrev pub Stepped : List ℕ → List ℕ → List ℕ → List Bool → ℕ → Cuts → List ℕ → Closing → Type 0
-Stepped a b d r cap c ys (Closing.Done c′) = Open a b d r cap ys c′ A × (c′ .a .done ≡ c′ .a .used)
-Stepped a b d r cap c ys (Closing.MoreA c′) = Open a b d r cap ys c′ A × (unused c′ < unused c)
-Stepped a b d r cap c ys (Closing.MoreB c′) = Open a b d r cap ys c′ B × (unused c′ < unused c)
-Stepped a b d r cap c ys Closing.TooMany = EveryExceeds (matchesOf a b d r) cap
+abbrev pub Stepped : Columns → ℕ → Cuts → List ℕ → Closing → Type 0
+Stepped columns cap c ys (Closing.Done c′) = Open columns cap ys c′ A × NothingFound (c′ .a)
+Stepped columns cap c ys (Closing.MoreA c′) = Open columns cap ys c′ A × (unused c′ < unused c)
+Stepped columns cap c ys (Closing.MoreB c′) = Open columns cap ys c′ B × (unused c′ < unused c)
+Stepped columns cap c ys Closing.TooMany = EveryExceeds (heldIn columns) cap

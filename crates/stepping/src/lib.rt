@@ -3,7 +3,7 @@ use carrying_cuts::Turn;
 use carrying_cuts::take_turn;
 use cut_set::CutSet;
 ghost use Rattle.refinement.specs.declared.Side.{Side};
-ghost use Rattle.refining.specs.Columns.{Fit};
+ghost use Rattle.refining.specs.Columns.{columnsOf, Fit};
 ghost use Rattle.stepping.specs.Engine.{Open, Stepped};
 
 // The cuts of both sides, and the pairs of a carried cut and a match that spans it.
@@ -33,10 +33,12 @@ pub fn a_step(
     capacity: usize,
     budget: u32,
 ) -> Closing
-    requires { ⌜ Fit (now «left_a») (now «left_b») (now lengths) (now reversed) ⌝ }
-    requires { ⌜ Open (now «left_a») (now «left_b») (now lengths) (now reversed) capacity (now work) cuts Side.A ⌝ }
+    requires { ⌜ Fit (columnsOf (now «left_a») (now «left_b») (now lengths) (now reversed)) ⌝ }
+    requires { ⌜
+        Open (columnsOf (now «left_a») (now «left_b») (now lengths) (now reversed)) capacity (now work) cuts Side.A ⌝ }
     ensures { λ r. ⌜
-        Stepped (now («left_a» .entry)) (now («left_b» .entry)) (now (lengths .entry)) (now (reversed .entry))
+        Stepped
+        (columnsOf (now («left_a» .entry)) (now («left_b» .entry)) (now (lengths .entry)) (now (reversed .entry)))
         capacity cuts (now (work .exit)) r ⌝ }
 {
     let a = cuts.a;
@@ -61,7 +63,7 @@ pub fn a_step(
                 hits_a: hits,
                 hits_b: cuts.hits_b,
             };
-            if to.done == to.used {
+            if reading_cuts::none_found(to) {
                 return Closing::Done(next);
             }
             if budget == 0 {
@@ -92,10 +94,12 @@ pub fn b_step(
     capacity: usize,
     budget: u32,
 ) -> Closing
-    requires { ⌜ Fit (now «left_a») (now «left_b») (now lengths) (now reversed) ⌝ }
-    requires { ⌜ Open (now «left_a») (now «left_b») (now lengths) (now reversed) capacity (now work) cuts Side.B ⌝ }
+    requires { ⌜ Fit (columnsOf (now «left_a») (now «left_b») (now lengths) (now reversed)) ⌝ }
+    requires { ⌜
+        Open (columnsOf (now «left_a») (now «left_b») (now lengths) (now reversed)) capacity (now work) cuts Side.B ⌝ }
     ensures { λ r. ⌜
-        Stepped (now («left_a» .entry)) (now («left_b» .entry)) (now (lengths .entry)) (now (reversed .entry))
+        Stepped
+        (columnsOf (now («left_a» .entry)) (now («left_b» .entry)) (now (lengths .entry)) (now (reversed .entry)))
         capacity cuts (now (work .exit)) r ⌝ }
 {
     let a = cuts.a;
@@ -120,7 +124,7 @@ pub fn b_step(
                 hits_a: cuts.hits_a,
                 hits_b: hits,
             };
-            if to.done == to.used {
+            if reading_cuts::none_found(to) {
                 return Closing::Done(next);
             }
             if budget == 0 {

@@ -20,7 +20,7 @@ use borrow.Author.Tests.{lt-ltb, le-ltb, eqb-true, eqb-false, not-true, not-fals
 use lib.ListN.{length, drop, drop-of-length-le, length-drop}
 use lib.Seq.{drop-cons, getD-drop}
 use Rattle.rows.specs.Rows.{rowWidth, rowOf, rowAt, rowsOf}
-use Rattle.table.specs.Finding.{leading, numbered, numberedElse, before, run, startOf, sizeOf}
+use Rattle.table.specs.Finding.{leading, hasNumber, hasOther, before, run, startOf, sizeOf}
 use Rattle.rows.specs.declared.Row.{Row}
 use Rattle.rows.proofs.TableRows.{rows-length}
 
@@ -62,7 +62,7 @@ module _ (n : ℕ) (t : List ℕ) {first : ℕ} (reached : first ≡ before n (r
 
 module _ (n : ℕ) (t : List ℕ) (none : length (rowsOf t) ≤ before n (rowsOf t)) where
   pub size-missing : sizeOf n t ≡ 0
-  size-missing = omega (arith, leading-none (numbered n) (rowsOf t) (before n (rowsOf t)) none)
+  size-missing = omega (arith, leading-none (hasNumber n) (rowsOf t) (before n (rowsOf t)) none)
 
   pub start-missing : startOf n t ≡ 0
   start-missing = rw (le-ltb (before n (rowsOf t)) (length (rowsOf t)) none)
@@ -106,7 +106,7 @@ pub data Found (n : ℕ) (rs : List Row) : ℕ → ℕ → Type 0 where
 
 first-else : (n : ℕ) (rs : List Row) (k : ℕ) → k < before n rs → rowAt rs k .number ≡ n → ⊥
 first-else n rs k l =
-    eqb-false (rowAt rs k .number) n (not-true (numbered n (rowAt rs k)) (leading-pass (numberedElse n) rs k l))
+    eqb-false (rowAt rs k .number) n (not-true (hasNumber n (rowAt rs k)) (leading-pass (hasOther n) rs k l))
 
 run-of : (n : ℕ) (rs : List Row) → before n rs < length rs
     → Run n rs (before n rs) (before n rs + run n (drop (before n rs) rs))
@@ -119,20 +119,20 @@ run-of n rs h =
       some =
           omega (
             arith,
-            leading-more (numbered n) rs b h refl
-                (not-false (numbered n (rowAt rs b)) (leading-fail (numberedElse n) rs h)),
+            leading-more (hasNumber n) rs b h refl
+                (not-false (hasNumber n (rowAt rs b)) (leading-fail (hasOther n) rs h)),
           );
       unbroken = λ k l l′.
           let i = k - b in
           let within : i < run n rest = omega arith in
           let placed : b + i ≡ k = omega arith in
           subst (λ (r : Row). r .number ≡ n) (there i ∙ ap (rowAt rs) placed)
-          (eqb-true (rowAt rest i .number) n (leading-pass (numbered n) rest i within));
+          (eqb-true (rowAt rest i .number) n (leading-pass (hasNumber n) rest i within));
       whole = λ l.
           let within : run n rest < length rest = omega (arith, length-drop b rs) in
           subst (λ (r : Row). r .number ≡ n → ⊥) (there (run n rest))
-          (eqb-false (rowAt rest (run n rest) .number) n (leading-fail (numbered n) rest within));
-      inside = omega (arith, leading-inside (numbered n) rest, length-drop b rs);
+          (eqb-false (rowAt rest (run n rest) .number) n (leading-fail (hasNumber n) rest within));
+      inside = omega (arith, leading-inside (hasNumber n) rest, length-drop b rs);
     }
 
 le-of-not-lt : {m n : ℕ} → (m < n → ⊥) → n ≤ m

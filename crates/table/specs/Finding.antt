@@ -1,6 +1,6 @@
 -- The rows of one match in a table. TO READ: contracts mean what stands here.
 --     leading p rs     how many rows rs starts with that pass the test p
---     numbered n r, numberedElse n r     r has the number n, or another
+--     hasNumber n r, hasOther n r     r has the number n, or another
 --     before n rs      how many rows of rs stand before the first with the number n
 --     run n rs         how many rows with the number n rs starts with
 --     startOf n t      where the part begins, in numbers from the start of t
@@ -24,20 +24,20 @@ leading p [] = 0
 leading p (r ∷ rs) = cond (p r) (suc (leading p rs)) 0
 
 -- a row with that match number
-abbrev pub numbered : ℕ → Row → Bool
-numbered n r = eqb (r .number) n
+abbrev pub hasNumber : ℕ → Row → Bool
+hasNumber n r = eqb (r .number) n
 
 -- a row with another
-abbrev pub numberedElse : ℕ → Row → Bool
-numberedElse n r = not (numbered n r)
+abbrev pub hasOther : ℕ → Row → Bool
+hasOther n r = not (hasNumber n r)
 
 -- SCOPE, "Part": the rows before the first with that number; all, where there is none
 abbrev pub before : ℕ → List Row → ℕ
-before n rs = leading (numberedElse n) rs
+before n rs = leading (hasOther n) rs
 
 -- SCOPE, "Part": the rows with that number up to the first with another
 abbrev pub run : ℕ → List Row → ℕ
-run n rs = leading (numbered n) rs
+run n rs = leading (hasNumber n) rs
 
 -- SCOPE, "Part": where no row has that number, it is empty and stands at the table's start
 abbrev pub startOf : ℕ → List ℕ → ℕ

@@ -1,11 +1,12 @@
 -- A number has one fewest count of decimal digits, and `places` computes it.
---     places-fewest     the fewest digits that hold a number of 64 bits are `places`
---     places-few        and are at most 20
+--     fewest-few        the fewest digits that hold a number of 64 bits are at most 20
+--     fewest-decimal    and those of the number in decimal
 --     digits-length     so many digits are so long
 --     decimal-short     so a number in decimal has at most 20
 -- Assumes nothing.
 use Prim.Native.Nat.{ℕ, zero, suc, _-_, _*_, _/_, _^_, _≤_, _<_}
-use mathlib.Core.Path.{_≡_, refl, ap}
+use mathlib.Core.Path.{_≡_, refl, ap, _∙_}
+use mathlib.Core.List.{List}
 use native.Mathlib.Omega.{arith}
 use native.Mathlib.Decide.{decLt}
 use native.Mathlib.Nat.{pow-suc, one-le-pow}
@@ -41,7 +42,7 @@ fewer n j f = (
     more zero f l = absurd (omega arith)
     more (suc i) f l = rw (one-less i) (omega (arith, tens n (suc i) f))
 
-pub places-fewest : (most n k : ℕ) → n < 10 ^ suc most → Fewest 10 1 n k → k ≡ placesWithin most n
+places-fewest : (most n k : ℕ) → n < 10 ^ suc most → Fewest 10 1 n k → k ≡ placesWithin most n
 unfolding placesWithin
 places-fewest zero n k h f = one-place n k h f
 places-fewest (suc most) n k h f =
@@ -57,7 +58,7 @@ places-fewest (suc most) n k h f =
     go (no g) (suc zero) f next = absurd (g (f .1))
     go (no g) (suc (suc j)) f next = rw (le-ltb n 10 (omega arith)) (ap suc (next j (fewer n j f)))
 
-pub places-few : (most n : ℕ) → placesWithin most n ≤ suc most
+places-few : (most n : ℕ) → placesWithin most n ≤ suc most
 unfolding placesWithin
 places-few zero n = omega arith
 places-few (suc most) n = go (ltb n 10) (places-few most (n / 10))
@@ -66,6 +67,12 @@ places-few (suc most) n = go (ltb n 10) (places-few most (n / 10))
         → cond b 1 (suc (placesWithin most (n / 10))) ≤ suc (suc most)
     go true h = omega arith
     go false h = omega arith
+
+pub fewest-few : {n k : ℕ} → n < 2 ^ 64 → Fewest 10 1 n k → k ≤ 20
+fewest-few {n} {k} h f = omega (arith, places-fewest 19 n k (omega arith) f, places-few 19 n)
+
+pub fewest-decimal : {n k : ℕ} {ds : List ℕ} → n < 2 ^ 64 → Fewest 10 1 n k → ds ≡ digits 10 k n → ds ≡ decimal n
+fewest-decimal {n} {k} h f e = e ∙ ap (λ (k : ℕ). digits 10 k n) (places-fewest 19 n k (omega arith) f)
 
 pub digits-length : (b k n : ℕ) → length (digits b k n) ≡ k
 digits-length b zero n = refl

@@ -1,8 +1,6 @@
 -- Storing a list from a place on, one element after the other.
 --     sets-append     storing joined lists
---     sets-next       storing one element more
---     sets-whole      storing all of them
---     stored-next, stored-whole     the two as a loop meets them
+--     stored-next, stored-whole     one element more is stored, and all of them are, as a loop meets them
 --     put-then        so bytes put behind bytes are their join
 --     put-same        and may be named otherwise
 -- Assumes nothing.

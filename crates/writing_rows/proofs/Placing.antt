@@ -18,7 +18,7 @@ use Rattle.refinement.specs.Match.{Match, matchAB, spanned, carryOver}
 use Rattle.refinement.specs.Least.{pieceOf, piecesBetween}
 use Rattle.refinement.proofs.Geometry.{spanned-from}
 use Rattle.runs.specs.Runs.{Bound}
-use Rattle.refining.specs.Columns.{Fit, matchAt}
+use Rattle.refining.specs.Columns.{Columns, countOf, fromAt, toAt, lettersAt, wayAt, Fit, matchAt}
 use Rattle.refining.specs.Rows.{direction, rowOfPiece, pieceNumbers, within, piecesCut}
 use Rattle.refining.proofs.Standing.{length-numbers}
 use Rattle.writing_rows.specs.Writing.{Stretch, Cutting, Placed, Writable, Written}
@@ -169,61 +169,62 @@ module _ {m : Match} {work : List ℕ} {first last row : ℕ} {before table : Li
   }
 
 -- All matches: the rows of the first k are written.
-pub record Done (a b d : List ℕ) (r : List Bool) (work : List ℕ) (lo hi : ℕ) (before table : List ℕ)
+pub record Done (columns : Columns) (work : List ℕ) (lo hi : ℕ) (before table : List ℕ)
     (row k : ℕ) : Type 0 where
-  pub fit : Fit a b d r
-  pub writable : Writable a b d r work lo hi before
-  pub to : k ≤ length d
-  pub count : row ≡ length (piecesCut a b d r (slice lo hi work) k)
-  pub is : table ≡ sets before 0 (pieceNumbers (piecesCut a b d r (slice lo hi work) k))
+  pub fit : Fit columns
+  pub writable : Writable columns work lo hi before
+  pub to : k ≤ countOf columns
+  pub count : row ≡ length (piecesCut columns (slice lo hi work) k)
+  pub is : table ≡ sets before 0 (pieceNumbers (piecesCut columns (slice lo hi work) k))
 
 rows-grow :
-    (a b d : List ℕ) (r : List Bool) (run : List ℕ) (n k : ℕ) → k + n ≡ length d
-    → length (piecesCut a b d r run k) ≤ length (piecesCut a b d r run (length d))
+    (columns : Columns) (run : List ℕ) (n k : ℕ) → k + n ≡ countOf columns
+    → length (piecesCut columns run k) ≤ length (piecesCut columns run (countOf columns))
 unfolding piecesCut
-rows-grow a b d r run zero k e = let same : k ≡ length d = omega arith in rw same (omega arith)
-rows-grow a b d r run (suc n) k e =
-    let here = piecesBetween (matchAt a b d r k) (within (getD a k 0) (getD d k 0) run) in
-    omega (arith, rows-grow a b d r run n (suc k) (omega arith), length-append (piecesCut a b d r run k) here)
+rows-grow columns run zero k e = let same : k ≡ countOf columns = omega arith in rw same (omega arith)
+rows-grow columns run (suc n) k e =
+    let here = piecesBetween (matchAt columns k) (within (fromAt columns k) (lettersAt columns k) run) in
+    omega (arith, rows-grow columns run n (suc k) (omega arith), length-append (piecesCut columns run k) here)
 
-module _ {a b d : List ℕ} {r : List Bool} {work : List ℕ} {lo hi : ℕ} {before : List ℕ} where
-  pub done-start : Fit a b d r → Writable a b d r work lo hi before → Done a b d r work lo hi before before 0 0
+module _ {columns : Columns} {work : List ℕ} {lo hi : ℕ} {before : List ℕ} where
+  pub done-start : Fit columns → Writable columns work lo hi before → Done columns work lo hi before before 0 0
   unfolding piecesCut numbersOf
   done-start fit writable =
       record { fit = fit; writable = writable; to = omega arith; count = refl; is = refl }
 
-  module _ {table : List ℕ} {row k : ℕ} (done : Done a b d r work lo hi before table row k) where
+  module _ {table : List ℕ} {row k : ℕ} (done : Done columns work lo hi before table row k) where
     pub done-long : length table ≡ length before
-    done-long = ap length (done .is) ∙ length-sets before 0 (pieceNumbers (piecesCut a b d r (slice lo hi work) k))
+    done-long = ap length (done .is) ∙ length-sets before 0 (pieceNumbers (piecesCut columns (slice lo hi work) k))
 
-    pub done-end : length d ≤ k → Written a b d r (slice lo hi work) before table row
+    pub done-end : countOf columns ≤ k → Written columns (slice lo hi work) before table row
     done-end l =
         let run = slice lo hi work in
-        let e : k ≡ length d = omega (arith, done .to) in
+        let e : k ≡ countOf columns = omega (arith, done .to) in
         record {
-          count = done .count ∙ ap (λ n. length (piecesCut a b d r run n)) e;
-          table = done .is ∙ ap (λ n. sets before 0 (pieceNumbers (piecesCut a b d r run n))) e;
+          count = done .count ∙ ap (λ n. length (piecesCut columns run n)) e;
+          table = done .is ∙ ap (λ n. sets before 0 (pieceNumbers (piecesCut columns run n))) e;
         }
 
     -- the match at k, with the lower bounds of its ends
-    module _ (less : k < length d) {first last : ℕ} (left : Bound work lo hi (getD a k 0) first)
-        (right : Bound work lo hi (getD a k 0 + getD d k 0) last) where
-      pub done-cuts : Cutting work first last (getD a k 0) (getD d k 0)
+    module _ (less : k < countOf columns) {first last : ℕ} (left : Bound work lo hi (fromAt columns k) first)
+        (right : Bound work lo hi (fromAt columns k + lettersAt columns k) last) where
+      pub done-cuts : Cutting work first last (fromAt columns k) (lettersAt columns k)
       done-cuts =
-          let w = done .writable in cutting (getD d k 0) (w .run) (w .left-in k less) (w .right-in k less) left right
+          let w = done .writable in
+          cutting (lettersAt columns k) (w .run) (w .left-in k less) (w .right-in k less) left right
 
       -- its rows, numbered as the code does
       abbrev here : List Match
       here =
-          piecesBetween (matchAB (k + 1) (getD a k 0) (getD b k 0) (getD d k 0) (getD r k false))
+          piecesBetween (matchAB (k + 1) (fromAt columns k) (toAt columns k) (lettersAt columns k) (wayAt columns k))
           (slice first (suc last) work)
 
-      rows-here : piecesCut a b d r (slice lo hi work) (k + 1) ≡ piecesCut a b d r (slice lo hi work) k ++ here
+      rows-here : piecesCut columns (slice lo hi work) (k + 1) ≡ piecesCut columns (slice lo hi work) k ++ here
       unfolding piecesCut
       rows-here =
           let w = done .writable in
           let e : k + 1 ≡ suc k = omega arith in
-          let are = within-bounds (getD d k 0) (w .run) (w .left-in k less) (w .right-in k less) left right in
+          let are = within-bounds (lettersAt columns k) (w .run) (w .left-in k less) (w .right-in k less) left right in
           rw (e, are) refl
 
       pub done-room : rowWidth * (row + length here) ≤ length table
@@ -234,16 +235,16 @@ module _ {a b d : List ℕ} {r : List Bool} {work : List ℕ} {lo hi : ℕ} {bef
             done-long,
             done .count,
             done .writable .room,
-            rows-grow a b d r run (length d - (k + 1)) (k + 1) (omega arith),
+            rows-grow columns run (countOf columns - (k + 1)) (k + 1) (omega arith),
             ap length rows-here,
-            length-append (piecesCut a b d r run k) here,
+            length-append (piecesCut columns run k) here,
           )
 
       pub done-step :
           {after : List ℕ} {next : ℕ} → Placed here row table after next
-          → Done a b d r work lo hi before after next (k + 1)
+          → Done columns work lo hi before after next (k + 1)
       done-step placed =
-          let rows = piecesCut a b d r (slice lo hi work) k in
+          let rows = piecesCut columns (slice lo hi work) k in
           record {
             fit = done .fit;
             writable = done .writable;

@@ -5,16 +5,16 @@
 -- Assumes nothing.
 use Prim.Native.Nat.{ℕ, suc, _+_, _*_, _^_, _≤_, _<_}
 use mathlib.Core.Path.{_≡_}
-use mathlib.Core.Bool.{Bool}
 use mathlib.Core.List.{List}
 use lib.ListN.{length, getD}
 use lib.Seq.{slice, sets}
 use Rattle.runs.specs.Runs.{In, Run}
 use Rattle.rows.specs.Rows.{rowWidth}
 use Rattle.refinement.specs.Match.{Match}
+use Rattle.refining.specs.Columns.{Columns, countOf, fromAt, lettersAt}
 use Rattle.refining.specs.Rows.{piecesCut, pieceNumbers}
 
--- x to y is some stretch on A of a match with left ends i and k and length d, which ends within 32 bits on B
+-- x to y is some stretch on A of a match with left ends i and k and countOf columns, which ends within 32 bits on B
 pub record Stretch (i k d x y : ℕ) : Type 0 where
   pub from : i ≤ x
   pub some : x < y
@@ -34,13 +34,13 @@ pub record Placed (rs : List Match) (row : ℕ) (before after : List ℕ) (n : �
   pub table : after ≡ sets before (rowWidth * row) (pieceNumbers rs)
 
 -- the cuts of A rise at [lo, hi), both ends of each match are among them, and the rows have room in the table
-pub record Writable (a b d : List ℕ) (r : List Bool) (work : List ℕ) (lo hi : ℕ) (table : List ℕ) : Type 0 where
+pub record Writable (columns : Columns) (work : List ℕ) (lo hi : ℕ) (table : List ℕ) : Type 0 where
   pub run : Run work lo hi
-  pub left-in : (k : ℕ) → k < length d → In work lo hi (getD a k 0)
-  pub right-in : (k : ℕ) → k < length d → In work lo hi (getD a k 0 + getD d k 0)
-  pub few : length d < 4294967296
-  pub room : rowWidth * length (piecesCut a b d r (slice lo hi work) (length d)) ≤ length table
+  pub left-in : (k : ℕ) → k < countOf columns → In work lo hi (fromAt columns k)
+  pub right-in : (k : ℕ) → k < countOf columns → In work lo hi (fromAt columns k + lettersAt columns k)
+  pub few : countOf columns < 4294967296
+  pub room : rowWidth * length (piecesCut columns (slice lo hi work) (countOf columns)) ≤ length table
 
-pub record Written (a b d : List ℕ) (r : List Bool) (run before after : List ℕ) (n : ℕ) : Type 0 where
-  pub count : n ≡ length (piecesCut a b d r run (length d))
-  pub table : after ≡ sets before 0 (pieceNumbers (piecesCut a b d r run (length d)))
+pub record Written (columns : Columns) (run before after : List ℕ) (n : ℕ) : Type 0 where
+  pub count : n ≡ length (piecesCut columns run (countOf columns))
+  pub table : after ≡ sets before 0 (pieceNumbers (piecesCut columns run (countOf columns)))

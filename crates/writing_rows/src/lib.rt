@@ -9,7 +9,7 @@ ghost use lib.Seq.{slice, sets};
 ghost use Rattle.rows.specs.Rows.{rowWidth, rowNumbers};
 ghost use Rattle.refinement.specs.Match.{matchAB};
 ghost use Rattle.refinement.specs.Least.{pieceOf, piecesBetween};
-ghost use Rattle.refining.specs.Columns.{Fit};
+ghost use Rattle.refining.specs.Columns.{columnsOf, Fit};
 ghost use Rattle.refining.specs.Rows.{rowOfPiece};
 ghost use Rattle.writing_rows.specs.Writing.{Stretch, Cutting, Placed, Writable, Written};
 
@@ -108,10 +108,12 @@ pub fn write_rows(
     hi: usize,
     table: &mut [u32],
 ) -> usize
-    requires { ⌜ Fit (now «left_a») (now «left_b») (now lengths) (now reversed) ⌝ }
-    requires { ⌜ Writable (now «left_a») (now «left_b») (now lengths) (now reversed) (now work) lo hi (now table) ⌝ }
+    requires { ⌜ Fit (columnsOf (now «left_a») (now «left_b») (now lengths) (now reversed)) ⌝ }
+    requires { ⌜
+        Writable (columnsOf (now «left_a») (now «left_b») (now lengths) (now reversed)) (now work) lo hi (now table) ⌝ }
     ensures { λ n. ⌜
-        Written (now («left_a» .entry)) (now («left_b» .entry)) (now (lengths .entry)) (now (reversed .entry))
+        Written
+        (columnsOf (now («left_a» .entry)) (now («left_b» .entry)) (now (lengths .entry)) (now (reversed .entry)))
         (slice lo hi (now (work .entry))) (now (table .entry)) (now (table .exit)) n ⌝ }
 {
     let mut row = 0;

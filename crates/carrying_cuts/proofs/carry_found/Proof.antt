@@ -2,51 +2,50 @@
 use Prim.Native.Nat.{_-_}
 use native.Mathlib.Omega.{arith}
 use lib.ListN as List
-use Rattle.carrying_match.proofs.Storing.{done-used}
-use Rattle.carrying_cuts.proofs.Passing.{Passed, pass-start, pass-step, pass-too-much, pass-end, pass-ready, pass-run}
-use Rattle.carrying_cuts.proofs.Passing.{pass-over, pass-none}
+use Rattle.refining.specs.Columns.{columnsOf}
+use Rattle.carrying_cuts.proofs.Passing.{Passed, pass-start, pass-step, pass-too-much, pass-end, pass-ready}
+use Rattle.carrying_cuts.proofs.Passing.{pass-run, pass-over, pass-none}
 use borrow.Author.Needs.{needs}
 use Rattle.carrying_cuts.proofs.carry_found.Statement.{statement}
 use Rattle.carrying_cuts.proofs.carry_found.Tie as tie
 
 abbrev Inv-loop : tie.InvT-loop
-Inv-loop lefts others lengths reversed work₀ from hits most first end lowest highest set₀ count₀ k₀ work set count k =
-    Passed lefts others lengths reversed work₀ from set₀ hits most work set count k
+Inv-loop lefts others lengths reversed work₀ from hits most lowest highest set₀ count₀ k₀ work set count k =
+    Passed (columnsOf lefts others lengths reversed) work₀ from set₀ hits most work set count k
 
 abbrev μ-loop : tie.MeasureT-loop
-μ-loop lefts others lengths reversed work₀ from hits most first end lowest highest set₀ count₀ k₀ work set count k =
+μ-loop lefts others lengths reversed work₀ from hits most lowest highest set₀ count₀ k₀ work set count k =
     List.length lengths - k
+
+none-found-requires : tie.Need-none-found-requires Inv-loop μ-loop
+none-found-requires c κs = search needs
 
 returns : tie.Need-returns Inv-loop μ-loop
 returns c =
-    let pre = c .before .before .before .before .before .before .pre in
+    let test = c .before in
+    let pre = test .before .before .before .before .before .before .pre in
     let start = pass-start (pre .1 .0) (pre .1 .1 .1) in
-    pass-end (pre .1 .0) (pass-none (pre .1 .0) start (search needs)) (omega arith)
+    let none = test .none-found .ensures .when (c .if1 .taken) in
+    pass-end (pre .1 .0) (pass-none (pre .1 .0) start none) (omega arith)
 
-mul-lowest : tie.Need-mul-lowest Inv-loop μ-loop
-mul-lowest c = search needs
+lowest-found-requires : tie.Need-lowest-found-requires Inv-loop μ-loop
+lowest-found-requires c κs =
+    let test = c .before .before in
+    let pre = test .before .before .before .before .before .before .pre in
+    let some = test .none-found .ensures .unless (c .before .if1 .left) in
+    record { good = pre .1 .0 .from-good; run = pre .1 .1 .0; some = some }
 
-slice-read-lowest : tie.Need-slice-read-lowest Inv-loop μ-loop
-slice-read-lowest c =
-    let pre = c .before .before .before .before .before .before .before .pre in
-    omega (arith, c .before .if1 .left, done-used (pre .1 .0 .from-good), pre .1 .0 .from-good .found-short .within)
-
-sub-highest : tie.Need-sub-highest Inv-loop μ-loop
-sub-highest c = search needs
-
-mul-highest : tie.Need-mul-highest Inv-loop μ-loop
-mul-highest c = search needs
-
-slice-read-highest : tie.Need-slice-read-highest Inv-loop μ-loop
-slice-read-highest c = search needs
+highest-found-requires : tie.Need-highest-found-requires Inv-loop μ-loop
+highest-found-requires c κs = search needs
 
 next-near-requires : tie.Need-next-near-requires Inv-loop μ-loop
 next-near-requires c κs = search needs
 
 loop-holds : tie.Need-loop-holds Inv-loop μ-loop
 loop-holds c =
-    let pre = c .before .before .before .before .before .before .before .before .before .pre in
-    pass-over (pre .1 .0) (pass-start (pre .1 .0) (pre .1 .1 .1)) (pre .1 .1 .0) (c .next-near .ensures)
+    let pre = c .before .before .before .before .before .before .before .before .before .before .before .before .pre in
+    pass-over (pre .1 .0) (pass-start (pre .1 .0) (pre .1 .1 .1)) (c .before .before .before .lowest-found .ensures)
+    (c .before .highest-found .ensures) (c .next-near .ensures)
 
 mul-carry-match : tie.Need-mul-carry-match Inv-loop μ-loop
 mul-carry-match c = search needs
@@ -73,7 +72,9 @@ carry-match-requires : tie.Need-carry-match-requires Inv-loop μ-loop
 carry-match-requires c κs =
     let in-loop = c .before .before .before .before .before in
     let inv = in-loop .before .loop .inv in
-    let pre = in-loop .before .before .before .before .before .before .before .before .before .before .before .pre in (
+    let near = in-loop .before .before in
+    let test = near .before .before .before .before .before .before in
+    let pre = test .before .before .before .before .before .before .pre in (
       pass-ready (pre .1 .0) inv,
       (pass-run (pre .1 .0) inv (pre .1 .1 .0), (pre .0 .to-fits (in-loop .before .loop .k) (search needs), inv .few)),
     )
@@ -91,20 +92,26 @@ returns-2 : tie.Need-returns-2 Inv-loop μ-loop
 returns-2 c =
     let called = c .before .before .before .before in
     let in-loop = called .before .before .before .before .before .before in
-    let pre = in-loop .before .before .before .before .before .before .before .before .before .before .before .pre in
+    let near = in-loop .before .before in
+    let test = near .before .before .before .before .before .before in
+    let pre = test .before .before .before .before .before .before .pre in
     let full = rw (c .enum-told .given .1) at (called .carry-match .ensures) in
     pass-too-much (pre .1 .0) (in-loop .before .loop .inv) (search needs) full
 
 add-next-near : tie.Need-add-next-near Inv-loop μ-loop
 add-next-near c =
     let in-loop = c .before .before .before .before .before .before .before .before .before .before .before in
-    let good = in-loop .before .before .before .before .before .before .before .before .before .before .before .good in
+    let near = in-loop .before .before in
+    let test = near .before .before .before .before .before .before in
+    let good = test .before .before .before .before .before .before .good in
     search (needs, good .1)
 
 next-near-requires-2 : tie.Need-next-near-requires-2 Inv-loop μ-loop
 next-near-requires-2 c κs =
     let in-loop = c .before .before .before .before .before .before .before .before .before .before .before in
-    let pre = in-loop .before .before .before .before .before .before .before .before .before .before .before .pre in
+    let near = in-loop .before .before in
+    let test = near .before .before .before .before .before .before in
+    let pre = test .before .before .before .before .before .before .pre in
     (record { same-length = pre .0 .from-length; fits = pre .0 .from-fits }, search needs)
 
 loop-less : tie.Need-loop-less Inv-loop μ-loop
@@ -116,17 +123,22 @@ loop-again : tie.Need-loop-again Inv-loop μ-loop
 loop-again c =
     let called = c .before .before .before .before .before .before in
     let in-loop = called .before .before .before .before .before .before in
-    let pre = in-loop .before .before .before .before .before .before .before .before .before .before .before .pre in
+    let near = in-loop .before .before in
+    let test = near .before .before .before .before .before .before in
+    let pre = test .before .before .before .before .before .before .pre in
     let held = rw (c .before .before .h .given .1) at (called .carry-match .ensures) in
     let passed = pass-step (pre .1 .0) (in-loop .before .loop .inv) (search needs) (search needs) held in
-    pass-over (pre .1 .0) passed (pre .1 .1 .0) (c .next-near2 .ensures)
+    pass-over (pre .1 .0) passed (near .before .before .before .lowest-found .ensures)
+    (near .before .highest-found .ensures) (c .next-near2 .ensures)
 
 same-length-2 : tie.Need-same-length-2 Inv-loop μ-loop
 same-length-2 c = search needs
 
 returns-3 : tie.Need-returns-3 Inv-loop μ-loop
 returns-3 c =
-    let pre = c .before .before .before .before .before .before .before .before .before .before .before .pre in
+    let near = c .before .before in
+    let test = near .before .before .before .before .before .before in
+    let pre = test .before .before .before .before .before .before .pre in
     pass-end (pre .1 .0) (c .before .loop .inv) (search needs)
 
 pub carry-found-spec : {M : Type 1} → statement M
@@ -135,12 +147,10 @@ carry-found-spec =
     (tie.spec
     Inv-loop
     μ-loop
+    none-found-requires
     returns
-    mul-lowest
-    slice-read-lowest
-    sub-highest
-    mul-highest
-    slice-read-highest
+    lowest-found-requires
+    highest-found-requires
     next-near-requires
     loop-holds
     mul-carry-match

@@ -12,25 +12,25 @@ use Rattle.carrying_match.proofs.carry_match.Statement.{statement}
 use Rattle.carrying_match.proofs.carry_match.Tie as tie
 
 abbrev Inv-loop : tie.InvT-loop
-Inv-loop work₀ left other length reversed hits most used set₀ count₀ at₀ work set count at =
-    Walked left other length reversed work₀ set₀ hits most at₀ used work set count at
+Inv-loop work₀ from left other length reversed hits most end set₀ count₀ at₀ work set count at =
+    Walked left other length reversed work₀ from set₀ hits most at₀ end work set count at
 
 abbrev μ-loop : tie.MeasureT-loop
-μ-loop work₀ left other length reversed hits most used set₀ count₀ at₀ work set count at = used - at
+μ-loop work₀ from left other length reversed hits most end set₀ count₀ at₀ work set count at = end - at
+
+found-end-requires : tie.Need-found-end-requires Inv-loop μ-loop
+found-end-requires c κs = search needs
 
 first-found-requires : tie.Need-first-found-requires Inv-loop μ-loop
 first-found-requires c κs = search needs
 
 loop-holds : tie.Need-loop-holds Inv-loop μ-loop
 loop-holds c =
-    let start = c .before .before .before in
-    walk-start (start .pre .0) (c .first-found .ensures) (start .pre .1 .1 .1)
+    let start = c .before .before .before .before in
+    walk-start (start .pre .0) (c .before .before .found-end .ensures) (c .first-found .ensures) (start .pre .1 .1 .1)
 
-mul-cut : tie.Need-mul-cut Inv-loop μ-loop
-mul-cut c = search needs
-
-slice-read-cut : tie.Need-slice-read-cut Inv-loop μ-loop
-slice-read-cut c = omega (arith, c .before .before .loop .inv .lengths)
+found-at-requires : tie.Need-found-at-requires Inv-loop μ-loop
+found-at-requires c κs = search needs
 
 spans-requires : tie.Need-spans-requires Inv-loop μ-loop
 spans-requires c κs = search needs
@@ -42,11 +42,13 @@ returns : tie.Need-returns Inv-loop μ-loop
 returns c =
     let test = c .before in
     let spans = test .before .spans in
-    let in-loop = test .before .before .before in
+    let found-at = test .before .before in
+    let in-loop = found-at .before .before in
     let found = in-loop .before .before in
-    let start = found .before .before .before in
+    let start = found .before .before .before .before in
     walk-too-much (start .pre .0) (start .pre .1 .0) (found .first-found .ensures) (in-loop .before .loop .inv)
-    (in-loop .loop-test .taken) (sym (spans .ensures) ∙ not-false (spans .result) (test .if1 .left))
+    (in-loop .loop-test .taken) (found-at .found-at .ensures)
+    (sym (spans .ensures) ∙ not-false (spans .result) (test .if1 .left))
     (TooMuch.excess (omega (arith, c .if2 .taken)))
 
 carry-requires : tie.Need-carry-requires Inv-loop μ-loop
@@ -55,7 +57,7 @@ carry-requires c κs =
     (sym (spans .ensures) ∙ not-false (spans .result) (c .before .if1 .left), search needs)
 
 add-requires : tie.Need-add-requires Inv-loop μ-loop
-add-requires c κs = c .before .before .before .before .before .before .before .loop .inv .stored .good
+add-requires c κs = search needs
 
 enum-known-s : tie.Need-enum-known-s Inv-loop μ-loop
 enum-known-s c = search needs
@@ -72,12 +74,14 @@ returns-2 c =
     let image = called .before .before .carry .ensures in
     let test = called .before .before .before .before in
     let spans = test .before .spans in
-    let in-loop = test .before .before .before in
+    let found-at = test .before .before in
+    let in-loop = found-at .before .before in
     let found = in-loop .before .before in
-    let start = found .before .before .before in
+    let start = found .before .before .before .before in
     let full = rw (c .enum-told .given .1) at (called .add .ensures) in
     walk-too-much (start .pre .0) (start .pre .1 .0) (found .first-found .ensures) (in-loop .before .loop .inv)
-    (in-loop .loop-test .taken) (sym (spans .ensures) ∙ not-false (spans .result) (test .if1 .left))
+    (in-loop .loop-test .taken) (found-at .found-at .ensures)
+    (sym (spans .ensures) ∙ not-false (spans .result) (test .if1 .left))
     (too-much-crowded (λ y e. e ∙ image) (in-loop .before .loop .inv .stored .good) (full .0))
 
 add-count : tie.Need-add-count Inv-loop μ-loop
@@ -95,13 +99,19 @@ loop-again c =
     let image = called .before .before .carry .ensures in
     let test = called .before .before .before .before in
     let spans = test .before .spans in
-    let in-loop = test .before .before .before in
+    let found-at = test .before .before in
+    let in-loop = found-at .before .before in
     let found = in-loop .before .before in
-    let start = found .before .before .before in
+    let start = found .before .before .before .before in
     let added = rw (c .before .s .given .1) at (called .add .ensures) in
     walk-step (start .pre .0) (start .pre .1 .0) (found .first-found .ensures) (in-loop .before .loop .inv)
-    (in-loop .loop-test .taken) (sym (spans .ensures) ∙ not-false (spans .result) (test .if1 .left)) (search needs)
-    (stored-same (λ y. (λ e. e ∙ image, λ e. e ∙ sym image)) (added .stored), refl, omega arith)
+    (in-loop .loop-test .taken) (found-at .found-at .ensures)
+    (sym (spans .ensures) ∙ not-false (spans .result) (test .if1 .left))
+    (search needs) (
+      stored-same (λ y. (λ e. e ∙ image, λ e. e ∙ sym image)) (added .stored),
+      refl,
+      omega (arith, in-loop .before .loop .inv .few, called .before .before .before .if2 .left),
+    )
 
 same-length-3 : tie.Need-same-length-3 Inv-loop μ-loop
 same-length-3 c = search needs
@@ -109,7 +119,7 @@ same-length-3 c = search needs
 returns-3 : tie.Need-returns-3 Inv-loop μ-loop
 returns-3 c =
     let found = c .before .before in
-    let start = found .before .before .before in
+    let start = found .before .before .before .before in
     walk-over (start .pre .0) (start .pre .1 .0) (found .first-found .ensures) (c .before .loop .inv)
     (c .loop-test .left)
 
@@ -119,11 +129,13 @@ same-length-4 c = search needs
 returns-4 : tie.Need-returns-4 Inv-loop μ-loop
 returns-4 c =
     let spans = c .before .spans in
-    let in-loop = c .before .before .before in
+    let found-at = c .before .before in
+    let in-loop = found-at .before .before in
     let found = in-loop .before .before in
-    let start = found .before .before .before in
+    let start = found .before .before .before .before in
     walk-break (start .pre .0) (start .pre .1 .0) (found .first-found .ensures) (in-loop .before .loop .inv)
-    (in-loop .loop-test .taken) (sym (spans .ensures) ∙ not-true (spans .result) (c .if1 .taken))
+    (in-loop .loop-test .taken) (found-at .found-at .ensures)
+    (sym (spans .ensures) ∙ not-true (spans .result) (c .if1 .taken))
 
 pub carry-match-spec : {M : Type 1} → statement M
 carry-match-spec =
@@ -131,10 +143,10 @@ carry-match-spec =
     (tie.spec
     Inv-loop
     μ-loop
+    found-end-requires
     first-found-requires
     loop-holds
-    mul-cut
-    slice-read-cut
+    found-at-requires
     spans-requires
     same-length
     returns

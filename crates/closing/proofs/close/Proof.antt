@@ -1,5 +1,6 @@
 -- `close` meets its contract: the ends are seeded, and `drive` does the rest. Assumes nothing.
 use borrow.Author.Needs.{needs}
+use Rattle.refining.specs.Columns.{columnsOf}
 use Rattle.closing.proofs.Seeds.{seeded-open, seeded-exceeds}
 use Rattle.closing.proofs.close.Statement.{statement}
 use Rattle.closing.proofs.close.Tie as tie
@@ -34,9 +35,10 @@ drive-requires c κs =
     let start = at-seed .before .before .before .before .before .before .before .before .before .before .before in
     let stored = rw (c .before .before .seeded .given .1) at (at-seed .seed .ensures) in (
       start .pre .0,
-      seeded-open (start .args .left-a .now) (start .args .left-b .now) (start .args .lengths .now)
-          (start .args .reversed .now) (start .args .capacity) (at-seed .before .before .before .before .empty .ensures)
-          (at-seed .before .before .empty2 .ensures) stored (search needs),
+      seeded-open (columnsOf (start .args .left-a .now) (start .args .left-b .now) (start .args .lengths .now)
+          (start .args .reversed .now)) (start .args .capacity)
+          (at-seed .before .before .before .before .empty .ensures) (at-seed .before .before .empty2 .ensures) stored
+          (search needs),
     )
 
 same-length : tie.Need-same-length
@@ -47,8 +49,8 @@ returns c =
     let at-seed = c .before .before .before .before in
     let start = at-seed .before .before .before .before .before .before .before .before .before .before .before in
     let full = rw (c .enum-told .given .1) at (at-seed .seed .ensures) in
-    seeded-exceeds (start .args .left-a .now) (start .args .left-b .now) (start .args .lengths .now)
-    (start .args .reversed .now) (start .pre .0) (at-seed .before .before .before .before .empty .ensures) full
+    seeded-exceeds (columnsOf (start .args .left-a .now) (start .args .left-b .now) (start .args .lengths .now)
+    (start .args .reversed .now)) (start .pre .0) (at-seed .before .before .before .before .empty .ensures) full
 
 same-length-2 : tie.Need-same-length-2
 same-length-2 c = search needs

@@ -3,6 +3,7 @@
 use mathlib.Core.Path.{_≡_, refl}
 use lib.ListN as List
 use borrow.Author.Needs.{needs}
+use Rattle.refining.specs.Columns.{columnsOf}
 use Rattle.closing.proofs.Settled.{all-cuts}
 use Rattle.closing.proofs.Drives.{Driving, pending, stepped-driving, stepped-less}
 use Rattle.closing.proofs.drive.Statement.{statement}
@@ -10,7 +11,7 @@ use Rattle.closing.proofs.drive.Tie as tie
 
 abbrev Inv-loop : tie.InvT-loop
 Inv-loop left-a left-b lengths reversed work₀ capacity closing₀ work closing =
-    (List.length work ≡ List.length work₀) × Driving left-a left-b lengths reversed capacity work closing
+    (List.length work ≡ List.length work₀) × Driving (columnsOf left-a left-b lengths reversed) capacity work closing
 
 abbrev μ-loop : tie.MeasureT-loop
 μ-loop left-a left-b lengths reversed work₀ capacity closing₀ work closing = pending closing
@@ -55,8 +56,8 @@ loop-less c =
     let due = at-due .now2 .given in
     let args = at-due .before .before .before .before .before .before .before .before .args in
     rw (due .1)
-    (stepped-less (args .left-a .now) (args .left-b .now) (args .lengths .now) (args .reversed .now) (args .capacity)
-    (due .0 .0) (step .last .1 .1 .1 .1 .0) (step .result) (step .ensures))
+    (stepped-less (columnsOf (args .left-a .now) (args .left-b .now) (args .lengths .now) (args .reversed .now))
+    (args .capacity) (due .0 .0) (step .last .1 .1 .1 .1 .0) (step .result) (step .ensures))
 
 loop-again : tie.Need-loop-again Inv-loop μ-loop
 loop-again c =
@@ -65,7 +66,7 @@ loop-again c =
     let due = at-due .now2 .given in
     let args = at-due .before .before .before .before .before .before .before .before .args in (
       search needs,
-      stepped-driving (args .left-a .now) (args .left-b .now) (args .lengths .now) (args .reversed .now)
+      stepped-driving (columnsOf (args .left-a .now) (args .left-b .now) (args .lengths .now) (args .reversed .now))
           (args .capacity) (due .0 .0) (step .last .1 .1 .1 .1 .0) (step .result) (step .ensures),
     )
 
@@ -85,8 +86,8 @@ loop-less-2 c =
     let due = at-due .now3 .given in
     let args = at-due .before .before .before .before .before .before .before .before .args in
     rw (due .1)
-    (stepped-less (args .left-a .now) (args .left-b .now) (args .lengths .now) (args .reversed .now) (args .capacity)
-    (due .0 .0) (step .last .1 .1 .1 .1 .0) (step .result) (step .ensures))
+    (stepped-less (columnsOf (args .left-a .now) (args .left-b .now) (args .lengths .now) (args .reversed .now))
+    (args .capacity) (due .0 .0) (step .last .1 .1 .1 .1 .0) (step .result) (step .ensures))
 
 loop-again-2 : tie.Need-loop-again-2 Inv-loop μ-loop
 loop-again-2 c =
@@ -95,7 +96,7 @@ loop-again-2 c =
     let due = at-due .now3 .given in
     let args = at-due .before .before .before .before .before .before .before .before .args in (
       search needs,
-      stepped-driving (args .left-a .now) (args .left-b .now) (args .lengths .now) (args .reversed .now)
+      stepped-driving (columnsOf (args .left-a .now) (args .left-b .now) (args .lengths .now) (args .reversed .now))
           (args .capacity) (due .0 .0) (step .last .1 .1 .1 .1 .0) (step .result) (step .ensures),
     )
 

@@ -1,7 +1,7 @@
 -- `cut_set::finish` meets its contract: what gathering keeps, settling keeps.
 -- Assumes nothing.
 use borrow.Author.Needs.{needs}
-use Rattle.cut_set.proofs.Storing.{kept-then}
+use Rattle.cut_set.proofs.Storing.{gathered-finished}
 use Rattle.cut_set.proofs.finish.Statement.{statement}
 use Rattle.cut_set.proofs.finish.Tie as tie
 
@@ -9,18 +9,13 @@ gather-requires : tie.Need-gather-requires
 gather-requires c κs = search needs
 
 settle-requires : tie.Need-settle-requires
-settle-requires c κs =
-    let gathered = c .before .before .before .gather .ensures in
-    (gathered .kept .good, gathered .run)
+settle-requires c κs = search needs
 
 same-length : tie.Need-same-length
 same-length c = search needs
 
 returns : tie.Need-returns
-returns c =
-    let settled = c .before .before .settle .ensures in
-    let gathered = c .before .before .before .before .before .before .gather .ensures in
-    record { kept = kept-then (gathered .kept) (settled .kept); all = settled .all }
+returns c = search (needs, gathered-finished)
 
 pub finish-spec : {M : Type 1} → statement M
 finish-spec = tie.close (tie.spec gather-requires settle-requires same-length returns)

@@ -7,24 +7,19 @@ use Rattle.cut_set.proofs.gather.Statement.{statement}
 use Rattle.cut_set.proofs.gather.Tie as tie
 
 returns : tie.Need-returns
-returns c = gathered-alone (c .before .before .before .pre) (inr (c .if1 .taken))
+returns c = search (needs, gathered-alone, inr)
 
 returns-2 : tie.Need-returns-2
-returns-2 c = gathered-alone (c .before .before .before .before .before .pre) (inl (c .if2 .taken))
+returns-2 c = search (needs, gathered-alone, inl)
 
 merge-requires : tie.Need-merge-requires
-merge-requires c κs =
-    let good = c .before .before .before .before .before .before .pre in
-    (found-mergeable good, good .few-found)
+merge-requires c κs = search (needs, found-mergeable)
 
 same-length : tie.Need-same-length
 same-length c = search needs
 
 returns-3 : tie.Need-returns-3
-returns-3 c =
-    let merge = c .before .before .merge in
-    good-gathered (c .before .before .before .before .before .before .before .before .before .pre) (merge .kept .0)
-    (merge .ensures)
+returns-3 c = search (needs, good-gathered)
 
 pub gather-spec : {M : Type 1} → statement M
 gather-spec = tie.close (tie.spec returns returns-2 merge-requires same-length returns-3)

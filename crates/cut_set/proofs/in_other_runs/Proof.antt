@@ -1,8 +1,8 @@
 -- `cut_set::in_other_runs` meets its contract: a run answers for itself, and its answers are joined run by run.
 -- Assumes nothing.
+use borrow.Author.Needs.{needs}
 use Rattle.runs.proofs.Membership.{in-wide}
 use Rattle.runs.proofs.Searching.{answers-yes, answers-later}
-use borrow.Author.Needs.{needs}
 use Rattle.cut_set.proofs.in_other_runs.Statement.{statement}
 use Rattle.cut_set.proofs.in_other_runs.Tie as tie
 
@@ -24,11 +24,10 @@ has-requires-3 c κs = search needs
 
 returns-3 : tie.Need-returns-3
 returns-3 c =
-    let g = c .before .before .before .before .before .before .pre in
-    answers-later (g .finished-long .order) (c .before .before .has2 .ensures .unless (c .before .if2 .left))
-    (answers-later (g .finished-short .order)
-    (c .before .before .before .before .has .ensures .unless (c .before .before .before .if1 .left))
-    (c .has3 .ensures))
+    let at-short : tie.After-has = search in
+    let at-long : tie.After-has2 = search in
+    answers-later (search needs) (at-long .has2 .ensures .unless (search needs))
+    (answers-later (search needs) (at-short .has .ensures .unless (search needs)) (c .has3 .ensures))
 
 pub in-other-runs-spec : {M : Type 1} → statement M
 in-other-runs-spec =

@@ -1,7 +1,6 @@
 -- `cut_set_doors::cut_set_add` meets its contract, as `cut_set::add` does, arm by arm. Assumes nothing.
-use mathlib.Core.Path.{refl, sym}
-use mathlib.Core.Bool.{true≢false}
 use borrow.Author.Needs.{needs}
+use Rattle.cut_set_doors.proofs.Through.{held-through, full-through}
 use Rattle.cut_set_doors.proofs.cut_set_add.Statement.{statement}
 use Rattle.cut_set_doors.proofs.cut_set_add.Tie as tie
 
@@ -27,14 +26,7 @@ same-length-2 : tie.Need-same-length-2
 same-length-2 c = search needs
 
 returns : tie.Need-returns
-returns c =
-    let at-add = c .before .before .before .before .before .before .before .before .before in
-    let added = rw (c .before .before .before .before .before .added .given .1) at (at-add .add .ensures) in
-    record {
-      held = λ e. rw (c .before .before .write-set .ensures, ← at-add .before .read-set .ensures) added;
-      full = λ e. absurd (true≢false e);
-      kept = λ e. absurd (true≢false e);
-    }
+returns c = search (needs, held-through)
 
 same-length-3 : tie.Need-same-length-3
 same-length-3 c = search needs
@@ -43,14 +35,7 @@ same-length-4 : tie.Need-same-length-4
 same-length-4 c = search needs
 
 returns-2 : tie.Need-returns-2
-returns-2 c =
-    let at-add = c .before .before .before .before in
-    let crowded = rw (c .enum-told .given .1) at (at-add .add .ensures) in
-    record {
-      held = λ e. absurd (true≢false (sym e));
-      full = λ e. rw (← at-add .before .read-set .ensures) (crowded .0);
-      kept = λ e. (crowded .1, refl);
-    }
+returns-2 c = search (needs, full-through)
 
 pub cut-set-add-spec : {M : Type 1} → statement M
 cut-set-add-spec =

@@ -1,5 +1,6 @@
 -- `cut_set_doors::cut_set_empty` meets its contract, as `cut_set::empty` does. Assumes nothing.
 use borrow.Author.Needs.{needs}
+use Rattle.cut_set_doors.proofs.Through.{emptied-through}
 use Rattle.cut_set_doors.proofs.cut_set_empty.Statement.{statement}
 use Rattle.cut_set_doors.proofs.cut_set_empty.Tie as tie
 
@@ -13,7 +14,7 @@ same-length : tie.Need-same-length
 same-length c = search needs
 
 returns : tie.Need-returns
-returns c = rw (c .before .before .write-set .ensures) (c .before .before .before .empty .ensures)
+returns c = search (needs, emptied-through)
 
 pub cut-set-empty-spec : {M : Type 1} → statement M
 cut-set-empty-spec = tie.close (tie.spec empty-requires write-set-requires same-length returns)

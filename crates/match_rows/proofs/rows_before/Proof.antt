@@ -9,7 +9,7 @@ use borrow.Author.Needs.{needs}
 use borrow.Author.Tests.{eq-eqb, ne-eqb}
 use Rattle.table.proofs.Runs.{leading-more, leading-stop, leading-none}
 use Rattle.rows.specs.Rows.{rowsOf}
-use Rattle.table.specs.Finding.{numberedElse, before}
+use Rattle.table.specs.Finding.{hasOther, before}
 use Rattle.match_rows.proofs.rows_before.Statement.{statement}
 use Rattle.match_rows.proofs.rows_before.Tie as tie
 
@@ -37,7 +37,7 @@ returns c =
     let at = start .before .args in
     let rs = rowsOf (at .table .now) in
     let stop = ap not (eq-eqb (row .row-at .result .number) (at .number) (c .if1 .taken)) in
-    omega (arith, leading-stop (numberedElse (at .number)) rs (now .loop .k) (omega arith) (row .row-at .ensures) stop)
+    omega (arith, leading-stop (hasOther (at .number)) rs (now .loop .k) (omega arith) (row .row-at .ensures) stop)
 
 add-k : tie.Need-add-k Inv-loop μ-loop
 add-k c = search needs
@@ -52,7 +52,7 @@ loop-again c =
     let start = now .before .before in
     let at = start .before .args in
     let rs = rowsOf (at .table .now) in
-    let else = numberedElse (at .number) in
+    let else = hasOther (at .number) in
     let more = ap not (ne-eqb (row .row-at .result .number) (at .number) (c .if1 .left)) in (
       omega arith,
       omega (arith, leading-more else rs (now .loop .k) (omega arith) (row .row-at .ensures) more),
@@ -64,7 +64,7 @@ returns-2 c =
     let start = now .before .before in
     let at = start .before .args in
     let rs = rowsOf (at .table .now) in
-    omega (arith, leading-none (numberedElse (at .number)) rs (now .loop .k) (omega arith))
+    omega (arith, leading-none (hasOther (at .number)) rs (now .loop .k) (omega arith))
 
 pub rows-before-spec : {M : Type 1} → statement M
 rows-before-spec =

@@ -8,7 +8,7 @@ use borrow.Author.Needs.{needs}
 use borrow.Author.Tests.{eq-eqb, ne-eqb}
 use Rattle.table.proofs.Runs.{leading-more, leading-stop, leading-none}
 use Rattle.rows.specs.Rows.{rowsOf}
-use Rattle.table.specs.Finding.{numbered, run}
+use Rattle.table.specs.Finding.{hasNumber, run}
 use Rattle.match_rows.proofs.run_end.Statement.{statement}
 use Rattle.match_rows.proofs.run_end.Tie as tie
 
@@ -37,7 +37,7 @@ returns c =
     let at = start .before .args in
     let rs = rowsOf (at .table .now) in
     let stop = ne-eqb (row .row-at .result .number) (at .number) (c .if1 .taken) in
-    omega (arith, leading-stop (numbered (at .number)) rs (now .loop .k) (omega arith) (row .row-at .ensures) stop)
+    omega (arith, leading-stop (hasNumber (at .number)) rs (now .loop .k) (omega arith) (row .row-at .ensures) stop)
 
 add-k : tie.Need-add-k Inv-loop μ-loop
 add-k c = search needs
@@ -54,7 +54,7 @@ loop-again c =
     let rs = rowsOf (at .table .now) in
     let more = eq-eqb (row .row-at .result .number) (at .number) (c .if1 .left) in (
       omega arith,
-      omega (arith, leading-more (numbered (at .number)) rs (now .loop .k) (omega arith) (row .row-at .ensures) more),
+      omega (arith, leading-more (hasNumber (at .number)) rs (now .loop .k) (omega arith) (row .row-at .ensures) more),
     )
 
 returns-2 : tie.Need-returns-2 Inv-loop μ-loop
@@ -63,7 +63,7 @@ returns-2 c =
     let start = now .before .before in
     let at = start .before .args in
     let rs = rowsOf (at .table .now) in
-    omega (arith, leading-none (numbered (at .number)) rs (now .loop .k) (omega arith))
+    omega (arith, leading-none (hasNumber (at .number)) rs (now .loop .k) (omega arith))
 
 pub run-end-spec : {M : Type 1} → statement M
 run-end-spec =

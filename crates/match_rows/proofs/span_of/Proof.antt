@@ -5,7 +5,7 @@ use native.Mathlib.Omega.{arith}
 use lib.ListN.{length, drop, length-drop}
 use borrow.Author.Needs.{needs}
 use Rattle.rows.specs.Rows.{rowWidth, rowsOf}
-use Rattle.table.specs.Finding.{numbered, before}
+use Rattle.table.specs.Finding.{hasNumber, before}
 use Rattle.rows.proofs.TableRows.{rows-length}
 use Rattle.table.proofs.Runs.{leading-inside, start-found, end-found, start-missing, size-missing}
 use Rattle.match_rows.proofs.span_of.Statement.{statement}
@@ -30,7 +30,7 @@ inside c =
     let first = found .rows-before .result in
     let rs = rowsOf (at .table .now) in
     omega
-    (arith, rows-length (at .table .now), leading-inside (numbered (at .number)) (drop first rs), length-drop first rs)
+    (arith, rows-length (at .table .now), leading-inside (hasNumber (at .number)) (drop first rs), length-drop first rs)
 
 mul-t7 : tie.Need-mul-t7
 mul-t7 c = omega (arith, inside c)

@@ -15,9 +15,6 @@ judge-opening-requires c κs = search needs
 enum-known-refusal : tie.Need-enum-known-refusal
 enum-known-refusal c = search needs
 
-refused-requires : tie.Need-refused-requires
-refused-requires c κs = search needs
-
 enum-known-p : tie.Need-enum-known-p
 enum-known-p c = search needs
 
@@ -37,7 +34,6 @@ read-spec =
     read-command-requires
     judge-opening-requires
     enum-known-refusal
-    refused-requires
     enum-known-p
     read-matches-requires
     returns

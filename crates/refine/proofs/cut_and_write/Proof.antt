@@ -17,16 +17,20 @@ enum-known-set c = search needs
 join-requires : tie.Need-join-requires
 join-requires c κs = search (needs, told-good)
 
+all-places-requires : tie.Need-all-places-requires
+all-places-requires c κs = search needs
+
 write-rows-requires : tie.Need-write-rows-requires
 write-rows-requires c κs =
-    let joined = c .before .before .before .before in
+    let placed = c .before .before in
+    let joined = placed .before .before .before .before in
     let set = joined .before .before .before in
     let answered = set .before .before .before .before in
     let start = answered .before .before .before .before .before .before .before .before in
     let fit = start .pre .0 in (
       fit,
       cuts-writable fit (start .args .table .now) (set .set .given .1) (joined .join .ensures)
-          (answered .close .ensures) (start .pre .1 .1),
+          (placed .all-places .ensures) (answered .close .ensures) (start .pre .1 .1),
     )
 
 same-length : tie.Need-same-length
@@ -44,12 +48,13 @@ same-length-3 c = search needs
 returns-2 : tie.Need-returns-2
 returns-2 c =
     let written = c .before .before in
-    let joined = written .before .before .before .before .before in
+    let placed = written .before .before .before in
+    let joined = placed .before .before .before .before in
     let set = joined .before .before .before in
     let answered = set .before .before .before .before in
     let start = answered .before .before .before .before .before .before .before .before in
     rows-tabled (start .pre .0) (start .args .table .now) (set .set .given .1) (joined .join .ensures)
-    (answered .close .ensures) (written .write-rows .ensures)
+    (placed .all-places .ensures) (answered .close .ensures) (written .write-rows .ensures)
 
 pub cut-and-write-spec : {M : Type 1} → statement M
 cut-and-write-spec =
@@ -59,6 +64,7 @@ cut-and-write-spec =
     enum-told
     enum-known-set
     join-requires
+    all-places-requires
     write-rows-requires
     same-length
     returns

@@ -7,6 +7,7 @@ use borrow.Author.Needs.{needs}
 use borrow.Fn.Kinds.{In}
 use borrow.Fn.PlainCycle.{Measures, is, falls, and}
 use Rattle.refinement.specs.declared.Side.the-variants.{A, B}
+use Rattle.refining.specs.Columns.{columnsOf}
 use Rattle.stepping.specs.Engine.{unused}
 use Rattle.stepping.proofs.Indexed.{fit-other}
 use Rattle.stepping.proofs.Stepping.{after, too-many, turn-ready, turned-open, turned-less, finished, stepped-on}
@@ -17,6 +18,7 @@ use Rattle.stepping.proofs.b_step.Reads as b-step
 use Rattle.stepping.proofs.b_step.Kinds as b-step-kinds
 use Rattle.stepping.proofs.+a_step+b_step.Lts-b_step as b-step-lts
 use Rattle.carrying_cuts.proofs.take_turn.Reads as take-turn-reads
+use Rattle.reading_cuts.proofs.none_found.Reads as none-found-reads
 use Rattle.stepping.proofs.+a_step+b_step.{statement}
 use Rattle.stepping.proofs.+a_step+b_step.Tie.{close}
 
@@ -42,10 +44,24 @@ b-step-below t = and 5 b-step-kinds.ps (falls 5 b-step-kinds.ps _<_ μ-b-step t)
 
 -- what the calls in each step ask and give, where it is at the measure t
 abbrev a-step-calls : ℕ → a-step-lts.Claims
-a-step-calls t = (take-turn-reads.Asked, take-turn-reads.Learnt, b-step-below t, b-step.Post)
+a-step-calls t = (
+  take-turn-reads.Asked,
+  take-turn-reads.Learnt,
+  none-found-reads.Asked,
+  none-found-reads.Learnt,
+  b-step-below t,
+  b-step.Post,
+)
 
 abbrev b-step-calls : ℕ → b-step-lts.Claims
-b-step-calls t = (take-turn-reads.Asked, take-turn-reads.Learnt, a-step-below t, a-step.Post)
+b-step-calls t = (
+  take-turn-reads.Asked,
+  take-turn-reads.Learnt,
+  none-found-reads.Asked,
+  none-found-reads.Learnt,
+  a-step-below t,
+  a-step.Post,
+)
 
 a-step-add-most : (t : ℕ) → a-step-lts.Need-add-most (a-step-calls t) (a-step-at t) a-step.Post
 a-step-add-most t c = search needs
@@ -61,6 +77,9 @@ a-step-enum-told t c = search needs
 a-step-enum-known-hits : (t : ℕ) → a-step-lts.Need-enum-known-hits (a-step-calls t) (a-step-at t) a-step.Post
 a-step-enum-known-hits t c = search needs
 
+a-step-none-found-requires : (t : ℕ) → a-step-lts.Need-none-found-requires (a-step-calls t) (a-step-at t) a-step.Post
+a-step-none-found-requires t c κs = search needs
+
 a-step-same-length : (t : ℕ) → a-step-lts.Need-same-length (a-step-calls t) (a-step-at t) a-step.Post
 a-step-same-length t c = search needs
 
@@ -72,7 +91,7 @@ a-step-returns t c =
     let told = c .before .before .before .hits .given in
     let next = after A (at-start .args .cuts) (told .0 .1 .0) (told .0 .1 .1 .0) (told .0 .0) in
     let turned = rw (told .1) at (at-call .take-turn .ensures) in
-    finished B (turned-open was next turned refl) (c .if1 .taken)
+    finished B (turned-open was next turned refl) (c .before .none-found .ensures .when (c .if1 .taken))
 
 a-step-same-length-2 : (t : ℕ) → a-step-lts.Need-same-length-2 (a-step-calls t) (a-step-at t) a-step.Post
 a-step-same-length-2 t c = search needs
@@ -85,7 +104,8 @@ a-step-returns-2 t c =
     let told = c .before .before .before .before .hits .given in
     let next = after A (at-start .args .cuts) (told .0 .1 .0) (told .0 .1 .1 .0) (told .0 .0) in
     let turned = rw (told .1) at (at-call .take-turn .ensures) in
-    (turned-open was next turned refl, turned-less was next turned (c .before .if1 .left))
+    let more = c .before .before .none-found .ensures .unless (c .before .if1 .left) in
+    (turned-open was next turned refl, turned-less was next turned more)
 
 a-step-sub-b-step : (t : ℕ) → a-step-lts.Need-sub-b-step (a-step-calls t) (a-step-at t) a-step.Post
 a-step-sub-b-step t c = search needs
@@ -97,8 +117,9 @@ a-step-b-step-requires t c κs =
     let was = at-start .pre .1 .1 in
     let told = c .before .before .before .before .before .hits .given in
     let next = after A (at-start .args .cuts) (told .0 .1 .0) (told .0 .1 .1 .0) (told .0 .0) in
-    let turned = rw (told .1) at (at-call .take-turn .ensures) in (
-      omega (arith, at-start .pre .0, turned-less was next turned (c .before .before .if1 .left)),
+    let turned = rw (told .1) at (at-call .take-turn .ensures) in
+    let more = c .before .before .before .none-found .ensures .unless (c .before .before .if1 .left) in (
+      omega (arith, at-start .pre .0, turned-less was next turned more),
       (at-start .pre .1 .0, turned-open was next turned refl),
     )
 
@@ -124,9 +145,10 @@ a-step-returns-4 t c =
     let turned = rw (told .1) at (at-call .take-turn .ensures) in
     let args = at-start .args in
     let step = c .before .before .b-step in
-    let more = c .before .before .before .before .before .if1 .left in
-    stepped-on (args .left-a .now) (args .left-b .now) (args .lengths .now) (args .reversed .now) (args .capacity) _
-    (args .cuts) next (turned-less was next turned more) (step .result) (step .ensures)
+    let test = c .before .before .before .before .before in
+    let more = test .before .none-found .ensures .unless (test .if1 .left) in
+    stepped-on (columnsOf (args .left-a .now) (args .left-b .now) (args .lengths .now) (args .reversed .now))
+    (args .capacity) _ (args .cuts) next (turned-less was next turned more) (step .result) (step .ensures)
 
 b-step-add-most : (t : ℕ) → b-step-lts.Need-add-most (b-step-calls t) (b-step-at t) b-step.Post
 b-step-add-most t c = search needs
@@ -142,6 +164,9 @@ b-step-enum-told t c = search needs
 b-step-enum-known-hits : (t : ℕ) → b-step-lts.Need-enum-known-hits (b-step-calls t) (b-step-at t) b-step.Post
 b-step-enum-known-hits t c = search needs
 
+b-step-none-found-requires : (t : ℕ) → b-step-lts.Need-none-found-requires (b-step-calls t) (b-step-at t) b-step.Post
+b-step-none-found-requires t c κs = search needs
+
 b-step-same-length : (t : ℕ) → b-step-lts.Need-same-length (b-step-calls t) (b-step-at t) b-step.Post
 b-step-same-length t c = search needs
 
@@ -153,7 +178,7 @@ b-step-returns t c =
     let told = c .before .before .before .hits .given in
     let next = after B (at-start .args .cuts) (told .0 .1 .0) (told .0 .1 .1 .0) (told .0 .0) in
     let turned = rw (told .1) at (at-call .take-turn .ensures) in
-    finished A (turned-open was next turned refl) (c .if1 .taken)
+    finished A (turned-open was next turned refl) (c .before .none-found .ensures .when (c .if1 .taken))
 
 b-step-same-length-2 : (t : ℕ) → b-step-lts.Need-same-length-2 (b-step-calls t) (b-step-at t) b-step.Post
 b-step-same-length-2 t c = search needs
@@ -166,7 +191,8 @@ b-step-returns-2 t c =
     let told = c .before .before .before .before .hits .given in
     let next = after B (at-start .args .cuts) (told .0 .1 .0) (told .0 .1 .1 .0) (told .0 .0) in
     let turned = rw (told .1) at (at-call .take-turn .ensures) in
-    (turned-open was next turned refl, turned-less was next turned (c .before .if1 .left))
+    let more = c .before .before .none-found .ensures .unless (c .before .if1 .left) in
+    (turned-open was next turned refl, turned-less was next turned more)
 
 b-step-sub-a-step : (t : ℕ) → b-step-lts.Need-sub-a-step (b-step-calls t) (b-step-at t) b-step.Post
 b-step-sub-a-step t c = search needs
@@ -178,8 +204,9 @@ b-step-a-step-requires t c κs =
     let was = at-start .pre .1 .1 in
     let told = c .before .before .before .before .before .hits .given in
     let next = after B (at-start .args .cuts) (told .0 .1 .0) (told .0 .1 .1 .0) (told .0 .0) in
-    let turned = rw (told .1) at (at-call .take-turn .ensures) in (
-      omega (arith, at-start .pre .0, turned-less was next turned (c .before .before .if1 .left)),
+    let turned = rw (told .1) at (at-call .take-turn .ensures) in
+    let more = c .before .before .before .none-found .ensures .unless (c .before .before .if1 .left) in (
+      omega (arith, at-start .pre .0, turned-less was next turned more),
       (at-start .pre .1 .0, turned-open was next turned refl),
     )
 
@@ -205,9 +232,10 @@ b-step-returns-4 t c =
     let turned = rw (told .1) at (at-call .take-turn .ensures) in
     let args = at-start .args in
     let step = c .before .before .a-step in
-    let more = c .before .before .before .before .before .if1 .left in
-    stepped-on (args .left-a .now) (args .left-b .now) (args .lengths .now) (args .reversed .now) (args .capacity) _
-    (args .cuts) next (turned-less was next turned more) (step .result) (step .ensures)
+    let test = c .before .before .before .before .before in
+    let more = test .before .none-found .ensures .unless (test .if1 .left) in
+    stepped-on (columnsOf (args .left-a .now) (args .left-b .now) (args .lengths .now) (args .reversed .now))
+    (args .capacity) _ (args .cuts) next (turned-less was next turned more) (step .result) (step .ensures)
 
 pub +a-step+b-step-spec : {M : Type 1} → statement M
 +a-step+b-step-spec =
@@ -219,6 +247,7 @@ pub +a-step+b-step-spec : {M : Type 1} → statement M
     (a-step-take-turn-requires t)
     (a-step-enum-told t)
     (a-step-enum-known-hits t)
+    (a-step-none-found-requires t)
     (a-step-same-length t)
     (a-step-returns t)
     (a-step-same-length-2 t)
@@ -236,6 +265,7 @@ pub +a-step+b-step-spec : {M : Type 1} → statement M
     (b-step-take-turn-requires t)
     (b-step-enum-told t)
     (b-step-enum-known-hits t)
+    (b-step-none-found-requires t)
     (b-step-same-length t)
     (b-step-returns t)
     (b-step-same-length-2 t)

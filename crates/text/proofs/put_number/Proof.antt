@@ -1,11 +1,9 @@
 -- `put_number` meets its contract: the digits that `io::decimal` writes are the fewest. Assumes nothing.
-use Prim.Native.Nat.{ℕ}
-use mathlib.Core.Path.{ap, _∙_}
+use Prim.Native.Nat.{_≤_}
 use native.Mathlib.Omega.{arith}
-use Rattle.io.specs.Digits.{digits}
-use Rattle.text.proofs.Digits.{places-fewest, places-few}
-use Rattle.text.proofs.Stores.{put-same}
 use borrow.Author.Needs.{needs}
+use Rattle.text.proofs.Digits.{fewest-few, fewest-decimal}
+use Rattle.text.proofs.Stores.{put-same}
 use Rattle.text.proofs.put_number.Statement.{statement}
 use Rattle.text.proofs.put_number.Tie as tie
 
@@ -20,23 +18,13 @@ slice-aggregate-put-bytes c = search needs
 
 put-bytes-requires : tie.Need-put-bytes-requires
 put-bytes-requires c κs =
-    let start = c .before .before .before .before .before in
-    let spelled = c .before .before .decimal .ensures in
-    let count = places-fewest 19 (start .args .number) (c .before .before .decimal .result) (omega arith)
-    (spelled .1 .0) in
-    omega (arith, spelled .0 .1, count, places-few 19 (start .args .number))
+    let few : c .before .before .decimal .result ≤ 20 = search (needs, fewest-few) in omega arith
 
 same-length : tie.Need-same-length
 same-length c = search needs
 
 returns : tie.Need-returns
-returns c =
-    let written = c .before .before in
-    let start = written .before .before .before .before .before .before in
-    let spelled = written .before .before .before .decimal .ensures in
-    let k = written .before .before .before .decimal .result in
-    let count = places-fewest 19 (start .args .number) k (omega arith) (spelled .1 .0) in
-    put-same (spelled .1 .1 ∙ ap (λ (n : ℕ). digits 10 n (start .args .number)) count) (written .put-bytes .ensures)
+returns c = search (needs, put-same, fewest-decimal)
 
 pub put-number-spec : {M : Type 1} → statement M
 put-number-spec =

@@ -4,13 +4,14 @@ use Prim.Native.Nat.{_-_}
 use native.Mathlib.Omega.{arith}
 use borrow.Author.Needs.{needs}
 use lib.ListN.{length}
+use Rattle.refining.specs.Columns.{columnsOf}
 use Rattle.writing_rows.proofs.Placing.{Done, done-start, done-long, done-cuts, done-room, done-step, done-end}
 use Rattle.writing_rows.proofs.write_rows.Statement.{statement}
 use Rattle.writing_rows.proofs.write_rows.Tie as tie
 
 abbrev Inv-loop : tie.InvT-loop
 Inv-loop left-a left-b lengths reversed work lo hi table₀ row₀ k₀ table row k =
-    Done left-a left-b lengths reversed work lo hi table₀ table row k
+    Done (columnsOf left-a left-b lengths reversed) work lo hi table₀ table row k
 
 abbrev μ-loop : tie.MeasureT-loop
 μ-loop left-a left-b lengths reversed work lo hi table₀ row₀ k₀ table row k = length lengths - k

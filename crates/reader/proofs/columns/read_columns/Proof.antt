@@ -1,0 +1,59 @@
+-- `read_columns` meets its contract: a refusal comes before any store, and the columns of an admitted script are filled
+-- from its fixed offsets. The demands follow from the equations. Assumes nothing.
+use Rattle.reader.proofs.Filled.{inside, kept-columns, filled-columns, columns-contract}
+use mathlib.Core.Path.{sym, _∙_}
+use borrow.Author.Needs.{needs}
+use Rattle.reader.proofs.columns.read_columns.Statement.{statement}
+use Rattle.reader.proofs.columns.read_columns.Tie as tie
+
+read-requires : tie.Need-read-requires
+read-requires c κs = search needs
+
+enum-told : tie.Need-enum-told
+enum-told c = search needs
+
+enum-known-verdict : tie.Need-enum-known-verdict
+enum-known-verdict c = search needs
+
+fill-columns-requires : tie.Need-fill-columns-requires
+fill-columns-requires c κs = search (needs, inside)
+
+returns : tie.Need-returns
+returns c =
+    let reads = c .before .before .read .ensures .0 in
+    columns-contract _ reads (kept-columns _ reads (c .enum-told .given .1) _ _ _ _)
+
+same-length : tie.Need-same-length
+same-length c = search needs
+
+same-length-2 : tie.Need-same-length-2
+same-length-2 c = search needs
+
+same-length-3 : tie.Need-same-length-3
+same-length-3 c = search needs
+
+same-length-4 : tie.Need-same-length-4
+same-length-4 c = search needs
+
+returns-2 : tie.Need-returns-2
+returns-2 c =
+    let filled = c .before .before .before .before .before .before .before .before in
+    let told = filled .before .before .before .before .before .before in
+    let admits = told .verdict .given .1 in
+    let reads = told .before .before .read .ensures .0 in
+    columns-contract _ (sym admits ∙ reads) (filled-columns _ reads admits (filled .fill-columns .ensures))
+
+pub read-columns-spec : {M : Type 1} → statement M
+read-columns-spec =
+    tie.close
+    (tie.spec
+    read-requires
+    enum-told
+    enum-known-verdict
+    fill-columns-requires
+    returns
+    same-length
+    same-length-2
+    same-length-3
+    same-length-4
+    returns-2)

@@ -1,0 +1,42 @@
+-- `refine_many` meets its contract: its columns have room for the matches. Assumes nothing.
+use Rattle.refine.proofs.Calls.{many-roomy}
+use borrow.Author.Needs.{needs}
+use Rattle.refine.proofs.refine_many.Statement.{statement}
+use Rattle.refine.proofs.refine_many.Tie as tie
+
+slice-aggregate-refine-in : tie.Need-slice-aggregate-refine-in
+slice-aggregate-refine-in c = search needs
+
+slice-aggregate-refine-in-2 : tie.Need-slice-aggregate-refine-in-2
+slice-aggregate-refine-in-2 c = search needs
+
+slice-aggregate-refine-in-3 : tie.Need-slice-aggregate-refine-in-3
+slice-aggregate-refine-in-3 c = search needs
+
+slice-aggregate-refine-in-4 : tie.Need-slice-aggregate-refine-in-4
+slice-aggregate-refine-in-4 c = search needs
+
+refine-in-requires : tie.Need-refine-in-requires
+refine-in-requires c κs = search (needs, many-roomy)
+
+same-length : tie.Need-same-length
+same-length c = search needs
+
+same-length-2 : tie.Need-same-length-2
+same-length-2 c = search needs
+
+returns : tie.Need-returns
+returns c = search needs
+
+pub refine-many-spec : {M : Type 1} → statement M
+refine-many-spec =
+    tie.close
+    (tie.spec
+    slice-aggregate-refine-in
+    slice-aggregate-refine-in-2
+    slice-aggregate-refine-in-3
+    slice-aggregate-refine-in-4
+    refine-in-requires
+    same-length
+    same-length-2
+    returns)
