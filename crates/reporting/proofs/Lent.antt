@@ -54,8 +54,8 @@ pub report-of-rows :
 unfolding reportOf
 report-of-rows s table work {p} {q} {n} {ms} read replied few =
     let least : LeastRows (givenBy ms) n (refiningOf s table work .table) =
-        least-rows s table work (admitted-of read) replied in
+    least-rows s table work (admitted-of read) replied in
     let lent =
-        report-rows p q (length ms) (givenBy ms) lentTable lentWork (omega (arith, lent-rows))
-        (omega (arith, least .count, lent-rows .0)) in
+    report-rows p q (length ms) (givenBy ms) lentTable lentWork (omega (arith, lent-rows))
+    (omega (arith, least .count, lent-rows .0)) in
     rw read (ap (tableText p q (length ms)) (least .rows) ∙ sym lent)

@@ -14,7 +14,8 @@ use mathlib.Core.List.{List, _++_}
 use lib.ListN.{length, take, drop, replicate}
 use lib.Dec.{ltb}
 use Rattle.script.specs.Limits.{longestScript}
-use Rattle.script.specs.Reading.{Reading, admitted, refused, readScript}
+use Rattle.script.specs.Reading.{Reading, admitted, refused, readScript, verdictOf}
+use Rattle.script.specs.declared.Verdict.{Verdict}
 use Rattle.rows.specs.Rows.{rowWidth, rowsOf}
 use Rattle.refining.specs.Refining.{givenBy, Refining, refiningOfMatches}
 use Rattle.refining.specs.declared.answers.Refined.{Refined}
@@ -69,10 +70,11 @@ reportingOfText printed text =
 abbrev pub reportingOf : List ℕ → List ℕ → Reporting
 reportingOf script text = reportingOfText (reportOf script) text
 
--- an answer is that of the call; without one the buffer is as it was
+-- an answer is that of the call; without one the script is admitted, and the buffer as it was
 abbrev pub Briefly : List ℕ → List ℕ → List ℕ → Brief → Type 0
 Briefly script text text′ (Brief.Answered reply) = reportingOf script text ≡ record { reply = reply; text = text′ }
-Briefly script text text′ Brief.Larger = text′ ≡ text
+Briefly script text text′ (Brief.Larger p q count) =
+    (verdictOf (readScript script) ≡ Verdict.Admitted p q count) × (text′ ≡ text)
 
 -- 3,000 rows of at most 86 bytes, thirty classes and the first two lines take less
 abbrev pub longestText : ℕ

@@ -7,9 +7,9 @@ pub enum Reported {
     TextTooShort(usize),
 }
 
-// What a try with a small table answers: the reply of the call, or that the table needs more rows, and then nothing is
-// written.
+// What a try with a small table answers: the reply of the call; or that the table needs more rows, and then nothing is
+// written, and what was read is handed on.
 pub enum Brief {
     Answered(Reported),
-    Larger,
+    Larger { p: u32, q: u32, count: usize },
 }

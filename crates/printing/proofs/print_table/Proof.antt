@@ -1,8 +1,8 @@
 -- `print_table` meets its contract: the text was measured before it is put. Assumes nothing.
 use borrow.Author.Needs.{needs}
-use Rattle.report.proofs.Printing.{reporting-short, reporting-whole}
-use Rattle.report.proofs.print_table.Statement.{statement}
-use Rattle.report.proofs.print_table.Tie as tie
+use Rattle.printing.proofs.Printing.{reporting-short, reporting-whole}
+use Rattle.printing.proofs.print_table.Statement.{statement}
+use Rattle.printing.proofs.print_table.Tie as tie
 
 sum-up-requires : tie.Need-sum-up-requires
 sum-up-requires c κs = search needs

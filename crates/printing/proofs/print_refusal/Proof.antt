@@ -1,8 +1,8 @@
 -- `print_refusal` meets its contract: the line was measured before it is put. Assumes nothing.
 use borrow.Author.Needs.{needs}
-use Rattle.report.proofs.Printing.{reporting-short, reporting-whole}
-use Rattle.report.proofs.print_refusal.Statement.{statement}
-use Rattle.report.proofs.print_refusal.Tie as tie
+use Rattle.printing.proofs.Printing.{reporting-short, reporting-whole}
+use Rattle.printing.proofs.print_refusal.Statement.{statement}
+use Rattle.printing.proofs.print_refusal.Tie as tie
 
 slice-aggregate-put-refusal : tie.Need-slice-aggregate-put-refusal
 slice-aggregate-put-refusal c = search needs
