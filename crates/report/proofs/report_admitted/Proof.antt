@@ -5,7 +5,8 @@ use lib.ListN.{length-take}
 use borrow.Author.Needs.{needs}
 use Rattle.rows.proofs.TableRows.{rows-length}
 use Rattle.reporting.specs.Reporting.{lentRows}
-use Rattle.report.proofs.Answers.{rows-few, report-refined}
+use Rattle.brief_report.proofs.Trying.{rows-room}
+use Rattle.report.proofs.Answers.{report-refined}
 use Rattle.report.proofs.report_admitted.Statement.{statement}
 use Rattle.report.proofs.report_admitted.Tie as tie
 
@@ -34,19 +35,20 @@ enum-known-n : tie.Need-enum-known-n
 enum-known-n c = search needs
 
 mul-table : tie.Need-mul-table
-mul-table c = let few : c .before .n .given .0 .0 ≤ lentRows = search (needs, rows-few) in omega arith
+mul-table c = let few : c .before .n .given .0 .0 ≤ lentRows = search (needs, rows-room lentRows) in omega arith
 
 array-share-prefix-table : tie.Need-array-share-prefix-table
-array-share-prefix-table c = let few : c .before .n .given .0 .0 ≤ lentRows = search (needs, rows-few) in omega arith
+array-share-prefix-table c = let few : c .before .n .given .0 .0 ≤ lentRows = search (needs, rows-room lentRows) in omega arith
 
 slice-aggregate-print-table : tie.Need-slice-aggregate-print-table
 slice-aggregate-print-table c =
-    let few : c .before .before .n .given .0 .0 ≤ lentRows = search (needs, rows-few) in
+    let few : c .before .before .n .given .0 .0 ≤ lentRows = search (needs, rows-room lentRows) in
     simp length-take (omega arith)
 
 print-table-requires : tie.Need-print-table-requires
 print-table-requires c κs =
-    let few : c .before .before .before .n .given .0 .0 ≤ lentRows = search (needs, rows-few) in
+    let lent : tie.After-n = search in
+    let few : lent .n .given .0 .0 ≤ lentRows = search (needs, rows-room lentRows) in
     simp (rows-length, length-take) (omega arith)
 
 same-length : tie.Need-same-length
