@@ -3,10 +3,11 @@
 --     report-short     for a longer one its length is told, and every byte is kept
 --     report-fits      no report is longer than longestText ..
 --     report-printed   .. so that the call prints it whole into such a buffer
+--     printed-stands   what is printed is the report, at the buffer's start
 -- A table has at most 3,000 rows, because refining writes no more rows than the lent table has room for.
 -- Assumes nothing.
 use Prim.Native.Nat.{ℕ, _*_, _≤_, _<_}
-use mathlib.Core.Path.{_≡_, refl}
+use mathlib.Core.Path.{_≡_, refl, sym, ap, _∙_}
 use mathlib.Core.List.{List, _++_, map}
 use native.Mathlib.Omega.{arith}
 use native.Mathlib.Decide.{decLe}
@@ -68,3 +69,20 @@ pub report-printed :
       text = reportOf script ++ drop (length (reportOf script)) text;
     }
 report-printed script text room = report-whole script text (omega (arith, report-fits script))
+
+pub printed-stands :
+    (script text : List ℕ) {n : ℕ} {text′ : List ℕ}
+    → reportingOf script text ≡ record { reply = Reported.Printed n; text = text′ }
+    → (n ≡ length (reportOf script)) × (text′ ≡ reportOf script ++ drop (length (reportOf script)) text)
+printed-stands script text {n} e =
+    elim (decLe (length (reportOf script)) (length text)) [
+      | yes room ↦
+          let whole = sym e ∙ report-whole script text room in
+          let told : Reported.Printed n ≡ Reported.Printed (length (reportOf script)) = ap (λ x. x .reply) whole in
+          (cc, ap (λ x. x .text) whole)
+      | no many ↦
+          let short = sym e ∙ report-short script text (omega arith) in
+          let told : Reported.Printed n ≡ Reported.TextTooShort (length (reportOf script)) = ap (λ x. x .reply) short in
+          let z : _≡_ {A = ℕ} 0 1 = cc in
+          absurd (omega arith)
+    ]

@@ -1,13 +1,27 @@
--- `print_report` meets its contract: what is written is the text that was made. Assumes nothing.
+-- `print_report` meets its contract: what is written is the text that was made, be it in the small buffer or the large.
+-- Assumes nothing.
+use native.Mathlib.Omega.{arith}
 use borrow.Author.Needs.{needs}
 use Rattle.notchergrey.proofs.print_report.Statement.{statement}
 use Rattle.notchergrey.proofs.print_report.Tie as tie
 
-slice-aggregate-make-text : tie.Need-slice-aggregate-make-text
-slice-aggregate-make-text c = search needs
+print-large-requires : tie.Need-print-large-requires
+print-large-requires c κs = search needs
 
-make-text-requires : tie.Need-make-text-requires
-make-text-requires c κs = search needs
+returns : tie.Need-returns
+returns c = search needs
+
+slice-aggregate-make-brief : tie.Need-slice-aggregate-make-brief
+slice-aggregate-make-brief c = search needs
+
+make-brief-requires : tie.Need-make-brief-requires
+make-brief-requires c κs = search needs
+
+print-large-requires-2 : tie.Need-print-large-requires-2
+print-large-requires-2 c κs = search needs
+
+returns-2 : tie.Need-returns-2
+returns-2 c = search needs
 
 array-share-prefix-text : tie.Need-array-share-prefix-text
 array-share-prefix-text c = search needs
@@ -16,21 +30,26 @@ slice-aggregate-write-text : tie.Need-slice-aggregate-write-text
 slice-aggregate-write-text c = search needs
 
 write-text-requires : tie.Need-write-text-requires
-write-text-requires c κs = search needs
+write-text-requires c κs =
+    let made : tie.After-make-brief = search in
+    made .make-brief .ensures .1 (omega arith)
 
-returns : tie.Need-returns
-returns c =
-    let after-made = c .before .before in
-    let made = after-made .before in
-    rw (made .make-text .ensures .1) at (c .write-text .ensures)
+returns-3 : tie.Need-returns-3
+returns-3 c =
+    let made : tie.After-make-brief = search in
+    rw (made .make-brief .ensures .1 (omega arith)) at (c .write-text .ensures)
 
 pub print-report-spec : {M : Type 1} → statement M
 print-report-spec =
     tie.close
     (tie.spec
-    slice-aggregate-make-text
-    make-text-requires
+    print-large-requires
+    returns
+    slice-aggregate-make-brief
+    make-brief-requires
+    print-large-requires-2
+    returns-2
     array-share-prefix-text
     slice-aggregate-write-text
     write-text-requires
-    returns)
+    returns-3)
