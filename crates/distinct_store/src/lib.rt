@@ -114,7 +114,15 @@ fn seek(table: &[u32], slots: &[u32], from: usize, row: Row, probes: usize) -> S
 }
 
 // Takes row k in, which is `row`, unless its piece is there; `spot` is where it is dealt to.
-fn enroll(table: &[u32], slots: &mut [u32], by: Dealing, row: Row, dealt: u64, k: usize, probes: usize) -> Enrolled
+fn enroll(
+    table: &[u32],
+    slots: &mut [u32],
+    by: Dealing,
+    row: Row,
+    dealt: u64,
+    k: usize,
+    probes: usize,
+) -> Enrolled
     requires { ⌜ (k < length (rowsOf (now table))) × (k + 1 < 2 ^ 32) ⌝ }
     requires { ⌜ (row ≡ rowAt (rowsOf (now table)) k) × (dealt ≡ spot by row) ⌝ }
     requires { ⌜ Kept by (shareOf by row) (rowsOf (now table)) k (now slots) ⌝ }
@@ -132,7 +140,13 @@ fn enroll(table: &[u32], slots: &mut [u32], by: Dealing, row: Row, dealt: u64, k
 }
 
 // Counts the pieces of one share, with empty slots, in one pass over the table.
-pub fn count_share(table: &[u32], slots: &mut [u32], by: Dealing, share: u64, probes: usize) -> Counting
+pub fn count_share(
+    table: &[u32],
+    slots: &mut [u32],
+    by: Dealing,
+    share: u64,
+    probes: usize,
+) -> Counting
     requires { ⌜ length (rowsOf (now table)) < 2 ^ 32 ⌝ }
     requires { ⌜ Empty (now slots) ⌝ }
     ensures { λ r. ⌜ Sharing by share (rowsOf (now (table .entry))) r ⌝ }

@@ -50,8 +50,7 @@ enroll-requires c κs =
     let dealt = c .before .before in
     let read = dealt .before in
     let now = read .before .before in
-    let mine = rw (dealt .spot-of .ensures) at (c .before .if1 .left) in
-    (
+    let mine = rw (dealt .spot-of .ensures) at (c .before .if1 .left) in (
       (omega arith, omega arith),
       ((read .row-at .ensures, dealt .spot-of .ensures), rw mine (now .loop .inv .1 .kept)),
     )
