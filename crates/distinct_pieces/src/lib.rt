@@ -15,7 +15,7 @@ ghost use Rattle.table.specs.Distinct.{occurs, firstOfEach};
 ghost use Rattle.distinct_store.specs.Store.{Sharing};
 ghost use Rattle.distinct_pieces.specs.Attempts.{Attempt};
 
-// The slots of a store, and the most rows that it is used for, so that less than half of them are taken.
+// The slots of a store, and how many rows it is used for: some six tenths of the slots at most.
 const SMALL_STORE: usize = 512;
 
 const SMALL_ROWS: usize = 224;
@@ -26,9 +26,9 @@ const MEDIUM_ROWS: usize = 3584;
 
 const LARGE_STORE: usize = 32_768;
 
-const LARGE_ROWS: usize = 15_000;
+const LARGE_ROWS: usize = 20_000;
 // So many slots behind the last home take what does not fit there.
-const SPARE: usize = 64;
+const SPARE: usize = 128;
 // A count is given up that looks at more stored rows than so many for each row of the table, and some.
 const PROBES_PER_ROW: usize = 4;
 

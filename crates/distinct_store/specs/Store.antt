@@ -17,6 +17,7 @@ use mathlib.Core.Bool.{Bool, true, false}
 use mathlib.Core.Path.{_≡_}
 use mathlib.Core.List.{List}
 use lib.ListN.{length, getD, take}
+use lib.Bits.{bitXor}
 use lib.Dec.{eqb}
 use Rattle.rows.specs.Rows.{rowAt}
 use Rattle.table.specs.Distinct.{same, occurs, firstOfEach}
@@ -34,7 +35,8 @@ summed by r =
 
 -- nothing is asked of it but that rows of the same piece have the same; the better it spreads, the less a search costs
 unfoldable pub mixed : Dealing → Row → ℕ
-mixed by r = (summed by r / 2 ^ 32 * by .high + summed by r % 2 ^ 32 * by .low) % 2 ^ 64 % 2 ^ 32
+mixed by r =
+    bitXor ((summed by r / 2 ^ 32 * by .high + summed by r % 2 ^ 32 * by .low) % 2 ^ 64) (by .high) % 2 ^ 32
 
 unfoldable pub spot : Dealing → Row → ℕ
 spot by r = mixed by r * by .shares

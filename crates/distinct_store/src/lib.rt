@@ -80,7 +80,7 @@ fn mixed_of(row: Row, by: Dealing) -> u32
     let high = (sum / 0x1_0000_0000) as u32;
     let low = (sum % 0x1_0000_0000) as u32;
     let mixed = std::num::wrapping_add_u64(product(high, by.high), product(low, by.low));
-    (mixed % 0x1_0000_0000) as u32
+    ((mixed ^ by.high as u64) % 0x1_0000_0000) as u32
 }
 
 fn spot_of(row: Row, by: Dealing) -> u64

@@ -25,6 +25,9 @@ wrapping-add-u64-requires c κs = search needs
 cast-result : tie.Need-cast-result
 cast-result c = search needs
 
+cast-result-2 : tie.Need-cast-result-2
+cast-result-2 c = search needs
+
 returns : tie.Need-returns
 unfolding mixed
 returns c = cc
@@ -40,4 +43,5 @@ mixed-of-spec =
     product-requires-2
     wrapping-add-u64-requires
     cast-result
+    cast-result-2
     returns)
