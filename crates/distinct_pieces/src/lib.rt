@@ -1,7 +1,7 @@
 // The count of distinct pieces. Rows are dealt into shares, by a number that depends on the piece alone, and each pass
-// over the table counts one share with the help of a store in a local array. Rows that are dealt badly make a count give
-// up after so many probes; it is tried again with factors drawn from all rows, and at last done by comparing every row
-// with those before it.
+// over the table counts one share with the help of a store in a local array. Rows that are dealt badly make a count
+// give up after so many probes; it is tried again with factors drawn from all rows, and at last done by comparing every
+// row with those before it.
 use distinct_store::Counting;
 use distinct_store::Dealing;
 use rows::Row;
@@ -158,8 +158,8 @@ fn homes_of(rows: usize) -> u32
     (LARGE_STORE - SPARE) as u32
 }
 
-// Neighbours of a refinement, whose left ends go up on A and up or down on B by the same step, are spread evenly: the
-// factors' sum and difference, over 2^32, are close to no fraction of small numbers.
+// Neighbours in a refinement, whose left ends go up on A and up or down on B by the same step, are spread evenly: the
+// sum and the difference of the first two factors, over 2^32, are close to no fraction of small numbers.
 fn fixed_dealing(rows: usize) -> Dealing
     requires { ⌜ rows < 2 ^ 32 ⌝ }
     ensures { λ r. ⌜ 0 < r .shares ⌝ }
@@ -168,8 +168,6 @@ fn fixed_dealing(rows: usize) -> Dealing
         left_a: 0x8420_BA49,
         left_b: 0x1A16_BF71,
         length: 0x1B87_3593,
-        high: 0,
-        low: 1,
         shares: shares_of(rows),
         homes: homes_of(rows),
     }
@@ -247,8 +245,6 @@ fn drawn_dealing(table: &[u32], attempt: u64) -> Dealing
         left_a: (pool.a >> 32) as u32,
         left_b: (pool.b >> 32) as u32,
         length: (pool.c >> 32) as u32,
-        high: (pool.d >> 32) as u32,
-        low: (pool.d % 0x1_0000_0000) as u32,
         shares: shares_of(rows),
         homes: homes_of(rows),
     }

@@ -1,5 +1,6 @@
 -- How the count of distinct pieces looks a piece up.
---     mixed by r                        the number below 2^32 that a piece is dealt by
+--     summed by r                       the piece's three numbers, each times its factor, added up
+--     mixed by r                        the two halves of the sum joined: what a piece is dealt by, below 2^32
 --     spot by r                         the same, spread over the shares
 --     shareOf by r, homeOf by r         the share, and the slot where looking for the piece starts
 --     inShare by s r                    r is in share s
@@ -8,7 +9,7 @@
 --     Held rs slots r                   a row of the same piece as r is stored
 --     Kept by s rs k slots              the slots are a store of the pieces of share s among the first k rows of rs
 --     Gap, Seeking                      what looking for a piece tells, by its answer
---     Enrolling                         what a store is and knows after one more row of its share
+--     Entered, Enrolling                what a store is and knows after one more row of its share, by its answer
 --     Sharing                           what the count of one share is, unless it was given up
 -- A slot holds a row's number counted from 1, or 0 where it is free. From a row's home to its slot no slot is free.
 -- Assumes nothing.
@@ -35,8 +36,7 @@ summed by r =
 
 -- nothing is asked of it but that rows of the same piece have the same; the better it spreads, the less a search costs
 unfoldable pub mixed : Dealing → Row → ℕ
-mixed by r =
-    bitXor ((summed by r / 2 ^ 32 * by .high + summed by r % 2 ^ 32 * by .low) % 2 ^ 64) (by .high) % 2 ^ 32
+mixed by r = bitXor (summed by r) (summed by r / 2 ^ 32) % 2 ^ 32
 
 unfoldable pub spot : Dealing → Row → ℕ
 spot by r = mixed by r * by .shares

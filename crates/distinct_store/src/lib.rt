@@ -13,14 +13,12 @@ ghost use Rattle.table.specs.Distinct.{same};
 ghost use Rattle.distinct_store.specs.Store.{summed, mixed, spot, shareOf, Inside, Empty, Kept};
 ghost use Rattle.distinct_store.specs.Store.{Seeking, Enrolling, Sharing};
 
-// How rows are dealt: the factors of a piece's three numbers, those of the halves of their sum, how many shares there
-// are and how many slots of a store are homes.
+// How rows are dealt: the factors of a piece's three numbers, how many shares there are, and how many slots of a store
+// are homes.
 pub struct Dealing {
     pub left_a: u32,
     pub left_b: u32,
     pub length: u32,
-    pub high: u32,
-    pub low: u32,
     pub shares: u32,
     pub homes: u32,
 }
@@ -77,10 +75,7 @@ fn mixed_of(row: Row, by: Dealing) -> u32
     ensures { λ r. ⌜ r ≡ mixed by row ⌝ }
 {
     let sum = sum_of(row, by);
-    let high = (sum / 0x1_0000_0000) as u32;
-    let low = (sum % 0x1_0000_0000) as u32;
-    let mixed = std::num::wrapping_add_u64(product(high, by.high), product(low, by.low));
-    ((mixed ^ by.high as u64) % 0x1_0000_0000) as u32
+    ((sum ^ sum / 0x1_0000_0000) % 0x1_0000_0000) as u32
 }
 
 fn spot_of(row: Row, by: Dealing) -> u64
@@ -113,7 +108,7 @@ fn seek(table: &[u32], slots: &[u32], from: usize, row: Row, probes: usize) -> S
     Sought::Lost
 }
 
-// Takes row k in, which is `row`, unless its piece is there; `spot` is where it is dealt to.
+// Takes row k in, which is `row` and dealt to `dealt`, unless its piece is there.
 fn enroll(
     table: &[u32],
     slots: &mut [u32],

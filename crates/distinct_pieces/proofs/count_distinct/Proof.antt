@@ -31,7 +31,8 @@ enum-known-found c = search needs
 
 returns-2 : tie.Need-returns-2 Inv-loop μ-loop
 returns-2 c =
-    let called = c .before .before .before in
+    let arm = c .before .before in
+    let called = arm .before in
     rw (c .before .found .given .1) at (called .attempt-count .ensures)
 
 enum-told : tie.Need-enum-told Inv-loop μ-loop

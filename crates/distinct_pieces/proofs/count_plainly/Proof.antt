@@ -1,11 +1,12 @@
--- `count_plainly` meets its contract. The loop keeps `Firsts`: the first rows among the first k are counted; the measure
--- is how many rows are left. Assumes nothing.
+-- `count_plainly` meets its contract. The loop keeps `Firsts`: the first rows among the first k are counted; the
+-- measure is how many rows are left. Assumes nothing.
 use Prim.Native.Nat.{_-_}
 use mathlib.Core.Path.{sym, _∙_}
 use native.Mathlib.Omega.{arith}
 use borrow.Author.Needs.{needs}
 use Rattle.rows.specs.Rows.{rowsOf}
-use Rattle.distinct_pieces.proofs.Plainly.{Firsts, firsts-starts, firsts-bound, firsts-old, firsts-new, firsts-all}
+use Rattle.distinct_pieces.proofs.Plainly.{Firsts, firsts-starts, firsts-bound, firsts-all}
+use Rattle.distinct_pieces.proofs.Plainly.{firsts-old, firsts-new}
 use Rattle.distinct_pieces.proofs.count_plainly.Statement.{statement}
 use Rattle.distinct_pieces.proofs.count_plainly.Tie as tie
 

@@ -1,5 +1,5 @@
--- `count_shares` meets its contract. The loop keeps `Below`: the pieces of the shares so far are counted; the measure is
--- how many shares are left. Assumes nothing.
+-- `count_shares` meets its contract. The loop keeps `Below`: the pieces of the shares so far are counted; the measure
+-- is how many shares are left. Assumes nothing.
 use Prim.Native.Nat.{_-_}
 use native.Mathlib.Omega.{arith}
 use borrow.Author.Needs.{needs}
@@ -28,7 +28,8 @@ enum-known-found c = search needs
 
 add-all : tie.Need-add-all Inv-loop μ-loop
 add-all c =
-    let called = c .before .before .before in
+    let arm = c .before .before in
+    let called = arm .before in
     let now = called .before .before in
     let counted = rw (c .before .found .given .1) at (called .count-share .ensures) in
     omega (arith, below-bound (below-more (now .loop .inv) _ (omega arith) counted))
@@ -47,7 +48,8 @@ loop-less c = search needs
 
 loop-again : tie.Need-loop-again Inv-loop μ-loop
 loop-again c =
-    let called = c .before .before .before in
+    let arm = c .before .before in
+    let called = arm .before in
     let now = called .before .before in
     let counted = rw (c .before .found .given .1) at (called .count-share .ensures) in
     below-more (now .loop .inv) _ (omega arith) counted

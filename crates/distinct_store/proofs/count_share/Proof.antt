@@ -23,7 +23,8 @@ row-count-requires c κs = search needs
 
 loop-holds : tie.Need-loop-holds Inv-loop μ-loop
 loop-holds c =
-    let start = c .before .before .before in
+    let entry = c .before in
+    let start = entry .before .before in
     (refl, dealt-starts (start .args .by) (start .args .share) (rowsOf (start .args .table .now)) (start .pre .1))
 
 row-at-requires : tie.Need-row-at-requires Inv-loop μ-loop
@@ -63,7 +64,8 @@ loop-less-2 c = search needs
 
 loop-again-2 : tie.Need-loop-again-2 Inv-loop μ-loop
 loop-again-2 c =
-    let told = c .before .before .before in
+    let arm = c .before .before in
+    let told = arm .before in
     let called = told .before .before in
     let test = called .before .before in
     let read = test .before .before in
@@ -77,10 +79,12 @@ enum-known-l-2 c = search needs
 
 add-found : tie.Need-add-found Inv-loop μ-loop
 add-found c =
-    let told = c .before .before .before in
+    let arm = c .before .before in
+    let told = arm .before in
     let called = told .before .before in
     let test = called .before .before in
-    let now = test .before .before .before .before in
+    let read = test .before .before in
+    let now = read .before .before in
     omega (arith, dealt-bound (now .loop .inv .1))
 
 loop-less-3 : tie.Need-loop-less-3 Inv-loop μ-loop
@@ -88,14 +92,16 @@ loop-less-3 c = search needs
 
 loop-again-3 : tie.Need-loop-again-3 Inv-loop μ-loop
 loop-again-3 c =
-    let told = c .before .before .before in
+    let arm = c .before .before in
+    let told = arm .before in
     let called = told .before .before in
     let test = called .before .before in
     let read = test .before .before in
     let now = read .before .before in
     let mine = rw (test .before .spot-of .ensures) at (test .if1 .left) in
     let entered = rw (c .before .l2 .given .1) at (called .enroll .ensures) in
-    (search needs, dealt-fresh (now .loop .inv .1) (omega arith) (rw (read .row-at .ensures) at mine) (rw mine at entered))
+    let here = rw (read .row-at .ensures) at mine in
+    (search needs, dealt-fresh (now .loop .inv .1) (omega arith) here (rw mine at entered))
 
 enum-told : tie.Need-enum-told Inv-loop μ-loop
 enum-told c = search needs

@@ -35,13 +35,15 @@ add-slots c = search needs
 
 mul-slots : tie.Need-mul-slots
 mul-slots c =
-    let called = c .before .before .before in
+    let arm = c .before .before in
+    let called = arm .before in
     let gap = rw (c .before .at .given .1) at (called .seek .ensures) in
     omega (arith, gap .within)
 
 slice-write-slots : tie.Need-slice-write-slots
 slice-write-slots c =
-    let called = c .before .before .before in
+    let arm = c .before .before in
+    let called = arm .before in
     let gap = rw (c .before .at .given .1) at (called .seek .ensures) in
     gap .within
 
@@ -53,9 +55,11 @@ same-length c = search needs
 
 returns : tie.Need-returns
 returns c =
-    let called = c .before .before .before in
+    let arm = c .before .before in
+    let called = arm .before in
     let made = called .before .before in
-    let start = made .before .before .before in
+    let entry = made .before in
+    let start = entry .before .before in
     let found = rw (c .before .left .given .1) at (called .seek .ensures) in
     enrolled-known (start .pre .1 .1) (start .pre .0 .0) (start .pre .1 .0 .0) found
 
@@ -64,9 +68,11 @@ same-length-2 c = search needs
 
 returns-2 : tie.Need-returns-2
 returns-2 c =
-    let called = c .before .before .before in
+    let arm = c .before .before in
+    let called = arm .before in
     let made = called .before .before in
-    let start = made .before .before .before in
+    let entry = made .before in
+    let start = entry .before .before in
     let gap = rw (c .before .at .given .1) at (called .seek .ensures) in
     let home : made .product .result / 2 ^ 32 ≡ homeOf (start .args .by) (start .args .row) = cc in
     enrolled-fresh (start .pre .1 .1) (start .pre .0 .0) (start .pre .1 .0 .0) home gap

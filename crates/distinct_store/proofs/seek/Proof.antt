@@ -27,7 +27,8 @@ shared-slice-read-stored c = search needs
 
 returns : tie.Need-returns Inv-loop μ-loop
 returns c =
-    let now = c .before .before .before in
+    let read = c .before in
+    let now = read .before .before in
     passing-gap (now .loop .inv) (omega arith) (c .if1 .taken)
 
 returns-2 : tie.Need-returns-2 Inv-loop μ-loop
@@ -46,7 +47,8 @@ cast-row-at c =
 
 row-at-requires : tie.Need-row-at-requires Inv-loop μ-loop
 row-at-requires c κs =
-    let now = c .before .before .before .before in
+    let read = c .before .before in
+    let now = read .before .before in
     omega (arith, now .loop .inv .stored .inside (now .loop .at))
 
 same-piece-requires : tie.Need-same-piece-requires Inv-loop μ-loop
@@ -55,7 +57,8 @@ same-piece-requires c κs = search needs
 returns-3 : tie.Need-returns-3 Inv-loop μ-loop
 returns-3 c =
     let found = c .before .before in
-    let read = found .before .before .before in
+    let tests = found .before in
+    let read = tests .before .before in
     let now = read .before .before in
     let hit = rw (found .row-at .ensures) at (sym (c .before .same-piece .ensures) ∙ c .if3 .taken) in
     held-here _ _ _ (now .loop .at) (omega arith) hit
@@ -69,7 +72,8 @@ loop-less c = search needs
 loop-again : tie.Need-loop-again Inv-loop μ-loop
 loop-again c =
     let found = c .before .before in
-    let read = found .before .before .before in
+    let tests = found .before in
+    let read = tests .before .before in
     let now = read .before .before in
     let other = rw (found .row-at .ensures) at (sym (c .before .same-piece .ensures) ∙ c .if3 .left) in
     passing-on (now .loop .inv) (omega arith) other
