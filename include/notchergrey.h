@@ -15,8 +15,8 @@
  * - `place` becomes the offset in the script of the command that is refused, the script's length if bytes ran out where
  *   a command was due, the first extra byte for NOTCHERGREY_TAIL, and 0 for the refusals from 11 on.
  * - A thread with a stack of 512 kB may call any of them, and one with 256 kB any but notchergrey_report. Measured on
- *   x86-64, whatever the input: notchergrey_report takes at most STACK_REPORT kB, notchergrey_refine, notchergrey_match and the
- *   two that carry 108 kB, notchergrey_summary STACK_SUMMARY kB, notchergrey_read 81 kB, notchergrey_rows_of next to nothing. With
+ *   x86-64, whatever the input: notchergrey_report takes at most 268 kB, notchergrey_refine, notchergrey_match and the
+ *   two that carry 108 kB, notchergrey_summary 133 kB, notchergrey_read 81 kB, notchergrey_rows_of next to nothing. With
  *   less the program ends with a segmentation fault: each page of the stack is touched in turn, so that the page that
  *   guards its end is met and nothing behind it is overwritten.
  *
@@ -111,8 +111,8 @@ uint32_t notchergrey_rows_of(const uint32_t *table, size_t table_len, uint32_t n
  * Sums a table up: its pieces, the distinct ones among them (by left-A, left-B and length), the sum of their lengths
  * modulo 2^64, and in classes[c] the pieces whose length is at least 2^c and below 2^(c+1). `classes` must point to
  * thirty numbers; all are set. Always returns 0. Hand over the finished rows alone, as for notchergrey_rows_of. It
- * took TIME_HUNDRED s for 100,000 rows and TIME_MILLION s for 1,000,000 where it was measured, twice as long for rows made to be slow; from
- * some 100,000 rows on its time grows with their square.
+ * took 0.005 s for 100,000 rows and 0.3 s for 1,000,000 where it was measured, and two to three times as long for rows
+ * made to be slow; from some 100,000 rows on its time grows with their square.
  */
 uint32_t notchergrey_summary(const uint32_t *table, size_t table_len, size_t *pieces, size_t *distinct,
                              uint64_t *letters, size_t classes[NOTCHERGREY_CLASSES]);

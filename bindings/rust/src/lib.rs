@@ -42,8 +42,8 @@
 //! # Stack
 //!
 //! The calls need no more than the main thread and the threads of the standard library have by default. A thread with a
-//! stack of 512 kB may call any of them, and one with 256 kB any but [`report`]: that takes STACK_REPORT kB, refining, finding a
-//! match and carrying 108 kB, the summary STACK_SUMMARY kB, reading 81 kB, whatever the input, as measured on x86-64. With less
+//! stack of 512 kB may call any of them, and one with 256 kB any but [`report`]: that takes 268 kB, refining, finding a
+//! match and carrying 108 kB, the summary 133 kB, reading 81 kB, whatever the input, as measured on x86-64. With less
 //! the program is aborted, as on any overflow of the stack.
 
 #![warn(missing_docs)]
