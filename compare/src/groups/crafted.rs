@@ -57,7 +57,9 @@ fn close_rows(rows: u32, number: u32, bits: u32) -> Vec<u32> {
     let mut table = Vec::new();
     for length in 1_u32.. {
         for left_a in 0..SMALL {
-            let others = left_a.wrapping_mul(on_a).wrapping_add(length.wrapping_mul(on_length));
+            let others = left_a
+                .wrapping_mul(on_a)
+                .wrapping_add(length.wrapping_mul(on_length));
             let from = wanted.wrapping_sub(others);
             let start = products.partition_point(|&(product, _)| product < from);
             let near = products[start..]
