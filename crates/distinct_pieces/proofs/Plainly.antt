@@ -11,7 +11,7 @@ use mathlib.Core.Path.{_≡_, refl, sym, ap, _∙_}
 use mathlib.Core.List.{List, [], _∷_}
 use native.Mathlib.Omega.{arith}
 use native.Mathlib.Decide.{decLt}
-use lib.ListN.{length, getD, take, replicate, length-append, length-replicate, getD-replicate, List·getD-eq-default}
+use lib.ListN.{length, take, replicate, length-append, length-replicate, getD-replicate, List·getD-eq-default}
 use lib.Seq.{length-take-le, take-all}
 use Rattle.rows.specs.Rows.{rowAt}
 use Rattle.table.specs.Distinct.{occurs, firstsAfter, firstOfEach}
