@@ -15,7 +15,7 @@
  * - `place` becomes the offset in the script of the command that is refused, the script's length if bytes ran out where
  *   a command was due, the first extra byte for NOTCHERGREY_TAIL, and 0 for the refusals from 11 on.
  * - A thread with a stack of 512 kB may call any of them, and one with 256 kB any but notchergrey_report. Measured on
- *   x86-64, whatever the input: notchergrey_report takes at most 215 kB, notchergrey_summary 99 kB, notchergrey_refine
+ *   x86-64, whatever the input: notchergrey_report takes at most 245 kB, notchergrey_summary 133 kB, notchergrey_refine
  *   81 kB, the others next to nothing. With less the program ends with a segmentation fault: each page of the stack is
  *   touched in turn, so that the page that guards its end is met and nothing behind it is overwritten.
  *
@@ -109,9 +109,9 @@ uint32_t notchergrey_rows_of(const uint32_t *table, size_t table_len, uint32_t n
 /*
  * Sums a table up: its pieces, the distinct ones among them (by left-A, left-B and length), the sum of their lengths
  * modulo 2^64, and in classes[c] the pieces whose length is at least 2^c and below 2^(c+1). `classes` must point to
- * thirty numbers; all are set. Always returns 0. Hand over the finished rows alone, as for notchergrey_rows_of. Its
- * time grows with the square of the rows: 0.01 s for 100,000, 1.3 s for 1,000,000, 5 s for 2,000,000 where it was
- * measured.
+ * thirty numbers; all are set. Always returns 0. Hand over the finished rows alone, as for notchergrey_rows_of. It
+ * took 0.005 s for 100,000 rows and 0.3 s for 1,000,000 where it was measured, and two to three times as long for rows
+ * made to be slow; from some 100,000 rows on its time grows with their square.
  */
 uint32_t notchergrey_summary(const uint32_t *table, size_t table_len, size_t *pieces, size_t *distinct,
                              uint64_t *letters, size_t classes[NOTCHERGREY_CLASSES]);

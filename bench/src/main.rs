@@ -3,9 +3,11 @@
 
 mod reader;
 mod refiner;
+mod summary;
 mod timing;
 
 fn main() {
     reader::run();
     refiner::run();
+    summary::run();
 }

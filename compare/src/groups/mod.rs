@@ -1,6 +1,7 @@
 //! The inputs of the differential run, in groups.
 
 mod changed;
+pub mod crafted;
 mod edges;
 mod faults;
 mod good;
@@ -116,4 +117,7 @@ pub const TABLES: Groups<u32> = &[
     group("every length up to three rows", tables::every_small_length),
 ];
 
-pub const LONG_TABLES: Groups<u32> = &[group("3,000 rows and more", tables::long)];
+pub const LONG_TABLES: Groups<u32> = &[
+    group("3,000 rows and more", tables::long),
+    group("rows made against the fixed factors", tables::crafted),
+];

@@ -1,6 +1,6 @@
 //! Tables, most of which no script has.
 
-use super::{shapes, tiny};
+use super::{crafted, shapes, tiny};
 use crate::random::Random;
 use crate::slow::report::ROWS;
 use crate::slow::table::{refine, NUMBERS_OF_A_ROW, WORK_OF_A_ROW};
@@ -79,6 +79,17 @@ pub fn long(random: &mut Random) -> Vec<Vec<u32>> {
             };
             tables.push(numbers.into_iter().flat_map(row).collect());
         }
+    }
+    tables
+}
+
+/// Rows that the proved summary gives up to count at its first attempt, for each of its stores.
+pub fn crafted(random: &mut Random) -> Vec<Vec<u32>> {
+    let mut tables = Vec::new();
+    for rows in [100, 224, 1_000, 3_584, 3_585, 20_000, 40_000] {
+        tables.push(crafted::one_home(rows));
+        tables.push(crafted::one_share(rows, random));
+        tables.push(crafted::trouble_at_the_end(rows));
     }
     tables
 }

@@ -1,3 +1,2 @@
-pub mod Buckets
-pub mod Passes
+pub mod Plainly
 pub mod Shares

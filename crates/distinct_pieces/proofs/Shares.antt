@@ -1,25 +1,29 @@
 -- Rows counted share by share.
---     belowShare n s r                    r is in a share before s, of n shares
---     shares-start, shares-more           no row before share 0; the rows before the next share
---     shares-all                          all rows before the last
+--     belowShare by s r               r is in a share before s
+--     Below                           the pieces of the shares before one are counted
+--     below-starts, below-more        before the first share, and after one more
+--     below-bound, below-all          no more than rows; behind the last share
 -- Assumes nothing.
-use Prim.Native.Nat.{ℕ, _+_, _*_, _/_, _<_}
+use Prim.Native.Nat.{ℕ, _+_, _*_, _/_, _≤_, _<_, zero-le}
 use mathlib.Core.Bool.{Bool, true, false, cond}
-use mathlib.Core.Path.{_≡_, _∙_}
-use mathlib.Core.List.{List}
+use mathlib.Core.Path.{_≡_, sym, _∙_}
+use mathlib.Core.List.{List, []}
 use native.Mathlib.Omega.{arith}
 use native.Mathlib.Decide.{decLt, ℕ-discrete}
 use native.Mathlib.Nat.{mul-comm, mul-lt-mul-of-pos-right, div-lt-iff-lt-mul}
 use borrow.Author.Tests.{eq-eqb, ne-eqb, lt-ltb, le-ltb}
 use lib.ListN.{length}
 use lib.Dec.{eqb, ltb, lit<}
+use Rattle.table.specs.Distinct.{firstOfEach}
 use Rattle.table.specs.Summing.{count}
-use Rattle.distinct_pieces.specs.Store.{shareOf, inShare}
+use Rattle.distinct_store.specs.Store.{mixed, spot, shareOf, inShare}
 use Rattle.rows.specs.declared.Row.{Row}
-use Rattle.table.proofs.Counting.{count-agrees, count-every, count-no-one, count-joined}
+use Rattle.distinct_store.specs.declared.Dealing.{Dealing}
+use Rattle.table.proofs.Counting.{count-inside, count-agrees, count-every, count-no-one, count-joined}
+use Rattle.table.proofs.Pieces.{firsts-inside}
 
-abbrev pub belowShare : ℕ → ℕ → Row → Bool
-belowShare shares share r = ltb (shareOf shares r) share
+abbrev pub belowShare : Dealing → ℕ → Row → Bool
+belowShare by share r = ltb (shareOf by r) share
 
 next-share : (x s : ℕ) → cond (ltb x s) 1 0 + cond (eqb x s) 1 0 ≡ cond (ltb x (s + 1)) 1 0
 next-share x s =
@@ -36,20 +40,35 @@ share-below : (mixed shares : ℕ) → mixed < 0x1_0000_0000 → 0 < shares → 
 share-below mixed shares h some =
     div-lt-iff-lt-mul (lit< tt) .1 (rw (mul-comm shares 0x1_0000_0000) (mul-lt-mul-of-pos-right h some))
 
-module _ (shares : ℕ) (rs : List Row) where
-  pub shares-start : count (belowShare shares 0) rs ≡ 0
-  shares-start =
-      count-agrees (belowShare shares 0) false (λ r. le-ltb (shareOf shares r) 0 (omega arith)) rs ∙ count-no-one rs
+-- all shares before `share` are counted
+pub record Below (by : Dealing) (rs : List Row) (all share : ℕ) : Type 0 where
+  pub reached : share ≤ by .shares
+  pub counted : all ≡ count (belowShare by share) (firstOfEach rs)
 
-  pub shares-more : (share : ℕ)
-      → count (belowShare shares share) rs + count (inShare shares share) rs ≡ count (belowShare shares (share + 1)) rs
-  shares-more share =
-      count-joined (belowShare shares share) (inShare shares share) (belowShare shares (share + 1))
-      (λ r. next-share (shareOf shares r) share) rs
+pub below-starts : (by : Dealing) (rs : List Row) → Below by rs 0 0
+below-starts by rs =
+    let none = count-agrees (belowShare by 0) false (λ r. le-ltb (shareOf by r) 0 (omega arith)) (firstOfEach rs) in
+    record { reached = zero-le; counted = sym (none ∙ count-no-one (firstOfEach rs)) }
 
-  pub shares-all : 0 < shares → count (belowShare shares shares) rs ≡ length rs
-  shares-all some =
-      count-agrees (belowShare shares shares) true (λ r. lt-ltb (shareOf shares r) shares (dealt r)) rs ∙ count-every rs
+module _ {by : Dealing} {rs : List Row} {all share : ℕ} (b : Below by rs all share) where
+  pub below-bound : all ≤ length rs
+  below-bound =
+      omega (arith, b .counted, count-inside (belowShare by share) (firstOfEach rs), firsts-inside [] rs)
+
+  pub below-more : (found : ℕ) → share < by .shares → found ≡ count (inShare by share) (firstOfEach rs)
+      → Below by rs (all + found) (share + 1)
+  below-more found more counted =
+      let joined = count-joined (belowShare by share) (inShare by share) (belowShare by (share + 1))
+      (λ r. next-share (shareOf by r) share) (firstOfEach rs) in
+      record { reached = omega arith; counted = omega (arith, joined, b .counted) }
+
+  pub below-all : 0 < by .shares → by .shares ≤ share → all ≡ length (firstOfEach rs)
+  unfolding spot mixed
+  below-all some ended =
+      let last : share ≡ by .shares = omega (arith, b .reached) in
+      let every = count-agrees (belowShare by share) true (λ r. lt-ltb (shareOf by r) share (rw last (dealt r)))
+      (firstOfEach rs) in
+      b .counted ∙ every ∙ count-every (firstOfEach rs)
     where
-      dealt : (r : Row) → shareOf shares r < shares
-      dealt r = share-below _ shares (omega arith) some
+      dealt : (r : Row) → shareOf by r < by .shares
+      dealt r = share-below _ (by .shares) (omega arith) some

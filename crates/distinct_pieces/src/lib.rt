@@ -1,58 +1,42 @@
 // The count of distinct pieces. Rows are dealt into shares, by a number that depends on the piece alone, and each pass
-// over the table counts one share with the help of a store in local arrays. A store that is full only costs time.
+// over the table counts one share with the help of a store in a local array. Rows that are dealt badly make a count
+// give up after so many probes; it is tried again with factors drawn from all rows, and at last done by comparing every
+// row with those before it.
+use distinct_store::Counting;
+use distinct_store::Dealing;
 use rows::Row;
 use rows::row_at;
 use rows::row_count;
 ghost use mathlib.Core.Path.{_≡_};
-ghost use Prim.Native.Nat.{_<_, _≤_};
-ghost use lib.ListN.{length, take, replicate};
+ghost use Prim.Native.Nat.{_<_, _≤_, _^_};
+ghost use lib.ListN.{length, take};
 ghost use Rattle.rows.specs.Rows.{rowsOf};
-ghost use Rattle.table.specs.Distinct.{same, occurs, firstOfEach};
-ghost use Rattle.table.specs.Summing.{count};
-ghost use Rattle.distinct_pieces.specs.Store.{mostShares, storeSize, spot, shareOf, bucketOf, inShare};
-ghost use Rattle.distinct_pieces.specs.Store.{Store, storedRows, Kept};
+ghost use Rattle.table.specs.Distinct.{occurs, firstOfEach};
+ghost use Rattle.distinct_store.specs.Store.{Sharing};
+ghost use Rattle.distinct_pieces.specs.Attempts.{Attempt};
 
-const MOST_SHARES: usize = 65_536;
-// The rows that a store takes, and its buckets.
-const STORE_SIZE: usize = 4096;
-// A store is full at a third more.
-const ROWS_PER_SHARE: usize = 3072;
+// The slots of a store, and how many rows it is used for: some six tenths of the slots at most.
+const SMALL_STORE: usize = 512;
 
-fn same_piece(r: Row, s: Row) -> bool
-    ensures { λ x. ⌜ x ≡ same r s ⌝ }
-{
-    if r.left_a != s.left_a {
-        return false;
-    }
-    if r.left_b != s.left_b {
-        return false;
-    }
-    r.length == s.length
-}
+const SMALL_ROWS: usize = 224;
 
-fn spot_of(row: Row, shares: u64) -> u64
-    requires { ⌜ shares ≤ mostShares ⌝ }
-    ensures { λ r. ⌜ r ≡ spot shares row ⌝ }
-{
-    let mixed = row.left_a as u64 * 0x2545_F491
-        + row.left_b as u64 * 0x369D_EA0F
-        + row.length as u64 * 0x1B87_3593;
-    mixed % 0x1_0000_0000 * shares
-}
+const MEDIUM_STORE: usize = 8192;
 
-fn share_of(row: Row, shares: u64) -> u64
-    requires { ⌜ shares ≤ mostShares ⌝ }
-    ensures { λ r. ⌜ r ≡ shareOf shares row ⌝ }
-{
-    spot_of(row, shares) / 0x1_0000_0000
-}
+const MEDIUM_ROWS: usize = 3584;
 
-fn bucket_of(row: Row, shares: u64) -> usize
-    requires { ⌜ shares ≤ mostShares ⌝ }
-    ensures { λ r. ⌜ (r ≡ bucketOf shares row) × (r < storeSize) ⌝ }
-{
-    (spot_of(row, shares) % 0x1_0000_0000 / 0x10_0000) as usize
-}
+const LARGE_STORE: usize = 32_768;
+
+const LARGE_ROWS: usize = 20_000;
+// So many slots behind the last home take what does not fit there.
+const SPARE: usize = 128;
+// A count is given up that looks at more stored rows than so many for each row of the table, and some.
+const PROBES_PER_ROW: usize = 4;
+
+const MORE_PROBES: usize = 512;
+
+const ATTEMPTS: u64 = 6;
+// The numbers of rows that a slot can hold.
+const ROW_NUMBERS: usize = 0xFFFF_FFFF;
 
 // Looks at every row before row k.
 fn stands_before(table: &[u32], k: usize, row: Row) -> bool
@@ -61,7 +45,7 @@ fn stands_before(table: &[u32], k: usize, row: Row) -> bool
 {
     let mut j: usize = 0;
     while j < k {
-        if same_piece(row_at(table, j), row) {
+        if distinct_store::same_piece(row_at(table, j), row) {
             return true;
         }
         j += 1;
@@ -69,122 +53,227 @@ fn stands_before(table: &[u32], k: usize, row: Row) -> bool
     false
 }
 
-// Looks at the stored rows of one bucket.
-fn is_stored(
-    table: &[u32],
-    heads: &[usize],
-    links: &[usize],
-    places: &[usize],
-    shares: u64,
-    row: Row,
-) -> bool
-    requires { ⌜ shares ≤ mostShares ⌝ }
-    requires { ⌜ Store shares (rowsOf (now table)) (now heads) (now links) (now places) ⌝ }
-    ensures { λ r. ⌜ r ≡ occurs row (storedRows (rowsOf (now (table .entry))) (now (places .entry))) ⌝ }
-{
-    let bucket = bucket_of(row, shares);
-    let mut next = heads[bucket];
-    while 0 < next {
-        let i = next - 1;
-        let at = places[i];
-        if same_piece(row_at(table, at), row) {
-            return true;
-        }
-        next = links[i];
-    }
-    false
-}
-
-// Whether a row before row k is the same piece as `row`.
-fn is_known(
-    table: &[u32],
-    heads: &[usize],
-    links: &[usize],
-    places: &[usize],
-    shares: u64,
-    k: usize,
-    row: Row,
-) -> bool
-    requires { ⌜ (shares ≤ mostShares) × (k ≤ length (rowsOf (now table))) ⌝ }
-    requires { ⌜ Kept shares (shareOf shares row) (rowsOf (now table)) k (now heads) (now links) (now places) ⌝ }
-    ensures { λ r. ⌜ r ≡ occurs row (take k (rowsOf (now (table .entry)))) ⌝ }
-{
-    if is_stored(table, heads, links, places, shares, row) {
-        return true;
-    }
-    if places.len() < STORE_SIZE {
-        return false;
-    }
-    stands_before(table, k, row)
-}
-
-fn zeros() -> [usize; STORE_SIZE]
-    ensures { λ r. ⌜ r ≡ replicate storeSize 0 ⌝ }
-{
-    [0; STORE_SIZE]
-}
-
-fn count_share(table: &[u32], shares: u64, share: u64) -> usize
-    requires { ⌜ shares ≤ mostShares ⌝ }
-    ensures { λ r. ⌜ r ≡ count (inShare shares share) (firstOfEach (rowsOf (now (table .entry)))) ⌝ }
+// The count as it is defined.
+fn count_plainly(table: &[u32]) -> usize
+    ensures { λ r. ⌜ r ≡ length (firstOfEach (rowsOf (now (table .entry)))) ⌝ }
 {
     let rows = row_count(table);
-    let mut heads = zeros();
-    let mut links = zeros();
-    let mut places = zeros();
-    let mut stored: usize = 0;
     let mut found: usize = 0;
     let mut k: usize = 0;
     while k < rows {
         let at = k;
-        let row = row_at(table, at);
         k += 1;
-        if share_of(row, shares) != share {
-            continue;
-        }
-        if is_known(
-            table,
-            &heads[..],
-            &links[..stored],
-            &places[..stored],
-            shares,
-            at,
-            row,
-        ) {
+        if stands_before(table, at, row_at(table, at)) {
             continue;
         }
         found += 1;
-        if STORE_SIZE <= stored {
-            continue;
-        }
-        let bucket = bucket_of(row, shares);
-        links[stored] = heads[bucket];
-        places[stored] = at;
-        stored += 1;
-        heads[bucket] = stored;
     }
     found
 }
 
-fn share_count(rows: usize) -> u64
-    ensures { λ r. ⌜ (0 < r) × (r ≤ mostShares) ⌝ }
+fn count_with_small_store(table: &[u32], by: Dealing, share: u64, probes: usize) -> Counting
+    requires { ⌜ length (rowsOf (now table)) < 2 ^ 32 ⌝ }
+    ensures { λ r. ⌜ Sharing by share (rowsOf (now (table .entry))) r ⌝ }
 {
-    let shares = rows / ROWS_PER_SHARE;
-    if MOST_SHARES <= shares {
-        return MOST_SHARES as u64;
+    let mut slots = [0u32; SMALL_STORE];
+    distinct_store::count_share(table, &mut slots[..], by, share, probes)
+}
+
+fn count_with_medium_store(table: &[u32], by: Dealing, share: u64, probes: usize) -> Counting
+    requires { ⌜ length (rowsOf (now table)) < 2 ^ 32 ⌝ }
+    ensures { λ r. ⌜ Sharing by share (rowsOf (now (table .entry))) r ⌝ }
+{
+    let mut slots = [0u32; MEDIUM_STORE];
+    distinct_store::count_share(table, &mut slots[..], by, share, probes)
+}
+
+fn count_with_large_store(table: &[u32], by: Dealing, share: u64, probes: usize) -> Counting
+    requires { ⌜ length (rowsOf (now table)) < 2 ^ 32 ⌝ }
+    ensures { λ r. ⌜ Sharing by share (rowsOf (now (table .entry))) r ⌝ }
+{
+    let mut slots = [0u32; LARGE_STORE];
+    distinct_store::count_share(table, &mut slots[..], by, share, probes)
+}
+
+// A short table is not worth a large array.
+fn count_share(table: &[u32], by: Dealing, share: u64, probes: usize) -> Counting
+    requires { ⌜ length (rowsOf (now table)) < 2 ^ 32 ⌝ }
+    ensures { λ r. ⌜ Sharing by share (rowsOf (now (table .entry))) r ⌝ }
+{
+    let rows = row_count(table);
+    if rows <= SMALL_ROWS {
+        return count_with_small_store(table, by, share, probes);
     }
-    shares as u64 + 1
+    if rows <= MEDIUM_ROWS {
+        return count_with_medium_store(table, by, share, probes);
+    }
+    count_with_large_store(table, by, share, probes)
+}
+
+// Counts share by share.
+fn count_shares(table: &[u32], by: Dealing, probes: usize) -> Counting
+    requires { ⌜ length (rowsOf (now table)) < 2 ^ 32 ⌝ }
+    requires { ⌜ 0 < by .shares ⌝ }
+    ensures { λ r. ⌜ Attempt (rowsOf (now (table .entry))) r ⌝ }
+{
+    let shares = by.shares as u64;
+    let mut all: usize = 0;
+    let mut rest = probes;
+    let mut share: u64 = 0;
+    while share < shares {
+        match count_share(table, by, share, rest) {
+            Counting::Counted { found, left } => {
+                all += found;
+                rest = left;
+            }
+            Counting::GaveUp => return Counting::GaveUp,
+        }
+        share += 1;
+    }
+    Counting::Counted {
+        found: all,
+        left: rest,
+    }
+}
+
+fn shares_of(rows: usize) -> u32
+    requires { ⌜ rows < 2 ^ 32 ⌝ }
+    ensures { λ r. ⌜ 0 < r ⌝ }
+{
+    if rows <= MEDIUM_ROWS {
+        return 1;
+    }
+    (rows / LARGE_ROWS) as u32 + 1
+}
+
+fn homes_of(rows: usize) -> u32
+    ensures { λ r. ⌜ 0 < r ⌝ }
+{
+    if rows <= SMALL_ROWS {
+        return (SMALL_STORE - SPARE) as u32;
+    }
+    if rows <= MEDIUM_ROWS {
+        return (MEDIUM_STORE - SPARE) as u32;
+    }
+    (LARGE_STORE - SPARE) as u32
+}
+
+// Neighbours in a refinement, whose left ends go up on A and up or down on B by the same step, are spread evenly: the
+// sum and the difference of the first two factors, over 2^32, are close to no fraction of small numbers.
+fn fixed_dealing(rows: usize) -> Dealing
+    requires { ⌜ rows < 2 ^ 32 ⌝ }
+    ensures { λ r. ⌜ 0 < r .shares ⌝ }
+{
+    Dealing {
+        left_a: 0x8420_BA49,
+        left_b: 0x1A16_BF71,
+        length: 0x1B87_3593,
+        shares: shares_of(rows),
+        homes: homes_of(rows),
+    }
+}
+
+// What was drawn from the rows so far.
+struct Pool {
+    a: u64,
+    b: u64,
+    c: u64,
+    d: u64,
+}
+
+// One round of adding, rotating and exclusive or, as in SipHash.
+fn stir(pool: Pool) -> Pool {
+    let a = std::num::wrapping_add_u64(pool.a, pool.b);
+    let b = (pool.b << 13 | pool.b >> 51) ^ a;
+    let c = std::num::wrapping_add_u64(pool.c, pool.d);
+    let d = (pool.d << 16 | pool.d >> 48) ^ c;
+    let e = std::num::wrapping_add_u64(a << 32 | a >> 32, d);
+    let f = std::num::wrapping_add_u64(c, b);
+    Pool {
+        a: e,
+        b: (b << 17 | b >> 47) ^ f,
+        c: f << 32 | f >> 32,
+        d: (d << 21 | d >> 43) ^ e,
+    }
+}
+
+fn stir_in(pool: Pool, lefts: u64, length: u64) -> Pool {
+    let stirred = stir(Pool {
+        a: pool.a,
+        b: pool.b,
+        c: pool.c ^ length,
+        d: pool.d ^ lefts,
+    });
+    Pool {
+        a: stirred.a ^ lefts,
+        b: stirred.b ^ length,
+        c: stirred.c,
+        d: stirred.d,
+    }
+}
+
+// The number of the attempt and all rows, stirred together.
+fn pool_of(table: &[u32], attempt: u64) -> Pool {
+    let rows = row_count(table);
+    let mut pool = Pool {
+        a: 0x736F_6D65_7073_6575 ^ attempt,
+        b: 0x646F_7261_6E64_6F6D,
+        c: 0x6C79_6765_6E65_7261,
+        d: 0x7465_6462_7974_6573,
+    };
+    let mut k: usize = 0;
+    while k < rows {
+        let row = row_at(table, k);
+        pool = stir_in(
+            pool,
+            (row.left_a as u64) << 32 | row.left_b as u64,
+            row.length as u64,
+        );
+        k += 1;
+    }
+    stir(stir(stir(pool)))
+}
+
+// Factors that depend on every row: rows made for given factors do not fit these.
+fn drawn_dealing(table: &[u32], attempt: u64) -> Dealing
+    requires { ⌜ length (rowsOf (now table)) < 2 ^ 32 ⌝ }
+    ensures { λ r. ⌜ 0 < r .shares ⌝ }
+{
+    let rows = row_count(table);
+    let pool = pool_of(table, attempt);
+    Dealing {
+        left_a: (pool.a >> 32) as u32,
+        left_b: (pool.b >> 32) as u32,
+        length: (pool.c >> 32) as u32,
+        shares: shares_of(rows),
+        homes: homes_of(rows),
+    }
+}
+
+fn attempt_count(table: &[u32], attempt: u64) -> Counting
+    requires { ⌜ length (rowsOf (now table)) < 2 ^ 32 ⌝ }
+    ensures { λ r. ⌜ Attempt (rowsOf (now (table .entry))) r ⌝ }
+{
+    let rows = row_count(table);
+    let probes = rows * PROBES_PER_ROW + MORE_PROBES;
+    if attempt == 0 {
+        return count_shares(table, fixed_dealing(rows), probes);
+    }
+    count_shares(table, drawn_dealing(table, attempt), probes)
 }
 
 pub fn count_distinct(table: &[u32]) -> usize
     ensures { λ r. ⌜ r ≡ length (firstOfEach (rowsOf (now (table .entry)))) ⌝ }
 {
-    let shares = share_count(row_count(table));
-    let mut found: usize = 0;
-    let mut share: u64 = 0;
-    while share < shares {
-        found += count_share(table, shares, share);
-        share += 1;
+    if ROW_NUMBERS < row_count(table) {
+        return count_plainly(table);
     }
-    found
+    let mut attempt: u64 = 0;
+    while attempt < ATTEMPTS {
+        match attempt_count(table, attempt) {
+            Counting::Counted { found, left: _ } => return found,
+            Counting::GaveUp => attempt += 1,
+        }
+    }
+    count_plainly(table)
 }

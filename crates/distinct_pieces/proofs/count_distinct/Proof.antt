@@ -1,76 +1,57 @@
--- `count_distinct` meets its contract. The loop has counted the pieces of the shares so far; the measure is how many
--- shares are left. Assumes nothing.
-use Prim.Native.Nat.{_+_, _-_, _≤_, zero-le}
-use mathlib.Core.Path.{_≡_, sym, _∙_}
-use mathlib.Core.List.{[]}
-use native.Mathlib.Omega.{arith}
+-- `count_distinct` meets its contract: an attempt that is not given up is right, and so is the plain count. The measure
+-- is how many attempts are left. Assumes nothing.
+use Prim.Native.Nat.{_-_, _≤_}
 use borrow.Author.Needs.{needs}
-use Rattle.rows.specs.Rows.{rowsOf}
-use Rattle.table.specs.Distinct.{firstOfEach}
-use Rattle.table.specs.Summing.{count}
-use Rattle.rows.proofs.TableRows.{rows-length}
-use Rattle.table.proofs.Counting.{count-inside}
-use Rattle.table.proofs.Pieces.{firsts-inside}
-use Rattle.distinct_pieces.proofs.Shares.{belowShare, shares-start, shares-more, shares-all}
 use Rattle.distinct_pieces.proofs.count_distinct.Statement.{statement}
 use Rattle.distinct_pieces.proofs.count_distinct.Tie as tie
 
 abbrev Inv-loop : tie.InvT-loop
-Inv-loop table shares found₀ share₀ found share =
-    (share ≤ shares) × (found ≡ count (belowShare shares share) (firstOfEach (rowsOf table)))
+Inv-loop table attempt₀ attempt = attempt ≤ 6
 
 abbrev μ-loop : tie.MeasureT-loop
-μ-loop table shares found₀ share₀ found share = shares - share
+μ-loop table attempt₀ attempt = 6 - attempt
 
 row-count-requires : tie.Need-row-count-requires Inv-loop μ-loop
 row-count-requires c κs = search needs
 
-share-count-requires : tie.Need-share-count-requires Inv-loop μ-loop
-share-count-requires c κs = search needs
+count-plainly-requires : tie.Need-count-plainly-requires Inv-loop μ-loop
+count-plainly-requires c κs = search needs
+
+returns : tie.Need-returns Inv-loop μ-loop
+returns c = search needs
 
 loop-holds : tie.Need-loop-holds Inv-loop μ-loop
-loop-holds c =
-    let firsts = firstOfEach (rowsOf (c .before .before .before .args .table .now)) in
-    (zero-le, sym (shares-start (c .share-count .result) firsts))
+loop-holds c = search needs
 
-count-share-requires : tie.Need-count-share-requires Inv-loop μ-loop
-count-share-requires c κs = search needs
+attempt-count-requires : tie.Need-attempt-count-requires Inv-loop μ-loop
+attempt-count-requires c κs = search needs
 
-loop-again : tie.Need-loop-again Inv-loop μ-loop
-loop-again c =
-    let now = c .before .before in
-    let firsts = firstOfEach (rowsOf (now .before .before .before .before .args .table .now)) in
-    let more = shares-more (now .before .share-count .result) firsts (now .loop .share) in (
-      omega arith,
-      omega (arith, more, now .loop .inv .1, c .count-share .ensures),
-    )
+enum-known-found : tie.Need-enum-known-found Inv-loop μ-loop
+enum-known-found c = search needs
 
-add-found : tie.Need-add-found Inv-loop μ-loop
-add-found c =
-    let now = c .before .before in
-    let rs = rowsOf (now .before .before .before .before .args .table .now) in
-    let shares = now .before .share-count .result in
-    omega (
-      arith,
-      loop-again c .1,
-      count-inside (belowShare shares (now .loop .share + 1)) (firstOfEach rs),
-      firsts-inside [] rs,
-      rows-length (now .before .before .before .before .args .table .now),
-    )
+returns-2 : tie.Need-returns-2 Inv-loop μ-loop
+returns-2 c =
+    let arm = c .before .before in
+    let called = arm .before in
+    rw (c .before .found .given .1) at (called .attempt-count .ensures)
 
-add-share : tie.Need-add-share Inv-loop μ-loop
-add-share c = search needs
+enum-told : tie.Need-enum-told Inv-loop μ-loop
+enum-told c = search needs
+
+add-attempt : tie.Need-add-attempt Inv-loop μ-loop
+add-attempt c = search needs
 
 loop-less : tie.Need-loop-less Inv-loop μ-loop
 loop-less c = search needs
 
-returns : tie.Need-returns Inv-loop μ-loop
-returns c =
-    let now = c .before in
-    let firsts = firstOfEach (rowsOf (now .before .before .before .before .args .table .now)) in
-    let shares = now .before .share-count in
-    let ended : now .loop .share ≡ shares .result = omega arith in
-    rw ended at (now .loop .inv .1) ∙ shares-all (shares .result) firsts (shares .ensures .0)
+loop-again : tie.Need-loop-again Inv-loop μ-loop
+loop-again c = search needs
+
+count-plainly-requires-2 : tie.Need-count-plainly-requires-2 Inv-loop μ-loop
+count-plainly-requires-2 c κs = search needs
+
+returns-3 : tie.Need-returns-3 Inv-loop μ-loop
+returns-3 c = search needs
 
 pub count-distinct-spec : {M : Type 1} → statement M
 count-distinct-spec =
@@ -79,11 +60,15 @@ count-distinct-spec =
     Inv-loop
     μ-loop
     row-count-requires
-    share-count-requires
+    count-plainly-requires
+    returns
     loop-holds
-    count-share-requires
-    add-found
-    add-share
+    attempt-count-requires
+    enum-known-found
+    returns-2
+    enum-told
+    add-attempt
     loop-less
     loop-again
-    returns)
+    count-plainly-requires-2
+    returns-3)

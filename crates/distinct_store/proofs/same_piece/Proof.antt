@@ -1,17 +1,20 @@
 -- `same_piece` meets its contract: field by field. Assumes nothing.
 use borrow.Author.Tests.{eq-eqb, ne-eqb}
-use Rattle.distinct_pieces.proofs.same_piece.Statement.{statement}
-use Rattle.distinct_pieces.proofs.same_piece.Tie as tie
+use Rattle.distinct_store.proofs.same_piece.Statement.{statement}
+use Rattle.distinct_store.proofs.same_piece.Tie as tie
 
 returns : tie.Need-returns
 returns c =
-    let at = c .before .before .before .args in
+    let start = c .before .before in
+    let at = start .before .args in
     rw (ne-eqb (at .r .«left_a») (at .s .«left_a») (c .if1 .taken))
 
 returns-2 : tie.Need-returns-2
 returns-2 c =
-    let first = c .before .before .before in
-    let at = first .before .before .before .args in
+    let test = c .before .before in
+    let first = test .before in
+    let start = first .before .before in
+    let at = start .before .args in
     rw (
       eq-eqb (at .r .«left_a») (at .s .«left_a») (first .if1 .left),
       ne-eqb (at .r .«left_b») (at .s .«left_b») (c .if2 .taken),
@@ -20,8 +23,10 @@ returns-2 c =
 returns-3 : tie.Need-returns-3
 returns-3 c =
     let second = c .before .before in
-    let first = second .before .before .before in
-    let at = first .before .before .before .args in
+    let test = second .before .before in
+    let first = test .before in
+    let start = first .before .before in
+    let at = start .before .args in
     rw (
       eq-eqb (at .r .«left_a») (at .s .«left_a») (first .if1 .left),
       eq-eqb (at .r .«left_b») (at .s .«left_b») (second .if2 .left),

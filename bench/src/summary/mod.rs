@@ -1,0 +1,67 @@
+//! The proved summary beside plain Rust, on ordinary tables and on tables made to be slow.
+
+mod cases;
+mod plain;
+
+use crate::timing::Timing;
+use cases::Length;
+use compare::door::{self, Summary};
+use std::hint::black_box;
+
+pub fn run() {
+    println!(
+        "{:<20} {:>9} {:>12} {:>12} {:>6} {:>11}",
+        "summary", "rows", "Rattle us", "Rust us", "ratio", "to ordinary"
+    );
+    for length in cases::all() {
+        report(&length);
+    }
+    println!("Rattle: notchergrey_summary, which works in arrays of its own. Rust: copies of the pieces, sorted.");
+    println!("to ordinary: Rattle's time, over its time for the first table of that length.");
+}
+
+fn report(length: &Length) {
+    let mut ordinary = None;
+    for (name, table) in &length.tables {
+        check(name, table);
+        let timing = Timing {
+            calls: (100_000 / length.rows).max(1),
+            inputs: &[Vec::new()],
+        };
+        let mut lent = NOTHING;
+        let [rattle, rust] = timing.medians([
+            &mut |_| {
+                black_box(door::summary(black_box(table), &mut lent));
+            },
+            &mut |_| {
+                black_box(plain::sum_up(black_box(table)));
+            },
+        ]);
+        let first = *ordinary.get_or_insert(rattle);
+        println!(
+            "{:<20} {:>9} {:>12.1} {:>12.1} {:>6.2} {:>11.2}",
+            name,
+            table.len() / 5,
+            rattle / 1e3,
+            rust / 1e3,
+            rattle / rust,
+            rattle / first
+        );
+    }
+}
+
+const NOTHING: Summary = Summary {
+    pieces: 0,
+    distinct: 0,
+    letters: 0,
+    classes: [0; 30],
+};
+
+/// Summaries that disagree are not worth timing.
+fn check(name: &str, table: &[u32]) {
+    let mut lent = NOTHING;
+    assert_eq!(door::summary(table, &mut lent), 0, "{name}");
+    let wanted = plain::sum_up(table);
+    let of = |s: &Summary| (s.pieces, s.distinct, s.letters, s.classes);
+    assert_eq!(of(&lent), of(&wanted), "{name}");
+}
