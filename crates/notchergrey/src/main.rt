@@ -63,18 +63,23 @@ fn print_large(script: &[u8]) -> Output
 }
 
 // A short text is made in a small buffer: zeros for every text would be most of what a short script costs.
-fn print_report(script: &[u8]) -> Output
+fn print_short(script: &[u8]) -> Output
     ensures { λ r. ⌜ Went (length (reportOf (now (script .entry)))) r ⌝ }
 {
-    if SHORT_SCRIPT < script.len() {
-        return print_large(script);
-    }
     let mut text = [0; SHORT_TEXT];
     let length = make_brief(script, &mut text);
     if length == 0 {
         return print_large(script);
     }
     write_text(script, &text[..length])
+}
+
+// Says it if the text could not be written whole.
+fn tell(went: Output) {
+    match went {
+        Output::Whole(_) => {}
+        Output::Broken(_) => os::fail(b"notchergrey: standard output"),
+    }
 }
 
 fn main() {
@@ -87,10 +92,14 @@ fn main() {
     }
     let mut bytes = [0; LONGEST_SCRIPT + 1];
     match read_input(&mut bytes) {
-        Moved::Bytes(count) => match print_report(&bytes[..count]) {
-            Output::Whole(_) => {}
-            Output::Broken(_) => os::fail(b"notchergrey: standard output"),
-        },
+        Moved::Bytes(count) => {
+            // Called here too, the large text keeps a stack of its own, which a short script never touches.
+            if SHORT_SCRIPT < count {
+                tell(print_large(&bytes[..count]));
+            } else {
+                tell(print_short(&bytes[..count]));
+            }
+        }
         Moved::Failed => os::fail(b"notchergrey: standard input"),
     }
 }

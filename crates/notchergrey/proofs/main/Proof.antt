@@ -29,40 +29,48 @@ enum-known-count c = search needs
 
 array-share-prefix-bytes : tie.Need-array-share-prefix-bytes
 array-share-prefix-bytes c =
-    let after-called = c .before .before in
-    let called = after-called .before .before in
-    rw (c .before .count .given .1) at (called .read-input .ensures)
+    let read : tie.After-read-input = search in
+    let told : tie.After-count = search in
+    rw (told .count .given .1) at (read .read-input .ensures)
 
-slice-aggregate-print-report : tie.Need-slice-aggregate-print-report
-slice-aggregate-print-report c =
-    let behind-called = c .before .before in
-    let after-called = behind-called .before .before in
-    let called = after-called .before in
-    sym (length-take-le _ _ (rw (c .before .before .count .given .1) at (called .read-input .ensures)))
+slice-aggregate-print-large : tie.Need-slice-aggregate-print-large
+slice-aggregate-print-large c =
+    let read : tie.After-read-input = search in
+    let told : tie.After-count = search in
+    sym (length-take-le _ _ (rw (told .count .given .1) at (read .read-input .ensures)))
 
-print-report-requires : tie.Need-print-report-requires
-print-report-requires c κs = search needs
+print-large-requires : tie.Need-print-large-requires
+print-large-requires c κs = search needs
+
+tell-requires : tie.Need-tell-requires
+tell-requires c κs = search needs
+
+array-share-prefix-bytes-2 : tie.Need-array-share-prefix-bytes-2
+array-share-prefix-bytes-2 c =
+    let read : tie.After-read-input = search in
+    let told : tie.After-count = search in
+    rw (told .count .given .1) at (read .read-input .ensures)
+
+slice-aggregate-print-short : tie.Need-slice-aggregate-print-short
+slice-aggregate-print-short c =
+    let read : tie.After-read-input = search in
+    let told : tie.After-count = search in
+    sym (length-take-le _ _ (rw (told .count .given .1) at (read .read-input .ensures)))
+
+print-short-requires : tie.Need-print-short-requires
+print-short-requires c κs = search needs
+
+tell-requires-2 : tie.Need-tell-requires-2
+tell-requires-2 c κs = search needs
 
 enum-told : tie.Need-enum-told
 enum-told c = search needs
-
-enum-told-2 : tie.Need-enum-told-2
-enum-told-2 c = search needs
 
 slice-aggregate-fail : tie.Need-slice-aggregate-fail
 slice-aggregate-fail c = search needs
 
 fail-requires : tie.Need-fail-requires
 fail-requires c κs = search needs
-
-enum-told-3 : tie.Need-enum-told-3
-enum-told-3 c = search needs
-
-slice-aggregate-fail-2 : tie.Need-slice-aggregate-fail-2
-slice-aggregate-fail-2 c = search needs
-
-fail-requires-2 : tie.Need-fail-requires-2
-fail-requires-2 c κs = search needs
 
 returns-2 : tie.Need-returns-2
 returns-2 c = search needs
@@ -85,15 +93,16 @@ main-spec =
     read-input-requires
     enum-known-count
     array-share-prefix-bytes
-    slice-aggregate-print-report
-    print-report-requires
+    slice-aggregate-print-large
+    print-large-requires
+    tell-requires
+    array-share-prefix-bytes-2
+    slice-aggregate-print-short
+    print-short-requires
+    tell-requires-2
     enum-told
-    enum-told-2
     slice-aggregate-fail
     fail-requires
-    enum-told-3
-    slice-aggregate-fail-2
-    fail-requires-2
     returns-2
     returns-3
     returns-4)

@@ -1,15 +1,9 @@
--- `print_report` meets its contract: what is written is the text that was made, be it in the small buffer or the large.
+-- `print_short` meets its contract: what is written is the text that was made, be it in the small buffer or the large.
 -- Assumes nothing.
 use native.Mathlib.Omega.{arith}
 use borrow.Author.Needs.{needs}
-use Rattle.notchergrey.proofs.print_report.Statement.{statement}
-use Rattle.notchergrey.proofs.print_report.Tie as tie
-
-print-large-requires : tie.Need-print-large-requires
-print-large-requires c κs = search needs
-
-returns : tie.Need-returns
-returns c = search needs
+use Rattle.notchergrey.proofs.print_short.Statement.{statement}
+use Rattle.notchergrey.proofs.print_short.Tie as tie
 
 slice-aggregate-make-brief : tie.Need-slice-aggregate-make-brief
 slice-aggregate-make-brief c = search needs
@@ -17,11 +11,11 @@ slice-aggregate-make-brief c = search needs
 make-brief-requires : tie.Need-make-brief-requires
 make-brief-requires c κs = search needs
 
-print-large-requires-2 : tie.Need-print-large-requires-2
-print-large-requires-2 c κs = search needs
+print-large-requires : tie.Need-print-large-requires
+print-large-requires c κs = search needs
 
-returns-2 : tie.Need-returns-2
-returns-2 c = search needs
+returns : tie.Need-returns
+returns c = search needs
 
 array-share-prefix-text : tie.Need-array-share-prefix-text
 array-share-prefix-text c = search needs
@@ -34,22 +28,20 @@ write-text-requires c κs =
     let made : tie.After-make-brief = search in
     made .make-brief .ensures .1 (omega arith)
 
-returns-3 : tie.Need-returns-3
-returns-3 c =
+returns-2 : tie.Need-returns-2
+returns-2 c =
     let made : tie.After-make-brief = search in
     rw (made .make-brief .ensures .1 (omega arith)) at (c .write-text .ensures)
 
-pub print-report-spec : {M : Type 1} → statement M
-print-report-spec =
+pub print-short-spec : {M : Type 1} → statement M
+print-short-spec =
     tie.close
     (tie.spec
-    print-large-requires
-    returns
     slice-aggregate-make-brief
     make-brief-requires
-    print-large-requires-2
-    returns-2
+    print-large-requires
+    returns
     array-share-prefix-text
     slice-aggregate-write-text
     write-text-requires
-    returns-3)
+    returns-2)
