@@ -30,7 +30,7 @@ const LARGE_ROWS: usize = 20_000;
 // So many slots behind the last home take what does not fit there.
 const SPARE: usize = 128;
 // A count is given up that looks at more stored rows than so many for each row of the table, and some.
-const PROBES_PER_ROW: usize = 4;
+const PROBES_PER_ROW: usize = 2;
 
 const MORE_PROBES: usize = 512;
 
