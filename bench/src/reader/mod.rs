@@ -32,7 +32,7 @@ pub fn run() {
         report_one(case);
     }
     println!("The last match of the script, and its left end on A carried to B.");
-    println!("Rust: plain Rust in one pass that keeps the match of the number.\n");
+    println!("Rust: plain Rust in one pass that keeps the match of the number.");
 }
 
 fn report_reading(case: &Case) {

@@ -9,6 +9,7 @@ use compare::door::{self, Summary};
 use std::hint::black_box;
 
 pub fn run() {
+    println!();
     println!(
         "{:<20} {:>9} {:>12} {:>12} {:>6} {:>11}",
         "summary", "rows", "Rattle us", "Rust us", "ratio", "to ordinary"
