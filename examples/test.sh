@@ -103,7 +103,7 @@ echo 'rt: FAILED: refine'
 exit 1
 END
 chmod +x "$copy/tools/rt"
-said='run: proving and building the program; the first time this takes some six minutes
+said='run: proving and building the program; the first time this takes some eight minutes
 run: proved 1 of 3 crates: script
 rt: script proved (1 s)
 rt: FAILED: refine
