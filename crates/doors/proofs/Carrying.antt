@@ -12,7 +12,7 @@ use Rattle.refining.specs.Carrying.{carryingOf}
 use Rattle.refining.specs.declared.answers.Carried.{Carried}
 use Rattle.refining.specs.declared.answers.Carried.the-variants.{To, Refused}
 use Rattle.refining.proofs.CarryingOutcome.{carrying-back}
-use Rattle.doors.specs.Doors.{Reply, door, ofCarried, carryDoor, carryFromA, carryFromB}
+use Rattle.doors.specs.Doors.{door, ofCarried, carryDoor, carryFromA, carryFromB}
 use Rattle.doors.proofs.Agreement.{number-some}
 
 module _ (script : List ℕ) (number position place was place′ was′ : ℕ) where

@@ -3,7 +3,7 @@
 --     class-lines      "class 0 5", "class 1 3"
 -- Assumes nothing.
 use mathlib.Core.Path.{_≡_, refl}
-use mathlib.Core.List.{List, [], _∷_, _++_}
+use mathlib.Core.List.{[], _∷_, _++_}
 use Rattle.script.specs.declared.refusal.Refusal.the-variants.{BeyondA}
 use Rattle.text.specs.Decimal.{placesWithin}
 use Rattle.reporting.specs.Lines.{refused, class, refusalText, classLines}
