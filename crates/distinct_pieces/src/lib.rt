@@ -15,7 +15,7 @@ ghost use Rattle.table.specs.Distinct.{occurs, firstOfEach};
 ghost use Rattle.distinct_store.specs.Store.{Sharing};
 ghost use Rattle.distinct_pieces.specs.Attempts.{Attempt};
 
-// The slots of a store, and how many rows it is used for: some six tenths of the slots at most.
+// The slots of a store, and how many rows it is used for: some seven tenths of the slots at most.
 const SMALL_STORE: usize = 512;
 
 const SMALL_ROWS: usize = 224;
@@ -26,15 +26,17 @@ const MEDIUM_ROWS: usize = 3584;
 
 const LARGE_STORE: usize = 32_768;
 
-const LARGE_ROWS: usize = 20_000;
+const LARGE_ROWS: usize = 24_000;
 // So many slots behind the last home take what does not fit there.
 const SPARE: usize = 128;
+
+const LARGE_SPARE: usize = 256;
 // A count is given up that looks at more stored rows than so many for each row of the table, and some.
 const PROBES_PER_ROW: usize = 2;
 
 const MORE_PROBES: usize = 512;
 
-const ATTEMPTS: u64 = 6;
+const ATTEMPTS: u64 = 2;
 // The numbers of rows that a slot can hold.
 const ROW_NUMBERS: usize = 0xFFFF_FFFF;
 
@@ -155,22 +157,7 @@ fn homes_of(rows: usize) -> u32
     if rows <= MEDIUM_ROWS {
         return (MEDIUM_STORE - SPARE) as u32;
     }
-    (LARGE_STORE - SPARE) as u32
-}
-
-// Neighbours in a refinement, whose left ends go up on A and up or down on B by the same step, are spread evenly: the
-// sum and the difference of the first two factors, over 2^32, are close to no fraction of small numbers.
-fn fixed_dealing(rows: usize) -> Dealing
-    requires { ⌜ rows < 2 ^ 32 ⌝ }
-    ensures { λ r. ⌜ 0 < r .shares ⌝ }
-{
-    Dealing {
-        left_a: 0x8420_BA49,
-        left_b: 0x1A16_BF71,
-        length: 0x1B87_3593,
-        shares: shares_of(rows),
-        homes: homes_of(rows),
-    }
+    (LARGE_STORE - LARGE_SPARE) as u32
 }
 
 // What was drawn from the rows so far.
@@ -197,17 +184,21 @@ fn stir(pool: Pool) -> Pool {
     }
 }
 
-fn stir_in(pool: Pool, lefts: u64, length: u64) -> Pool {
+// Two rows in one round.
+fn stir_in(pool: Pool, first: Row, second: Row) -> Pool {
+    let one = (first.left_a as u64) << 32 | first.left_b as u64;
+    let two = (second.left_a as u64) << 32 | second.left_b as u64;
+    let lengths = (first.length as u64) << 32 | second.length as u64;
     let stirred = stir(Pool {
         a: pool.a,
-        b: pool.b,
-        c: pool.c ^ length,
-        d: pool.d ^ lefts,
+        b: pool.b ^ lengths,
+        c: pool.c ^ two,
+        d: pool.d ^ one,
     });
     Pool {
-        a: stirred.a ^ lefts,
-        b: stirred.b ^ length,
-        c: stirred.c,
+        a: stirred.a ^ one,
+        b: stirred.b ^ two,
+        c: stirred.c ^ lengths,
         d: stirred.d,
     }
 }
@@ -222,19 +213,17 @@ fn pool_of(table: &[u32], attempt: u64) -> Pool {
         d: 0x7465_6462_7974_6573,
     };
     let mut k: usize = 0;
-    while k < rows {
-        let row = row_at(table, k);
-        pool = stir_in(
-            pool,
-            (row.left_a as u64) << 32 | row.left_b as u64,
-            row.length as u64,
-        );
-        k += 1;
+    while 1 < rows - k {
+        pool = stir_in(pool, row_at(table, k), row_at(table, k + 1));
+        k += 2;
+    }
+    if k < rows {
+        pool = stir_in(pool, row_at(table, k), row_at(table, k));
     }
     stir(stir(stir(pool)))
 }
 
-// Factors that depend on every row: rows made for given factors do not fit these.
+// Factors that depend on every row: nobody can make rows for factors that change with the rows.
 fn drawn_dealing(table: &[u32], attempt: u64) -> Dealing
     requires { ⌜ length (rowsOf (now table)) < 2 ^ 32 ⌝ }
     ensures { λ r. ⌜ 0 < r .shares ⌝ }
@@ -254,11 +243,7 @@ fn attempt_count(table: &[u32], attempt: u64) -> Counting
     requires { ⌜ length (rowsOf (now table)) < 2 ^ 32 ⌝ }
     ensures { λ r. ⌜ Attempt (rowsOf (now (table .entry))) r ⌝ }
 {
-    let rows = row_count(table);
-    let probes = rows * PROBES_PER_ROW + MORE_PROBES;
-    if attempt == 0 {
-        return count_shares(table, fixed_dealing(rows), probes);
-    }
+    let probes = row_count(table) * PROBES_PER_ROW + MORE_PROBES;
     count_shares(table, drawn_dealing(table, attempt), probes)
 }
 

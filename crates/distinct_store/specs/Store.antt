@@ -1,6 +1,7 @@
 -- How the count of distinct pieces looks a piece up.
 --     summed by r                       the piece's three numbers, each times its factor, added up
---     mixed by r                        the two halves of the sum joined: what a piece is dealt by, below 2^32
+--     folded x                          the two halves of x joined, below 2^32
+--     mixed by r                        the sum folded, multiplied and folded again: what a piece is dealt by
 --     spot by r                         the same, spread over the shares
 --     shareOf by r, homeOf by r         the share, and the slot where looking for the piece starts
 --     inShare by s r                    r is in share s
@@ -34,9 +35,13 @@ unfoldable pub summed : Dealing → Row → ℕ
 summed by r =
     ((r .«left_a» * by .«left_a» + r .«left_b» * by .«left_b») % 2 ^ 64 + r .length * by .length) % 2 ^ 64
 
+-- the upper half on the lower one
+unfoldable pub folded : ℕ → ℕ
+folded x = bitXor x (x / 2 ^ 32) % 2 ^ 32
+
 -- nothing is asked of it but that rows of the same piece have the same; the better it spreads, the less a search costs
 unfoldable pub mixed : Dealing → Row → ℕ
-mixed by r = bitXor (summed by r) (summed by r / 2 ^ 32) % 2 ^ 32
+mixed by r = folded (folded (summed by r) * 0x9E37_79B1)
 
 unfoldable pub spot : Dealing → Row → ℕ
 spot by r = mixed by r * by .shares

@@ -10,8 +10,11 @@ ghost use Prim.Native.Nat.{_+_, _*_, _<_, _^_};
 ghost use lib.ListN.{length};
 ghost use Rattle.rows.specs.Rows.{rowsOf, rowAt};
 ghost use Rattle.table.specs.Distinct.{same};
-ghost use Rattle.distinct_store.specs.Store.{summed, mixed, spot, shareOf, Inside, Empty, Kept};
+ghost use Rattle.distinct_store.specs.Store.{summed, folded, mixed, spot, shareOf, Inside, Empty, Kept};
 ghost use Rattle.distinct_store.specs.Store.{Seeking, Enrolling, Sharing};
+
+// An odd number without a pattern in its bits.
+const MIXER: u32 = 0x9E37_79B1;
 
 // How rows are dealt: the factors of a piece's three numbers, how many shares there are, and how many slots of a store
 // are homes.
@@ -71,11 +74,17 @@ fn sum_of(row: Row, by: Dealing) -> u64
     std::num::wrapping_add_u64(lefts, product(row.length, by.length))
 }
 
+fn folded_of(x: u64) -> u32
+    ensures { λ r. ⌜ r ≡ folded x ⌝ }
+{
+    ((x ^ x / 0x1_0000_0000) % 0x1_0000_0000) as u32
+}
+
+// Folding alone would leave rows at equal distances at equal distances, and close together under some factors.
 fn mixed_of(row: Row, by: Dealing) -> u32
     ensures { λ r. ⌜ r ≡ mixed by row ⌝ }
 {
-    let sum = sum_of(row, by);
-    ((sum ^ sum / 0x1_0000_0000) % 0x1_0000_0000) as u32
+    folded_of(product(folded_of(sum_of(row, by)), MIXER))
 }
 
 fn spot_of(row: Row, by: Dealing) -> u64

@@ -6,10 +6,10 @@ use Rattle.distinct_pieces.proofs.count_distinct.Statement.{statement}
 use Rattle.distinct_pieces.proofs.count_distinct.Tie as tie
 
 abbrev Inv-loop : tie.InvT-loop
-Inv-loop table attempt₀ attempt = attempt ≤ 6
+Inv-loop table attempt₀ attempt = attempt ≤ 2
 
 abbrev μ-loop : tie.MeasureT-loop
-μ-loop table attempt₀ attempt = 6 - attempt
+μ-loop table attempt₀ attempt = 2 - attempt
 
 row-count-requires : tie.Need-row-count-requires Inv-loop μ-loop
 row-count-requires c κs = search needs

@@ -16,17 +16,17 @@ row-count-requires c κs = search needs
 loop-holds : tie.Need-loop-holds Inv-loop μ-loop
 loop-holds c = search needs
 
+sub-loop : tie.Need-sub-loop Inv-loop μ-loop
+sub-loop c = search needs
+
 row-at-requires : tie.Need-row-at-requires Inv-loop μ-loop
 row-at-requires c κs = search needs
 
-cast-stir-in : tie.Need-cast-stir-in Inv-loop μ-loop
-cast-stir-in c = search needs
+add-row-at : tie.Need-add-row-at Inv-loop μ-loop
+add-row-at c = search needs
 
-cast-stir-in-2 : tie.Need-cast-stir-in-2 Inv-loop μ-loop
-cast-stir-in-2 c = search needs
-
-cast-stir-in-3 : tie.Need-cast-stir-in-3 Inv-loop μ-loop
-cast-stir-in-3 c = search needs
+row-at-requires-2 : tie.Need-row-at-requires-2 Inv-loop μ-loop
+row-at-requires-2 c κs = search needs
 
 stir-in-requires : tie.Need-stir-in-requires Inv-loop μ-loop
 stir-in-requires c κs = search needs
@@ -39,6 +39,15 @@ loop-less c = search needs
 
 loop-again : tie.Need-loop-again Inv-loop μ-loop
 loop-again c = search needs
+
+row-at-requires-3 : tie.Need-row-at-requires-3 Inv-loop μ-loop
+row-at-requires-3 c κs = search needs
+
+row-at-requires-4 : tie.Need-row-at-requires-4 Inv-loop μ-loop
+row-at-requires-4 c κs = search needs
+
+stir-in-requires-2 : tie.Need-stir-in-requires-2 Inv-loop μ-loop
+stir-in-requires-2 c κs = search needs
 
 stir-requires : tie.Need-stir-requires Inv-loop μ-loop
 stir-requires c κs = search needs
@@ -60,14 +69,17 @@ pool-of-spec =
     μ-loop
     row-count-requires
     loop-holds
+    sub-loop
     row-at-requires
-    cast-stir-in
-    cast-stir-in-2
-    cast-stir-in-3
+    add-row-at
+    row-at-requires-2
     stir-in-requires
     add-k
     loop-less
     loop-again
+    row-at-requires-3
+    row-at-requires-4
+    stir-in-requires-2
     stir-requires
     stir-requires-2
     stir-requires-3

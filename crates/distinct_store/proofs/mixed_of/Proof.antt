@@ -1,4 +1,4 @@
--- `mixed_of` meets its contract. Assumes nothing.
+-- `mixed_of` meets its contract, call by call. Assumes nothing.
 use borrow.Author.Needs.{needs}
 use Rattle.distinct_store.specs.Store.{mixed}
 use Rattle.distinct_store.proofs.mixed_of.Statement.{statement}
@@ -7,12 +7,20 @@ use Rattle.distinct_store.proofs.mixed_of.Tie as tie
 sum-of-requires : tie.Need-sum-of-requires
 sum-of-requires c κs = search needs
 
-cast-result : tie.Need-cast-result
-cast-result c = search needs
+folded-of-requires : tie.Need-folded-of-requires
+folded-of-requires c κs = search needs
+
+product-requires : tie.Need-product-requires
+product-requires c κs = search needs
+
+folded-of-requires-2 : tie.Need-folded-of-requires-2
+folded-of-requires-2 c κs = search needs
 
 returns : tie.Need-returns
 unfolding mixed
 returns c = cc
 
 pub mixed-of-spec : {M : Type 1} → statement M
-mixed-of-spec = tie.close (tie.spec sum-of-requires cast-result returns)
+mixed-of-spec =
+    tie.close
+    (tie.spec sum-of-requires folded-of-requires product-requires folded-of-requires-2 returns)
