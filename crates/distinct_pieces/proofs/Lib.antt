@@ -1,2 +1,2 @@
-pub mod Plainly
+pub mod Empties
 pub mod Shares

@@ -1,17 +1,18 @@
 // The count of distinct pieces. Rows are dealt into shares, by a number that depends on the piece alone, and each pass
-// over the table counts one share with the help of a store in a local array. Rows that are dealt badly make a count
-// give up after so many probes; it is tried again with factors drawn from all rows, and at last done by comparing every
-// row with those before it.
+// over the table counts one share with the help of a store in a local array. The factors that rows are dealt by are
+// drawn from all rows, so that no rows can be made for them. Should rows be dealt badly all the same, a count gives up
+// after so many probes; it is tried once more with other factors, and at last done by sorting.
 use distinct_store::Counting;
 use distinct_store::Dealing;
+use piece_windows::count_in_windows;
 use rows::Row;
 use rows::row_at;
 use rows::row_count;
 ghost use mathlib.Core.Path.{_≡_};
 ghost use Prim.Native.Nat.{_<_, _≤_, _^_};
-ghost use lib.ListN.{length, take};
+ghost use lib.ListN.{length};
 ghost use Rattle.rows.specs.Rows.{rowsOf};
-ghost use Rattle.table.specs.Distinct.{occurs, firstOfEach};
+ghost use Rattle.table.specs.Distinct.{firstOfEach};
 ghost use Rattle.distinct_store.specs.Store.{Sharing};
 ghost use Rattle.distinct_pieces.specs.Attempts.{Attempt};
 
@@ -39,39 +40,6 @@ const MORE_PROBES: usize = 512;
 const ATTEMPTS: u64 = 2;
 // The numbers of rows that a slot can hold.
 const ROW_NUMBERS: usize = 0xFFFF_FFFF;
-
-// Looks at every row before row k.
-fn stands_before(table: &[u32], k: usize, row: Row) -> bool
-    requires { ⌜ k ≤ length (rowsOf (now table)) ⌝ }
-    ensures { λ r. ⌜ r ≡ occurs row (take k (rowsOf (now (table .entry)))) ⌝ }
-{
-    let mut j: usize = 0;
-    while j < k {
-        if distinct_store::same_piece(row_at(table, j), row) {
-            return true;
-        }
-        j += 1;
-    }
-    false
-}
-
-// The count as it is defined.
-fn count_plainly(table: &[u32]) -> usize
-    ensures { λ r. ⌜ r ≡ length (firstOfEach (rowsOf (now (table .entry)))) ⌝ }
-{
-    let rows = row_count(table);
-    let mut found: usize = 0;
-    let mut k: usize = 0;
-    while k < rows {
-        let at = k;
-        k += 1;
-        if stands_before(table, at, row_at(table, at)) {
-            continue;
-        }
-        found += 1;
-    }
-    found
-}
 
 fn count_with_small_store(table: &[u32], by: Dealing, share: u64, probes: usize) -> Counting
     requires { ⌜ length (rowsOf (now table)) < 2 ^ 32 ⌝ }
@@ -251,7 +219,7 @@ pub fn count_distinct(table: &[u32]) -> usize
     ensures { λ r. ⌜ r ≡ length (firstOfEach (rowsOf (now (table .entry)))) ⌝ }
 {
     if ROW_NUMBERS < row_count(table) {
-        return count_plainly(table);
+        return count_in_windows(table);
     }
     let mut attempt: u64 = 0;
     while attempt < ATTEMPTS {
@@ -260,5 +228,5 @@ pub fn count_distinct(table: &[u32]) -> usize
             Counting::GaveUp => attempt += 1,
         }
     }
-    count_plainly(table)
+    count_in_windows(table)
 }

@@ -1,8 +1,9 @@
 -- Rows of the same piece, and the first row of each piece.
 --     false-of, never-both, bool-same         a test is false where it cannot be true, and never both; equal tests
---     SamePiece, same-fields, same-sym        the test for the same piece is equality of its three numbers
+--     SamePiece, same-fields, fields-same     the test for the same piece is equality of its three numbers
+--     same-sym, same-trans                    whichever comes first, and through a third row
 --     occurs-at, occurs-where                 a piece occurs in a list where some row is that piece
---     occurs-before, none-before              the same of the first k rows
+--     occurs-before                           the same of the first k rows
 --     occurs-same                             with a piece occur all that are the same
 --     occurs-passed                           a piece among one more row is that row's or was there before
 --     firsts-known, firsts-fresh              one more row: its piece has a first row already, or this is it
@@ -75,7 +76,7 @@ same-fields r s e =
       letters = eqb-true (r .length) (s .length) (and-right b d behind);
     }
 
-fields-same : (r s : Row) → SamePiece r s → same r s ≡ true
+pub fields-same : (r s : Row) → SamePiece r s → same r s ≡ true
 fields-same r s h =
     rw (
       eq-eqb (r .«left_a») (s .«left_a») (h .left-a),
@@ -83,7 +84,7 @@ fields-same r s h =
       eq-eqb (r .length) (s .length) (h .letters),
     )
 
-same-trans : (q r s : Row) → same q r ≡ true → same r s ≡ true → same q s ≡ true
+pub same-trans : (q r s : Row) → same q r ≡ true → same r s ≡ true → same q s ≡ true
 same-trans q r s e e′ =
     let f = same-fields q r e in
     let g = same-fields r s e′ in
@@ -135,14 +136,6 @@ module _ (rs : List Row) (k : ℕ) (inside : k ≤ length rs) (r : Row) where
   pub occurs-before : (i : ℕ) → i < k → same (rowAt rs i) r ≡ true → occurs r (take k rs) ≡ true
   occurs-before i l e =
       occurs-at r (take k rs) i (omega (arith, length-take-le k rs inside)) (rw (getD-take k rs i (rowOf []) l) e)
-
-  pub none-before : ((i : ℕ) → i < k → same (rowAt rs i) r ≡ true → ⊥) → occurs r (take k rs) ≡ false
-  none-before none =
-      false-of (occurs r (take k rs))
-      (λ o.
-      let found = occurs-where r (take k rs) o in
-      let l : found .0 < k = omega (arith, found .1, length-take-le k rs inside) in
-      none (found .0) l (rw (getD-take k rs (found .0) (rowOf []) l) at (found .2)))
 
 module _ (rs : List Row) (k : ℕ) (inside : k < length rs) where
   pub occurs-passed : (r : Row) → occurs r (take (k + 1) rs) ≡ true

@@ -1,4 +1,4 @@
--- `count_distinct` meets its contract: an attempt that is not given up is right, and so is the plain count. The measure
+-- `count_distinct` meets its contract: an attempt that is not given up is right, and so is the count in windows. The measure
 -- is how many attempts are left. Assumes nothing.
 use Prim.Native.Nat.{_-_, _≤_}
 use borrow.Author.Needs.{needs}
@@ -14,8 +14,8 @@ abbrev μ-loop : tie.MeasureT-loop
 row-count-requires : tie.Need-row-count-requires Inv-loop μ-loop
 row-count-requires c κs = search needs
 
-count-plainly-requires : tie.Need-count-plainly-requires Inv-loop μ-loop
-count-plainly-requires c κs = search needs
+count-in-windows-requires : tie.Need-count-in-windows-requires Inv-loop μ-loop
+count-in-windows-requires c κs = search needs
 
 returns : tie.Need-returns Inv-loop μ-loop
 returns c = search needs
@@ -47,8 +47,8 @@ loop-less c = search needs
 loop-again : tie.Need-loop-again Inv-loop μ-loop
 loop-again c = search needs
 
-count-plainly-requires-2 : tie.Need-count-plainly-requires-2 Inv-loop μ-loop
-count-plainly-requires-2 c κs = search needs
+count-in-windows-requires-2 : tie.Need-count-in-windows-requires-2 Inv-loop μ-loop
+count-in-windows-requires-2 c κs = search needs
 
 returns-3 : tie.Need-returns-3 Inv-loop μ-loop
 returns-3 c = search needs
@@ -60,7 +60,7 @@ count-distinct-spec =
     Inv-loop
     μ-loop
     row-count-requires
-    count-plainly-requires
+    count-in-windows-requires
     returns
     loop-holds
     attempt-count-requires
@@ -70,5 +70,5 @@ count-distinct-spec =
     add-attempt
     loop-less
     loop-again
-    count-plainly-requires-2
+    count-in-windows-requires-2
     returns-3)

@@ -1,6 +1,6 @@
 -- `count_with_large_store` meets its contract: its slots are empty. Assumes nothing.
 use borrow.Author.Needs.{needs}
-use Rattle.distinct_pieces.proofs.Plainly.{empty-zeros}
+use Rattle.distinct_pieces.proofs.Empties.{empty-zeros}
 use Rattle.distinct_pieces.proofs.count_with_large_store.Statement.{statement}
 use Rattle.distinct_pieces.proofs.count_with_large_store.Tie as tie
 

@@ -1,0 +1,6 @@
+pub mod Gathering
+pub mod Joined
+pub mod Rising
+pub mod Room
+pub mod Spans
+pub mod Windows

@@ -1,0 +1,112 @@
+-- Room in a full window, once it is sorted.
+--     room-enough     few pieces are left: only their order is another
+--     room-cut        the span is cut at the piece in the middle: what stands before it is the first half
+-- Assumes nothing.
+use Prim.Native.Nat.{ℕ, _≤_, _<_}
+use mathlib.Core.Bool.{true}
+use mathlib.Core.Path.{_≡_, refl}
+use mathlib.Core.List.{List}
+use native.Mathlib.Omega.{arith}
+use native.Mathlib.Decide.{decLt, ℕ-discrete}
+use borrow.Author.Tests.{eq-eqb}
+use lib.ListN.{length}
+use Rattle.table.specs.Distinct.{same}
+use Rattle.sorted_pieces.specs.Order.{before, pieceAt, Among, Sorted}
+use Rattle.piece_windows.specs.Windows.{inSpan, Gathered, Roomier}
+use Rattle.rows.specs.declared.Row.{Row}
+use Rattle.piece_windows.specs.declared.Span.{Span}
+use Rattle.table.proofs.Pieces.{same-sym}
+use Rattle.sorted_pieces.proofs.Order.{before-same, same-before, before-trans}
+use Rattle.sorted_pieces.proofs.Order.{before-not-same, before-not-after}
+use Rattle.piece_windows.proofs.Spans.{span-start, span-end, span-is}
+
+abbrev cut : Span → Row → Span
+cut span to = record { from = span .from; to = to; closed = true }
+
+among-at : (rs : List Row) (ns : List ℕ) (c i : ℕ) → i < c → Among rs ns c (pieceAt rs ns i)
+among-at rs ns c i below =
+    let r = pieceAt rs ns i in
+    record {
+      place = i;
+      below = below;
+      it = rw (
+        eq-eqb (r .«left_a») (r .«left_a») refl,
+        eq-eqb (r .«left_b») (r .«left_b») refl,
+        eq-eqb (r .length) (r .length) refl,
+      );
+    }
+
+module _ {rs : List Row} {ns ns′ : List ℕ} {kept : ℕ} (s : Sorted rs ns ns′ kept) (span : Span)
+    (same-room : length ns′ ≡ length ns) where
+  pub room-enough : 2 ≤ length ns → kept < length ns → Roomier rs ns span ns′ (record { used = kept; span = span })
+  room-enough some fewer =
+      let one : Among rs ns′ kept (pieceAt rs ns 0)
+      = s .all (pieceAt rs ns 0) (among-at rs ns (length ns) 0 (omega arith)) in
+      record {
+        start = refl;
+        fewer = fewer;
+        gathered = λ k g.
+            record {
+              within = omega arith;
+              named = s .named;
+              inside = λ r a. g .inside r (s .of-them r a);
+              complete = λ r e o. s .all r (g .complete r e o);
+              spanned = record { some = λ e. omega (arith, one .below); forward = g .spanned .forward };
+            };
+      }
+
+  module _ {half : ℕ} (more : half < kept) where
+    abbrev to : Row
+    to = pieceAt rs ns′ half
+
+    before-half : (r : Row) → Among rs ns′ half r → before r to ≡ true
+    before-half r a =
+        let at = pieceAt rs ns′ (a .place) in
+        same-before r at to (same-sym at r (a .it)) (s .rising .rising (a .place) half (a .below) more)
+
+    not-behind : (r : Row) (i : ℕ) → half ≤ i → i < kept → same (pieceAt rs ns′ i) r ≡ true → before r to ≡ true → ⊥
+    not-behind r i behind below it b =
+        elim (ℕ-discrete i half) [
+          | yes e ↦ before-not-same r to b (same-sym to r (rw e at it))
+          | no apart ↦
+              before-not-after r to b
+              (before-same to (pieceAt rs ns′ i) r (s .rising .rising half i (omega arith) below) it)
+        ]
+
+    in-half : (r : Row) → before r to ≡ true → Among rs ns′ kept r → Among rs ns′ half r
+    in-half r b a =
+        elim (decLt (a .place) half) [
+          | yes l ↦ record { place = a .place; below = l; it = a .it }
+          | no l ↦ absurd (not-behind r (a .place) (omega arith) (a .below) (a .it) b)
+        ]
+
+    module _ {k : ℕ} (g : Gathered rs k ns (length ns) span) where
+      was-inside : (r : Row) → Among rs ns′ kept r → inSpan span r ≡ true
+      was-inside r a = g .inside r (s .of-them r a)
+
+      to-inside : inSpan span to ≡ true
+      to-inside = was-inside to (among-at rs ns′ kept half more)
+
+      within-old : (r : Row) → inSpan (cut span to) r ≡ true → inSpan span r ≡ true
+      within-old r e =
+          span-is span r (span-start (cut span to) r e)
+          (λ l. before-trans r to (span .to) (span-end (cut span to) r e refl) (span-end span to to-inside l))
+
+      gathered-cut : 0 < half → Gathered rs k ns′ half (cut span to)
+      gathered-cut some =
+          record {
+            within = omega (arith, s .room);
+            named = λ i l. s .named i (omega arith);
+            inside = λ r a.
+                let wider : Among rs ns′ kept r
+                = record { place = a .place; below = omega (arith, a .below); it = a .it } in
+                span-is (cut span to) r (span-start span r (was-inside r wider)) (λ l. before-half r a);
+            complete = λ r e o.
+                in-half r (span-end (cut span to) r e refl) (s .all r (g .complete r (within-old r e) o));
+            spanned = record { some = λ e. some; forward = λ e. span-start span to to-inside };
+          }
+
+    pub room-cut : 0 < half → {at : Row} → at ≡ to → Roomier rs ns span ns′ (record { used = half; span = cut span at })
+    room-cut some e =
+        rw e
+        (record { start = refl; fewer = omega (arith, s .room); gathered = λ k g. gathered-cut g some })
