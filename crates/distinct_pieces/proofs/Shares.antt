@@ -3,6 +3,7 @@
 --     Below                           the pieces of the shares before one are counted
 --     below-starts, below-more        before the first share, and after one more
 --     below-bound, below-all          no more than rows; behind the last share
+--     one-share                       where there is only one, its count is the count of all
 -- Assumes nothing.
 use Prim.Native.Nat.{ℕ, _+_, _*_, _/_, _≤_, _<_, zero-le}
 use mathlib.Core.Bool.{Bool, true, false, cond}
@@ -16,9 +17,11 @@ use lib.ListN.{length}
 use lib.Dec.{eqb, ltb, lit<}
 use Rattle.table.specs.Distinct.{firstOfEach}
 use Rattle.table.specs.Summing.{count}
-use Rattle.distinct_store.specs.Store.{folded, mixed, spot, shareOf, inShare}
+use Rattle.distinct_store.specs.Store.{folded, mixed, spot, shareOf, inShare, Sharing}
 use Rattle.rows.specs.declared.Row.{Row}
 use Rattle.distinct_store.specs.declared.Dealing.{Dealing}
+use Rattle.distinct_store.specs.declared.Counting.{Counting}
+use Rattle.distinct_pieces.specs.Attempts.{Attempt}
 use Rattle.table.proofs.Counting.{count-inside, count-agrees, count-every, count-no-one, count-joined}
 use Rattle.table.proofs.Pieces.{firsts-inside}
 
@@ -72,3 +75,9 @@ module _ {by : Dealing} {rs : List Row} {all share : ℕ} (b : Below by rs all s
     where
       dealt : (r : Row) → shareOf by r < by .shares
       dealt r = share-below _ (by .shares) (omega arith) some
+
+pub one-share : (by : Dealing) (rs : List Row) (x : Counting) → by .shares ≡ 1 → Sharing by 0 rs x → Attempt rs x
+one-share by rs (Counting.Counted found left) one counted =
+    let all = below-more (below-starts by rs) found (omega arith) counted in
+    omega (arith, below-all all (omega arith) (omega arith))
+one-share by rs Counting.GaveUp one counted = tt

@@ -16,116 +16,36 @@ ghost use Rattle.table.specs.Distinct.{firstOfEach};
 ghost use Rattle.distinct_store.specs.Store.{Sharing};
 ghost use Rattle.distinct_pieces.specs.Attempts.{Attempt};
 
-// The slots of a store, and how many rows it is used for: some seven tenths of the slots at most.
+// The slots of a store, how many of them are homes, and how many rows the store is used for: some seven tenths of the
+// slots at most. The slots behind the last home take what does not fit there.
 const SMALL_STORE: usize = 512;
+
+const SMALL_HOMES: u32 = 384;
 
 const SMALL_ROWS: usize = 224;
 
 const MEDIUM_STORE: usize = 8192;
 
+const MEDIUM_HOMES: u32 = 8064;
+
 const MEDIUM_ROWS: usize = 3584;
 
 const LARGE_STORE: usize = 32_768;
 
-const LARGE_ROWS: usize = 24_000;
-// So many slots behind the last home take what does not fit there.
-const SPARE: usize = 128;
+const LARGE_HOMES: u32 = 32_512;
 
-const LARGE_SPARE: usize = 256;
+const LARGE_ROWS: usize = 24_000;
 // A count is given up that looks at more stored rows than so many for each row of the table, and some.
 const PROBES_PER_ROW: usize = 2;
 
 const MORE_PROBES: usize = 512;
-
-const ATTEMPTS: u64 = 2;
 // The numbers of rows that a slot can hold.
 const ROW_NUMBERS: usize = 0xFFFF_FFFF;
 
-fn count_with_small_store(table: &[u32], by: Dealing, share: u64, probes: usize) -> Counting
-    requires { ⌜ length (rowsOf (now table)) < 2 ^ 32 ⌝ }
-    ensures { λ r. ⌜ Sharing by share (rowsOf (now (table .entry))) r ⌝ }
-{
-    let mut slots = [0u32; SMALL_STORE];
-    distinct_store::count_share(table, &mut slots[..], by, share, probes)
-}
-
-fn count_with_medium_store(table: &[u32], by: Dealing, share: u64, probes: usize) -> Counting
-    requires { ⌜ length (rowsOf (now table)) < 2 ^ 32 ⌝ }
-    ensures { λ r. ⌜ Sharing by share (rowsOf (now (table .entry))) r ⌝ }
-{
-    let mut slots = [0u32; MEDIUM_STORE];
-    distinct_store::count_share(table, &mut slots[..], by, share, probes)
-}
-
-fn count_with_large_store(table: &[u32], by: Dealing, share: u64, probes: usize) -> Counting
-    requires { ⌜ length (rowsOf (now table)) < 2 ^ 32 ⌝ }
-    ensures { λ r. ⌜ Sharing by share (rowsOf (now (table .entry))) r ⌝ }
-{
-    let mut slots = [0u32; LARGE_STORE];
-    distinct_store::count_share(table, &mut slots[..], by, share, probes)
-}
-
-// A short table is not worth a large array.
-fn count_share(table: &[u32], by: Dealing, share: u64, probes: usize) -> Counting
-    requires { ⌜ length (rowsOf (now table)) < 2 ^ 32 ⌝ }
-    ensures { λ r. ⌜ Sharing by share (rowsOf (now (table .entry))) r ⌝ }
-{
-    let rows = row_count(table);
-    if rows <= SMALL_ROWS {
-        return count_with_small_store(table, by, share, probes);
-    }
-    if rows <= MEDIUM_ROWS {
-        return count_with_medium_store(table, by, share, probes);
-    }
-    count_with_large_store(table, by, share, probes)
-}
-
-// Counts share by share.
-fn count_shares(table: &[u32], by: Dealing, probes: usize) -> Counting
-    requires { ⌜ length (rowsOf (now table)) < 2 ^ 32 ⌝ }
-    requires { ⌜ 0 < by .shares ⌝ }
-    ensures { λ r. ⌜ Attempt (rowsOf (now (table .entry))) r ⌝ }
-{
-    let shares = by.shares as u64;
-    let mut all: usize = 0;
-    let mut rest = probes;
-    let mut share: u64 = 0;
-    while share < shares {
-        match count_share(table, by, share, rest) {
-            Counting::Counted { found, left } => {
-                all += found;
-                rest = left;
-            }
-            Counting::GaveUp => return Counting::GaveUp,
-        }
-        share += 1;
-    }
-    Counting::Counted {
-        found: all,
-        left: rest,
-    }
-}
-
-fn shares_of(rows: usize) -> u32
+fn probes_of(rows: usize) -> usize
     requires { ⌜ rows < 2 ^ 32 ⌝ }
-    ensures { λ r. ⌜ 0 < r ⌝ }
 {
-    if rows <= MEDIUM_ROWS {
-        return 1;
-    }
-    (rows / LARGE_ROWS) as u32 + 1
-}
-
-fn homes_of(rows: usize) -> u32
-    ensures { λ r. ⌜ 0 < r ⌝ }
-{
-    if rows <= SMALL_ROWS {
-        return (SMALL_STORE - SPARE) as u32;
-    }
-    if rows <= MEDIUM_ROWS {
-        return (MEDIUM_STORE - SPARE) as u32;
-    }
-    (LARGE_STORE - LARGE_SPARE) as u32
+    rows * PROBES_PER_ROW + MORE_PROBES
 }
 
 // What was drawn from the rows so far.
@@ -192,41 +112,111 @@ fn pool_of(table: &[u32], attempt: u64) -> Pool {
 }
 
 // Factors that depend on every row: nobody can make rows for factors that change with the rows.
-fn drawn_dealing(table: &[u32], attempt: u64) -> Dealing
-    requires { ⌜ length (rowsOf (now table)) < 2 ^ 32 ⌝ }
-    ensures { λ r. ⌜ 0 < r .shares ⌝ }
+fn drawn_dealing(table: &[u32], attempt: u64, shares: u32, homes: u32) -> Dealing
+    ensures { λ r. ⌜ r .shares ≡ shares ⌝ }
 {
-    let rows = row_count(table);
     let pool = pool_of(table, attempt);
     Dealing {
         left_a: (pool.a >> 32) as u32,
         left_b: (pool.b >> 32) as u32,
         length: (pool.c >> 32) as u32,
-        shares: shares_of(rows),
-        homes: homes_of(rows),
+        shares,
+        homes,
     }
 }
 
-fn attempt_count(table: &[u32], attempt: u64) -> Counting
+fn count_with_small_store(table: &[u32]) -> Counting
     requires { ⌜ length (rowsOf (now table)) < 2 ^ 32 ⌝ }
     ensures { λ r. ⌜ Attempt (rowsOf (now (table .entry))) r ⌝ }
 {
-    let probes = row_count(table) * PROBES_PER_ROW + MORE_PROBES;
-    count_shares(table, drawn_dealing(table, attempt), probes)
+    let by = drawn_dealing(table, 0, 1, SMALL_HOMES);
+    let probes = probes_of(row_count(table));
+    let mut slots = [0u32; SMALL_STORE];
+    distinct_store::count_share(table, &mut slots[..], by, 0, probes)
 }
 
+fn count_with_medium_store(table: &[u32]) -> Counting
+    requires { ⌜ length (rowsOf (now table)) < 2 ^ 32 ⌝ }
+    ensures { λ r. ⌜ Attempt (rowsOf (now (table .entry))) r ⌝ }
+{
+    let by = drawn_dealing(table, 0, 1, MEDIUM_HOMES);
+    let probes = probes_of(row_count(table));
+    let mut slots = [0u32; MEDIUM_STORE];
+    distinct_store::count_share(table, &mut slots[..], by, 0, probes)
+}
+
+fn count_with_large_store(table: &[u32], by: Dealing, share: u64, probes: usize) -> Counting
+    requires { ⌜ length (rowsOf (now table)) < 2 ^ 32 ⌝ }
+    ensures { λ r. ⌜ Sharing by share (rowsOf (now (table .entry))) r ⌝ }
+{
+    let mut slots = [0u32; LARGE_STORE];
+    distinct_store::count_share(table, &mut slots[..], by, share, probes)
+}
+
+// Counts share by share.
+fn count_shares(table: &[u32], by: Dealing, probes: usize) -> Counting
+    requires { ⌜ length (rowsOf (now table)) < 2 ^ 32 ⌝ }
+    requires { ⌜ 0 < by .shares ⌝ }
+    ensures { λ r. ⌜ Attempt (rowsOf (now (table .entry))) r ⌝ }
+{
+    let shares = by.shares as u64;
+    let mut all: usize = 0;
+    let mut rest = probes;
+    let mut share: u64 = 0;
+    while share < shares {
+        match count_with_large_store(table, by, share, rest) {
+            Counting::Counted { found, left } => {
+                all += found;
+                rest = left;
+            }
+            Counting::GaveUp => return Counting::GaveUp,
+        }
+        share += 1;
+    }
+    Counting::Counted {
+        found: all,
+        left: rest,
+    }
+}
+
+// Counts a long table, by the factors of an attempt.
+fn count_long(table: &[u32], attempt: u64) -> Counting
+    requires { ⌜ length (rowsOf (now table)) < 2 ^ 32 ⌝ }
+    ensures { λ r. ⌜ Attempt (rowsOf (now (table .entry))) r ⌝ }
+{
+    let rows = row_count(table);
+    let shares = (rows / LARGE_ROWS) as u32 + 1;
+    let by = drawn_dealing(table, attempt, shares, LARGE_HOMES);
+    count_shares(table, by, probes_of(rows))
+}
+
+// What was counted; in windows, if it was given up.
+fn settled(table: &[u32], counting: Counting) -> usize
+    requires { ⌜ Attempt (rowsOf (now table)) counting ⌝ }
+    ensures { λ r. ⌜ r ≡ length (firstOfEach (rowsOf (now (table .entry)))) ⌝ }
+{
+    match counting {
+        Counting::Counted { found, left: _ } => found,
+        Counting::GaveUp => count_in_windows(table),
+    }
+}
+
+// A short table is one share, and not worth a large array.
 pub fn count_distinct(table: &[u32]) -> usize
     ensures { λ r. ⌜ r ≡ length (firstOfEach (rowsOf (now (table .entry)))) ⌝ }
 {
-    if ROW_NUMBERS < row_count(table) {
+    let rows = row_count(table);
+    if rows <= SMALL_ROWS {
+        return settled(table, count_with_small_store(table));
+    }
+    if rows <= MEDIUM_ROWS {
+        return settled(table, count_with_medium_store(table));
+    }
+    if ROW_NUMBERS < rows {
         return count_in_windows(table);
     }
-    let mut attempt: u64 = 0;
-    while attempt < ATTEMPTS {
-        match attempt_count(table, attempt) {
-            Counting::Counted { found, left: _ } => return found,
-            Counting::GaveUp => attempt += 1,
-        }
+    match count_long(table, 0) {
+        Counting::Counted { found, left: _ } => found,
+        Counting::GaveUp => settled(table, count_long(table, 1)),
     }
-    count_in_windows(table)
 }

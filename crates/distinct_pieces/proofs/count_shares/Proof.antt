@@ -20,8 +20,8 @@ cast-shares c = search needs
 loop-holds : tie.Need-loop-holds Inv-loop μ-loop
 loop-holds c = below-starts _ _
 
-count-share-requires : tie.Need-count-share-requires Inv-loop μ-loop
-count-share-requires c κs = search needs
+count-with-large-store-requires : tie.Need-count-with-large-store-requires Inv-loop μ-loop
+count-with-large-store-requires c κs = search needs
 
 enum-known-found : tie.Need-enum-known-found Inv-loop μ-loop
 enum-known-found c = search needs
@@ -31,7 +31,7 @@ add-all c =
     let arm = c .before .before in
     let called = arm .before in
     let now = called .before .before in
-    let counted = rw (c .before .found .given .1) at (called .count-share .ensures) in
+    let counted = rw (c .before .found .given .1) at (called .count-with-large-store .ensures) in
     omega (arith, below-bound (below-more (now .loop .inv) _ (omega arith) counted))
 
 enum-told : tie.Need-enum-told Inv-loop μ-loop
@@ -51,7 +51,7 @@ loop-again c =
     let arm = c .before .before in
     let called = arm .before in
     let now = called .before .before in
-    let counted = rw (c .before .found .given .1) at (called .count-share .ensures) in
+    let counted = rw (c .before .found .given .1) at (called .count-with-large-store .ensures) in
     below-more (now .loop .inv) _ (omega arith) counted
 
 returns-2 : tie.Need-returns-2 Inv-loop μ-loop
@@ -65,7 +65,7 @@ count-shares-spec =
     μ-loop
     cast-shares
     loop-holds
-    count-share-requires
+    count-with-large-store-requires
     enum-known-found
     add-all
     enum-told
