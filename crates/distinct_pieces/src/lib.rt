@@ -150,7 +150,7 @@ fn count_with_large_store(table: &[u32], by: Dealing, share: u64, probes: usize)
     ensures { λ r. ⌜ Sharing by share (rowsOf (now (table .entry))) r ⌝ }
 {
     let mut slots = [0u32; LARGE_STORE];
-    distinct_store::count_share(table, &mut slots[..], by, share, probes)
+    picked_rows::count_share(table, &mut slots[..], by, share, probes)
 }
 
 // Counts share by share.

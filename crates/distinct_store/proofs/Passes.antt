@@ -1,6 +1,4 @@
 -- What a pass over the rows keeps, that counts the first rows of the pieces of one share.
---     firstsDealt                    the first rows of one share among the rows passed
---     Dealt                          between two rows: so many of them counted, and the store kept
 --     dealt-starts, dealt-bound      before the first row; no more counted than passed
 --     dealt-all                      behind the last row
 --     dealt-other                    after a row of another share
@@ -17,20 +15,12 @@ use lib.Seq.{length-take-le, take-all}
 use Rattle.rows.specs.Rows.{rowAt}
 use Rattle.table.specs.Distinct.{occurs, firstsAfter, firstOfEach}
 use Rattle.table.specs.Summing.{total, count}
-use Rattle.distinct_store.specs.Store.{shareOf, inShare, Empty, Kept, Entered}
+use Rattle.distinct_store.specs.Store.{shareOf, inShare, Empty, Entered, firstsDealt, Dealt}
 use Rattle.rows.specs.declared.Row.{Row}
 use Rattle.distinct_store.specs.declared.Dealing.{Dealing}
 use Rattle.table.proofs.Counting.{total-snoc, count-inside}
 use Rattle.table.proofs.Pieces.{never-both, firsts-known, firsts-fresh, firsts-inside}
 use Rattle.distinct_store.proofs.Slots.{same-share, kept-more}
-
-abbrev pub firstsDealt : Dealing → ℕ → List Row → ℕ → ℕ
-firstsDealt by share rs k = count (inShare by share) (firstOfEach (take k rs))
-
-pub record Dealt (by : Dealing) (share : ℕ) (rs : List Row) (slots : List ℕ) (found k : ℕ) : Type 0 where
-  pub passed : k ≤ length rs
-  pub counted : found ≡ firstsDealt by share rs k
-  pub kept : Kept by share rs k slots
 
 pub dealt-starts : (by : Dealing) (share : ℕ) (rs : List Row) {slots : List ℕ} → Empty slots
     → Dealt by share rs slots 0 0

@@ -11,6 +11,8 @@
 --     Kept by s rs k slots              the slots are a store of the pieces of share s among the first k rows of rs
 --     Gap, Seeking                      what looking for a piece tells, by its answer
 --     Entered, Enrolling                what a store is and knows after one more row of its share, by its answer
+--     firstsDealt by s rs k             how many pieces of share s have their first row among the first k rows of rs
+--     Dealt                             between two rows of a pass: so many pieces counted, and the store kept
 --     Sharing                           what the count of one share is, unless it was given up
 -- A slot holds a row's number counted from 1, or 0 where it is free. From a row's home to its slot no slot is free.
 -- Assumes nothing.
@@ -96,6 +98,14 @@ abbrev pub Enrolling : Dealing → ℕ → List Row → ℕ → List ℕ → Enr
 Enrolling by share rs k slots (Enrolled.Known left) = Entered by share rs k slots true
 Enrolling by share rs k slots (Enrolled.Fresh left) = Entered by share rs k slots false
 Enrolling by share rs k slots Enrolled.Lost = Unit {0}
+
+abbrev pub firstsDealt : Dealing → ℕ → List Row → ℕ → ℕ
+firstsDealt by share rs k = count (inShare by share) (firstOfEach (take k rs))
+
+pub record Dealt (by : Dealing) (share : ℕ) (rs : List Row) (slots : List ℕ) (found k : ℕ) : Type 0 where
+  pub passed : k ≤ length rs
+  pub counted : found ≡ firstsDealt by share rs k
+  pub kept : Kept by share rs k slots
 
 abbrev pub Sharing : Dealing → ℕ → List Row → Counting → Type 0
 Sharing by share rs (Counting.Counted found left) = found ≡ count (inShare by share) (firstOfEach rs)

@@ -87,7 +87,7 @@ fn mixed_of(row: Row, by: Dealing) -> u32
     folded_of(product(folded_of(sum_of(row, by)), MIXER))
 }
 
-fn spot_of(row: Row, by: Dealing) -> u64
+pub fn spot_of(row: Row, by: Dealing) -> u64
     ensures { λ r. ⌜ r ≡ spot by row ⌝ }
 {
     product(mixed_of(row, by), by.shares)
@@ -118,7 +118,7 @@ fn seek(table: &[u32], slots: &[u32], from: usize, row: Row, probes: usize) -> S
 }
 
 // Takes row k in, which is `row` and dealt to `dealt`, unless its piece is there.
-fn enroll(
+pub fn enroll(
     table: &[u32],
     slots: &mut [u32],
     by: Dealing,

@@ -6,7 +6,8 @@ use native.Mathlib.Omega.{arith}
 use lib.ListN.{length}
 use borrow.Author.Needs.{needs}
 use Rattle.rows.specs.Rows.{rowsOf}
-use Rattle.distinct_store.proofs.Passes.{Dealt, dealt-starts, dealt-bound, dealt-all}
+use Rattle.distinct_store.specs.Store.{Dealt}
+use Rattle.distinct_store.proofs.Passes.{dealt-starts, dealt-bound, dealt-all}
 use Rattle.distinct_store.proofs.Passes.{dealt-other, dealt-known, dealt-fresh}
 use Rattle.distinct_store.proofs.count_share.Statement.{statement}
 use Rattle.distinct_store.proofs.count_share.Tie as tie
