@@ -2,7 +2,7 @@
 
 use compare::door::{self, Refining};
 use compare::draft::DraftMatch;
-use compare::groups::crafted;
+use compare::groups::patterned;
 use compare::groups::shapes::{script, zigzag};
 use compare::random::Random;
 use compare::slow::table::{NUMBERS_OF_A_ROW, WORK_OF_A_ROW};
@@ -33,12 +33,10 @@ fn length(rows: usize, random: &mut Random) -> Length {
         ("random", random_rows(rows, random)),
         ("each piece twice", twice(&own)),
         ("all equal", [1, 7, 8, 9, 0].repeat(rows)),
-        ("made: one home", crafted::one_home(count)),
-        ("made: one share", crafted::one_share(count, random)),
-        ("made: at the end", crafted::trouble_at_the_end(count)),
     ];
+    tables.extend(patterned::all(count).map(|(name, table)| (name, shuffled(&table, random))));
     if rows == 100_000 {
-        tables.push(("made: 300 matches", refined(&crafted::matches(300), rows)));
+        tables.push(("300 matches", refined(&patterned::matches(300), rows)));
     }
     Length { rows, tables }
 }

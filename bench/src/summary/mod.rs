@@ -1,4 +1,4 @@
-//! The proved summary beside plain Rust, on ordinary tables and on tables made to be slow.
+//! The proved summary beside plain Rust, on ordinary tables and on tables of a pattern.
 
 mod cases;
 mod plain;

@@ -1,13 +1,13 @@
 //! The inputs of the differential run, in groups.
 
 mod changed;
-pub mod crafted;
 mod edges;
 mod faults;
 mod good;
 mod large;
 mod many;
 mod noise;
+pub mod patterned;
 pub mod shapes;
 mod tables;
 mod tiny;
@@ -119,5 +119,5 @@ pub const TABLES: Groups<u32> = &[
 
 pub const LONG_TABLES: Groups<u32> = &[
     group("3,000 rows and more", tables::long),
-    group("rows made against the fixed factors", tables::crafted),
+    group("rows of a pattern", tables::patterned),
 ];

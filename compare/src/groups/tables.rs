@@ -1,6 +1,6 @@
 //! Tables, most of which no script has.
 
-use super::{crafted, shapes, tiny};
+use super::{patterned, shapes, tiny};
 use crate::random::Random;
 use crate::slow::report::ROWS;
 use crate::slow::table::{refine, NUMBERS_OF_A_ROW, WORK_OF_A_ROW};
@@ -83,13 +83,11 @@ pub fn long(random: &mut Random) -> Vec<Vec<u32>> {
     tables
 }
 
-/// Rows that the proved summary gives up to count at its first attempt, for each of its stores.
-pub fn crafted(random: &mut Random) -> Vec<Vec<u32>> {
-    let mut tables = Vec::new();
-    for rows in [100, 224, 1_000, 3_584, 3_585, 20_000, 40_000] {
-        tables.push(crafted::one_home(rows));
-        tables.push(crafted::one_share(rows, random));
-        tables.push(crafted::trouble_at_the_end(rows));
-    }
-    tables
+/// Lengths around those where the proved summary takes a larger store, and one more pass over the table.
+pub fn patterned(_: &mut Random) -> Vec<Vec<u32>> {
+    [100, 224, 225, 1_000, 3_584, 3_585, 23_999, 24_000, 48_000]
+        .into_iter()
+        .flat_map(patterned::all)
+        .map(|(_, table)| table)
+        .collect()
 }

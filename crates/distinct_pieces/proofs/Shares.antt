@@ -17,7 +17,7 @@ use lib.ListN.{length}
 use lib.Dec.{eqb, ltb, lit<}
 use Rattle.table.specs.Distinct.{firstOfEach}
 use Rattle.table.specs.Summing.{count}
-use Rattle.distinct_store.specs.Store.{folded, mixed, spot, shareOf, inShare, Sharing}
+use Rattle.distinct_store.specs.Store.{scattered, mixed, spot, shareOf, inShare, Sharing}
 use Rattle.rows.specs.declared.Row.{Row}
 use Rattle.distinct_store.specs.declared.Dealing.{Dealing}
 use Rattle.distinct_store.specs.declared.Counting.{Counting}
@@ -66,7 +66,7 @@ module _ {by : Dealing} {rs : List Row} {all share : ℕ} (b : Below by rs all s
       record { reached = omega arith; counted = omega (arith, joined, b .counted) }
 
   pub below-all : 0 < by .shares → by .shares ≤ share → all ≡ length (firstOfEach rs)
-  unfolding spot mixed folded
+  unfolding spot mixed scattered
   below-all some ended =
       let last : share ≡ by .shares = omega (arith, b .reached) in
       let every = count-agrees (belowShare by share) true (λ r. lt-ltb (shareOf by r) share (rw last (dealt r)))

@@ -16,8 +16,8 @@ ghost use Rattle.table.specs.Distinct.{firstOfEach};
 ghost use Rattle.distinct_store.specs.Store.{Sharing};
 ghost use Rattle.distinct_pieces.specs.Attempts.{Attempt};
 
-// The slots of a store, how many of them are homes, and how many rows the store is used for: some seven tenths of the
-// slots at most. The slots behind the last home take what does not fit there.
+// The slots of a store, how many of them are homes, and how many rows the store is used for: three quarters of the homes
+// at most. The slots behind the last home take what does not fit there.
 const SMALL_STORE: usize = 512;
 
 const SMALL_HOMES: u32 = 384;
@@ -32,7 +32,7 @@ const MEDIUM_ROWS: usize = 3584;
 
 const LARGE_STORE: usize = 32_768;
 
-const LARGE_HOMES: u32 = 32_512;
+const LARGE_HOMES: u32 = 32_000;
 
 const LARGE_ROWS: usize = 24_000;
 // A count is given up that looks at more stored rows than so many for each row of the table, and some.

@@ -1,7 +1,8 @@
 -- How the count of distinct pieces looks a piece up.
 --     summed by r                       the piece's three numbers, each times its factor, added up
 --     folded x                          the two halves of x joined, below 2^32
---     mixed by r                        the sum folded, multiplied and folded again: what a piece is dealt by
+--     scattered x                       another number for each x, below 2^32 as x is
+--     mixed by r                        the sum folded and scattered: what a piece is dealt by
 --     spot by r                         the same, spread over the shares
 --     shareOf by r, homeOf by r         the share, and the slot where looking for the piece starts
 --     inShare by s r                    r is in share s
@@ -41,9 +42,15 @@ summed by r =
 unfoldable pub folded : ℕ → ℕ
 folded x = bitXor x (x / 2 ^ 32) % 2 ^ 32
 
+-- the upper bits on the lower ones, before and after a multiplication
+unfoldable pub scattered : ℕ → ℕ
+scattered x =
+    let y = bitXor x (x / 2 ^ 15) * 0x9E37_79B1 % 2 ^ 32 in
+    bitXor y (y / 2 ^ 16) % 2 ^ 32
+
 -- nothing is asked of it but that rows of the same piece have the same; the better it spreads, the less a search costs
 unfoldable pub mixed : Dealing → Row → ℕ
-mixed by r = folded (folded (summed by r) * 0x9E37_79B1)
+mixed by r = scattered (folded (summed by r))
 
 unfoldable pub spot : Dealing → Row → ℕ
 spot by r = mixed by r * by .shares

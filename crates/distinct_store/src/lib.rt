@@ -10,7 +10,7 @@ ghost use Prim.Native.Nat.{_+_, _*_, _<_, _^_};
 ghost use lib.ListN.{length};
 ghost use Rattle.rows.specs.Rows.{rowsOf, rowAt};
 ghost use Rattle.table.specs.Distinct.{same};
-ghost use Rattle.distinct_store.specs.Store.{summed, folded, mixed, spot, shareOf, Inside, Empty, Kept};
+ghost use Rattle.distinct_store.specs.Store.{summed, folded, scattered, mixed, spot, shareOf, Inside, Empty, Kept};
 ghost use Rattle.distinct_store.specs.Store.{Seeking, Enrolling, Sharing};
 
 // An odd number without a pattern in its bits.
@@ -80,11 +80,18 @@ fn folded_of(x: u64) -> u32
     ((x ^ x / 0x1_0000_0000) % 0x1_0000_0000) as u32
 }
 
-// Folding alone would leave rows at equal distances at equal distances, and close together under some factors.
+// Numbers at equal distances are at equal distances no more, which under some factors would be close together.
+fn scattered_of(x: u32) -> u32
+    ensures { λ r. ⌜ r ≡ scattered x ⌝ }
+{
+    let y = product(x ^ x / 0x8000, MIXER) % 0x1_0000_0000;
+    ((y ^ y / 0x1_0000) % 0x1_0000_0000) as u32
+}
+
 fn mixed_of(row: Row, by: Dealing) -> u32
     ensures { λ r. ⌜ r ≡ mixed by row ⌝ }
 {
-    folded_of(product(folded_of(sum_of(row, by)), MIXER))
+    scattered_of(folded_of(sum_of(row, by)))
 }
 
 pub fn spot_of(row: Row, by: Dealing) -> u64

@@ -10,17 +10,12 @@ sum-of-requires c κs = search needs
 folded-of-requires : tie.Need-folded-of-requires
 folded-of-requires c κs = search needs
 
-product-requires : tie.Need-product-requires
-product-requires c κs = search needs
-
-folded-of-requires-2 : tie.Need-folded-of-requires-2
-folded-of-requires-2 c κs = search needs
+scattered-of-requires : tie.Need-scattered-of-requires
+scattered-of-requires c κs = search needs
 
 returns : tie.Need-returns
 unfolding mixed
 returns c = cc
 
 pub mixed-of-spec : {M : Type 1} → statement M
-mixed-of-spec =
-    tie.close
-    (tie.spec sum-of-requires folded-of-requires product-requires folded-of-requires-2 returns)
+mixed-of-spec = tie.close (tie.spec sum-of-requires folded-of-requires scattered-of-requires returns)
