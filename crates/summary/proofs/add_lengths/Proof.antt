@@ -43,9 +43,10 @@ loop-less c = search needs
 
 loop-again : tie.Need-loop-again Inv-loop μ-loop
 loop-again c =
-    let read = c .before .before in
-    let now = read .before .before in
-    let rs = rowsOf (now .before .before .before .args .table .now) in
+    let start : tie.Start Inv-loop μ-loop = search in
+    let now : tie.At-loop Inv-loop μ-loop = search in
+    let read : tie.After-row-at Inv-loop μ-loop = search in
+    let rs = rowsOf (start .args .table .now) in
     let more = letters-more rs (now .loop .k) (omega arith) (read .row-at .ensures) (now .loop .inv .1) in (
       omega arith,
       c .wrapping-add-u64 .ensures ∙ more,
@@ -53,8 +54,9 @@ loop-again c =
 
 returns : tie.Need-returns Inv-loop μ-loop
 returns c =
-    let now = c .before in
-    let rs = rowsOf (now .before .before .before .args .table .now) in
+    let start : tie.Start Inv-loop μ-loop = search in
+    let now : tie.At-loop Inv-loop μ-loop = search in
+    let rs = rowsOf (start .args .table .now) in
     rw (take-all (now .loop .k) rs (omega arith)) at (now .loop .inv .1)
 
 pub add-lengths-spec : {M : Type 1} → statement M

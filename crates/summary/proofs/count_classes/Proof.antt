@@ -42,9 +42,10 @@ loop-less c = search needs
 
 loop-again : tie.Need-loop-again Inv-loop μ-loop
 loop-again c =
-    let read = c .before .before in
-    let now = read .before .before in
-    let rs = rowsOf (now .before .before .before .args .table .now) in
+    let start : tie.Start Inv-loop μ-loop = search in
+    let now : tie.At-loop Inv-loop μ-loop = search in
+    let read : tie.After-row-at Inv-loop μ-loop = search in
+    let rs = rowsOf (start .args .table .now) in
     let class = c .before .class-of in
     let told = classes-same rs (now .loop .k) (class .result) (omega arith) (read .row-at .ensures) (class .ensures) in
     (omega arith, now .loop .inv .1 ∙ told (c .if1 .taken))
@@ -57,8 +58,9 @@ array-read-classes c = search needs
 
 add-classes : tie.Need-add-classes Inv-loop μ-loop
 add-classes c =
-    let now = c .before .before .before .before in
-    let rs = rowsOf (now .before .before .before .args .table .now) in
+    let start : tie.Start Inv-loop μ-loop = search in
+    let now : tie.At-loop Inv-loop μ-loop = search in
+    let rs = rowsOf (start .args .table .now) in
     let class = c .before .class-of .result in
     let passed = take (now .loop .k) rs in
     omega (
@@ -76,17 +78,19 @@ loop-less-2 c = search needs
 
 loop-again-2 : tie.Need-loop-again-2 Inv-loop μ-loop
 loop-again-2 c =
-    let read = c .before .before in
-    let now = read .before .before in
-    let rs = rowsOf (now .before .before .before .args .table .now) in
+    let start : tie.Start Inv-loop μ-loop = search in
+    let now : tie.At-loop Inv-loop μ-loop = search in
+    let read : tie.After-row-at Inv-loop μ-loop = search in
+    let rs = rowsOf (start .args .table .now) in
     let class = c .before .class-of in
     let told = classes-more rs (now .loop .k) (class .result) (omega arith) (read .row-at .ensures) (class .ensures) in
     (omega arith, rw (now .loop .inv .1) (told (omega arith)))
 
 returns : tie.Need-returns Inv-loop μ-loop
 returns c =
-    let now = c .before in
-    let rs = rowsOf (now .before .before .before .args .table .now) in
+    let start : tie.Start Inv-loop μ-loop = search in
+    let now : tie.At-loop Inv-loop μ-loop = search in
+    let rs = rowsOf (start .args .table .now) in
     rw (take-all (now .loop .k) rs (omega arith)) at (now .loop .inv .1)
 
 pub count-classes-spec : {M : Type 1} → statement M
