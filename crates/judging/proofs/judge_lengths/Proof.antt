@@ -16,12 +16,14 @@ in-range-requires-2 c κs = search needs
 
 returns-2 : tie.Need-returns-2
 returns-2 c =
-    let p-fits = sym (c .before .before .before .in-range .ensures) ∙ not-false _ (c .before .before .if1 .left) in
+    let passed : tie.Else1 = search in
+    let p-fits = sym (passed .before .in-range .ensures) ∙ not-false _ (passed .if1 .left) in
     rw (p-fits, sym (c .before .in-range2 .ensures) ∙ not-true _ (c .if2 .taken))
 
 returns-3 : tie.Need-returns-3
 returns-3 c =
-    let p-fits = sym (c .before .before .before .in-range .ensures) ∙ not-false _ (c .before .before .if1 .left) in
+    let passed : tie.Else1 = search in
+    let p-fits = sym (passed .before .in-range .ensures) ∙ not-false _ (passed .if1 .left) in
     rw (p-fits, sym (c .before .in-range2 .ensures) ∙ not-false _ (c .if2 .left))
 
 pub judge-lengths-spec : {M : Type 1} → statement M
