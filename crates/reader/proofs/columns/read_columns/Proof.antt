@@ -37,10 +37,11 @@ same-length-4 c = search needs
 
 returns-2 : tie.Need-returns-2
 returns-2 c =
-    let filled = c .before .before .before .before .before .before .before .before in
-    let told = filled .before .before .before .before .before .before in
+    let read : tie.After-read = search in
+    let told : tie.After-verdict = search in
+    let filled : tie.After-fill-columns = search in
     let admits = told .verdict .given .1 in
-    let reads = told .before .before .read .ensures .0 in
+    let reads = read .read .ensures .0 in
     columns-contract _ (sym admits ∙ reads) (filled-columns _ reads admits (filled .fill-columns .ensures))
 
 pub read-columns-spec : {M : Type 1} → statement M
