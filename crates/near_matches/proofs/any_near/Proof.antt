@@ -31,8 +31,9 @@ shared-slice-read-reaches-2 c = search needs
 
 reaches-requires : tie.Need-reaches-requires Inv-loop μ-loop
 reaches-requires c κs =
-    let pre = c .before .before .before .before .before .before .pre in
-    pre .0 .fits (c .before .before .before .loop .at) (search needs)
+    let start : tie.Start Inv-loop μ-loop = search in
+    let at-loop : tie.At-loop Inv-loop μ-loop = search in
+    start .pre .0 .fits (at-loop .loop .at) (search needs)
 
 add-at : tie.Need-add-at Inv-loop μ-loop
 add-at c = search needs
@@ -42,12 +43,14 @@ loop-less c = search needs
 
 loop-again : tie.Need-loop-again Inv-loop μ-loop
 loop-again c =
-    let in-loop = c .before .before .before in
-    sift-step (in-loop .before .before .before .before .pre .1) (in-loop .before .loop .inv) (in-loop .loop-test .taken)
-    (c .reaches .ensures)
+    let start : tie.Start Inv-loop μ-loop = search in
+    let in-loop : tie.In-loop Inv-loop μ-loop = search in
+    sift-step (start .pre .1) (in-loop .before .loop .inv) (in-loop .loop-test .taken) (c .reaches .ensures)
 
 returns : tie.Need-returns Inv-loop μ-loop
-returns c = sift-end (c .before .before .before .before .pre .1) (c .before .loop .inv) (search needs)
+returns c =
+    let start : tie.Start Inv-loop μ-loop = search in
+    sift-end (start .pre .1) (c .before .loop .inv) (search needs)
 
 pub any-near-spec : {M : Type 1} → statement M
 any-near-spec =

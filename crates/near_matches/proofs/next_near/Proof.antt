@@ -31,7 +31,7 @@ shared-slice-read-reaches-2 c = search needs
 
 reaches-requires : tie.Need-reaches-requires Inv-loop μ-loop
 reaches-requires c κs =
-    let start = c .before .before .before .before .before in
+    let start : tie.Start Inv-loop μ-loop = search in
     start .pre .0 .fits (start .args .k) (search needs)
 
 returns-2 : tie.Need-returns-2 Inv-loop μ-loop
@@ -57,9 +57,9 @@ shared-slice-read-reaches-4 c = search needs
 
 reaches-requires-2 : tie.Need-reaches-requires-2 Inv-loop μ-loop
 reaches-requires-2 c κs =
-    let at-loop = c .before .before .before in
-    let pre = at-loop .before .before .before .before .before .before .before .before .before .pre in
-    pre .0 .fits (at-loop .loop .near) (search needs)
+    let start : tie.Start Inv-loop μ-loop = search in
+    let at-loop : tie.At-loop Inv-loop μ-loop = search in
+    start .pre .0 .fits (at-loop .loop .near) (search needs)
 
 add-near : tie.Need-add-near Inv-loop μ-loop
 add-near c = search needs
@@ -69,8 +69,8 @@ loop-less c = search needs
 
 loop-again : tie.Need-loop-again Inv-loop μ-loop
 loop-again c =
-    passable-step (c .before .before .before .before .before .loop .inv) (search needs)
-    (sym (c .before .reaches2 .ensures) ∙ c .if3 .left)
+    let at-loop : tie.At-loop Inv-loop μ-loop = search in
+    passable-step (at-loop .loop .inv) (search needs) (sym (c .before .reaches2 .ensures) ∙ c .if3 .left)
 
 returns-3 : tie.Need-returns-3 Inv-loop μ-loop
 returns-3 c = search needs

@@ -30,7 +30,8 @@ loop-less c = search needs
 
 loop-again : tie.Need-loop-again Inv-loop μ-loop
 loop-again c =
-    passable-then (c .before .before .before .loop .inv) (c .before .any-near .ensures (c .if1 .left))
+    let at-loop : tie.At-loop Inv-loop μ-loop = search in
+    passable-then (at-loop .loop .inv) (c .before .any-near .ensures (c .if1 .left))
 
 returns : tie.Need-returns Inv-loop μ-loop
 returns c = search needs
