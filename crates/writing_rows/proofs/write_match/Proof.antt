@@ -40,7 +40,7 @@ shared-slice-read-write-piece-2 c = search needs
 
 write-piece-requires : tie.Need-write-piece-requires Inv-loop μ-loop
 write-piece-requires c κs =
-    let in-loop = c .before .before .before in
+    let in-loop : tie.In-loop Inv-loop μ-loop = search in
     let inv = in-loop .before .loop .inv in
     let less = in-loop .loop-test .taken in
     (remaining-stretch inv less, remaining-room inv less)
@@ -56,8 +56,8 @@ loop-less c = search needs
 
 loop-again : tie.Need-loop-again Inv-loop μ-loop
 loop-again c =
-    let called = c .before .before in
-    let in-loop = called .before .before .before .before in
+    let in-loop : tie.In-loop Inv-loop μ-loop = search in
+    let called : tie.After-write-piece Inv-loop μ-loop = search in
     remaining-step (in-loop .before .loop .inv) (in-loop .loop-test .taken) (called .write-piece .ensures)
 
 same-length : tie.Need-same-length Inv-loop μ-loop

@@ -67,7 +67,7 @@ same-length c = simp length-set
 
 returns : tie.Need-returns
 returns c =
-    let start = c .before .before .before .before in
+    let start : tie.Start = search in
     let a = start .args in
     five-stores (a .table .now) (a .at) (a .number) (a .reversed) (start .pre .0)
     (c .before .before .by-direction .ensures) (c .before .carry .ensures) (c .by-direction2 .ensures)

@@ -17,8 +17,7 @@ abbrev μ-loop : tie.MeasureT-loop
 μ-loop left-a left-b lengths reversed work lo hi table₀ row₀ k₀ table row k = length lengths - k
 
 loop-holds : tie.Need-loop-holds Inv-loop μ-loop
-loop-holds c =
-    let start = c .before .before .before .before .before .before in done-start (start .pre .0) (start .pre .1)
+loop-holds c = let start : tie.Start Inv-loop μ-loop = search in done-start (start .pre .0) (start .pre .1)
 
 mul-left : tie.Need-mul-left Inv-loop μ-loop
 mul-left c = search needs
@@ -37,8 +36,8 @@ lower-bound-requires c κs = search needs
 
 add-lower-bound : tie.Need-add-lower-bound Inv-loop μ-loop
 add-lower-bound c =
-    let in-loop = c .before .before .before in
-    let at-loop = in-loop .before in
+    let at-loop : tie.At-loop Inv-loop μ-loop = search in
+    let in-loop : tie.In-loop Inv-loop μ-loop = search in
     omega (arith, at-loop .loop .inv .fit .from-fits (at-loop .loop .k) (in-loop .loop-test .taken))
 
 lower-bound-requires-2 : tie.Need-lower-bound-requires-2 Inv-loop μ-loop
@@ -61,14 +60,15 @@ shared-slice-read-write-match-2 c = search needs
 
 write-match-requires : tie.Need-write-match-requires Inv-loop μ-loop
 write-match-requires c κs =
-    let called = c .before .before .before in
-    let in-loop = called .before .before .before .before in
+    let at-loop : tie.At-loop Inv-loop μ-loop = search in
+    let in-loop : tie.In-loop Inv-loop μ-loop = search in
+    let bounded : tie.After-lower-bound2 Inv-loop μ-loop = search in
     let less = in-loop .loop-test .taken in
-    let inv = in-loop .before .loop .inv in
-    let left = called .before .lower-bound .ensures in
-    let right = called .lower-bound2 .ensures in (
+    let inv = at-loop .loop .inv in
+    let left = bounded .before .lower-bound .ensures in
+    let right = bounded .lower-bound2 .ensures in (
       done-cuts inv less left right,
-      (inv .fit .to-fits (in-loop .before .loop .k) less, done-room inv less left right),
+      (inv .fit .to-fits (at-loop .loop .k) less, done-room inv less left right),
     )
 
 add-k : tie.Need-add-k Inv-loop μ-loop
@@ -79,11 +79,11 @@ loop-less c = search needs
 
 loop-again : tie.Need-loop-again Inv-loop μ-loop
 loop-again c =
-    let written = c .before .before in
-    let called = written .before .before .before .before in
-    let in-loop = called .before .before .before .before in
-    done-step (in-loop .before .loop .inv) (in-loop .loop-test .taken) (called .before .lower-bound .ensures)
-    (called .lower-bound2 .ensures) (written .write-match .ensures)
+    let in-loop : tie.In-loop Inv-loop μ-loop = search in
+    let bounded : tie.After-lower-bound2 Inv-loop μ-loop = search in
+    let written : tie.After-write-match Inv-loop μ-loop = search in
+    done-step (in-loop .before .loop .inv) (in-loop .loop-test .taken) (bounded .before .lower-bound .ensures)
+    (bounded .lower-bound2 .ensures) (written .write-match .ensures)
 
 same-length : tie.Need-same-length Inv-loop μ-loop
 same-length c = done-long (c .before .loop .inv)
