@@ -26,7 +26,7 @@ first-found-requires c κs = search needs
 
 loop-holds : tie.Need-loop-holds Inv-loop μ-loop
 loop-holds c =
-    let start = c .before .before .before .before in
+    let start : tie.Start Inv-loop μ-loop = search in
     walk-start (start .pre .0) (c .before .before .found-end .ensures) (c .first-found .ensures) (start .pre .1 .1 .1)
 
 found-at-requires : tie.Need-found-at-requires Inv-loop μ-loop
@@ -40,12 +40,12 @@ same-length c = search needs
 
 returns : tie.Need-returns Inv-loop μ-loop
 returns c =
-    let test = c .before in
+    let test : tie.Else1 Inv-loop μ-loop = search in
+    let found-at : tie.After-found-at Inv-loop μ-loop = search in
+    let in-loop : tie.In-loop Inv-loop μ-loop = search in
+    let found : tie.After-first-found Inv-loop μ-loop = search in
+    let start : tie.Start Inv-loop μ-loop = search in
     let spans = test .before .spans in
-    let found-at = test .before .before in
-    let in-loop = found-at .before .before in
-    let found = in-loop .before .before in
-    let start = found .before .before .before .before in
     walk-too-much (start .pre .0) (start .pre .1 .0) (found .first-found .ensures) (in-loop .before .loop .inv)
     (in-loop .loop-test .taken) (found-at .found-at .ensures)
     (sym (spans .ensures) ∙ not-false (spans .result) (test .if1 .left))
@@ -70,14 +70,14 @@ same-length-2 c = search needs
 
 returns-2 : tie.Need-returns-2 Inv-loop μ-loop
 returns-2 c =
-    let called = c .before .before .before .before in
-    let image = called .before .before .carry .ensures in
-    let test = called .before .before .before .before in
+    let called : tie.After-add Inv-loop μ-loop = search in
+    let test : tie.Else1 Inv-loop μ-loop = search in
+    let found-at : tie.After-found-at Inv-loop μ-loop = search in
+    let in-loop : tie.In-loop Inv-loop μ-loop = search in
+    let found : tie.After-first-found Inv-loop μ-loop = search in
+    let start : tie.Start Inv-loop μ-loop = search in
     let spans = test .before .spans in
-    let found-at = test .before .before in
-    let in-loop = found-at .before .before in
-    let found = in-loop .before .before in
-    let start = found .before .before .before .before in
+    let image = called .before .before .carry .ensures in
     let full = rw (c .enum-told .given .1) at (called .add .ensures) in
     walk-too-much (start .pre .0) (start .pre .1 .0) (found .first-found .ensures) (in-loop .before .loop .inv)
     (in-loop .loop-test .taken) (found-at .found-at .ensures)
@@ -95,14 +95,15 @@ loop-less c = search needs
 
 loop-again : tie.Need-loop-again Inv-loop μ-loop
 loop-again c =
-    let called = c .before .before .before .before .before in
-    let image = called .before .before .carry .ensures in
-    let test = called .before .before .before .before in
+    let called : tie.After-add Inv-loop μ-loop = search in
+    let fewer : tie.Else2 Inv-loop μ-loop = search in
+    let test : tie.Else1 Inv-loop μ-loop = search in
+    let found-at : tie.After-found-at Inv-loop μ-loop = search in
+    let in-loop : tie.In-loop Inv-loop μ-loop = search in
+    let found : tie.After-first-found Inv-loop μ-loop = search in
+    let start : tie.Start Inv-loop μ-loop = search in
     let spans = test .before .spans in
-    let found-at = test .before .before in
-    let in-loop = found-at .before .before in
-    let found = in-loop .before .before in
-    let start = found .before .before .before .before in
+    let image = called .before .before .carry .ensures in
     let added = rw (c .before .s .given .1) at (called .add .ensures) in
     walk-step (start .pre .0) (start .pre .1 .0) (found .first-found .ensures) (in-loop .before .loop .inv)
     (in-loop .loop-test .taken) (found-at .found-at .ensures)
@@ -110,7 +111,7 @@ loop-again c =
     (search needs) (
       stored-same (λ y. (λ e. e ∙ image, λ e. e ∙ sym image)) (added .stored),
       refl,
-      omega (arith, in-loop .before .loop .inv .few, called .before .before .before .if2 .left),
+      omega (arith, in-loop .before .loop .inv .few, fewer .if2 .left),
     )
 
 same-length-3 : tie.Need-same-length-3 Inv-loop μ-loop
@@ -118,8 +119,8 @@ same-length-3 c = search needs
 
 returns-3 : tie.Need-returns-3 Inv-loop μ-loop
 returns-3 c =
-    let found = c .before .before in
-    let start = found .before .before .before .before in
+    let found : tie.After-first-found Inv-loop μ-loop = search in
+    let start : tie.Start Inv-loop μ-loop = search in
     walk-over (start .pre .0) (start .pre .1 .0) (found .first-found .ensures) (c .before .loop .inv)
     (c .loop-test .left)
 
@@ -128,11 +129,11 @@ same-length-4 c = search needs
 
 returns-4 : tie.Need-returns-4 Inv-loop μ-loop
 returns-4 c =
+    let found-at : tie.After-found-at Inv-loop μ-loop = search in
+    let in-loop : tie.In-loop Inv-loop μ-loop = search in
+    let found : tie.After-first-found Inv-loop μ-loop = search in
+    let start : tie.Start Inv-loop μ-loop = search in
     let spans = c .before .spans in
-    let found-at = c .before .before in
-    let in-loop = found-at .before .before in
-    let found = in-loop .before .before in
-    let start = found .before .before .before .before in
     walk-break (start .pre .0) (start .pre .1 .0) (found .first-found .ensures) (in-loop .before .loop .inv)
     (in-loop .loop-test .taken) (found-at .found-at .ensures)
     (sym (spans .ensures) ∙ not-true (spans .result) (c .if1 .taken))
