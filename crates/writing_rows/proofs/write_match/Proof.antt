@@ -4,8 +4,8 @@ use Prim.Native.Nat.{_-_}
 use native.Mathlib.Omega.{arith}
 use borrow.Author.Needs.{needs}
 use Rattle.refinement.specs.Match.{matchAB}
-use Rattle.writing_rows.proofs.Placing.{Remaining, remaining-start, remaining-stretch, remaining-room, remaining-step}
-use Rattle.writing_rows.proofs.Placing.{remaining-end}
+use Rattle.writing_rows.proofs.Placing.{Remaining, remaining-start, remaining-stretch, remaining-room}
+use Rattle.writing_rows.proofs.Placing.{remaining-step, remaining-end}
 use Rattle.writing_rows.proofs.write_match.Statement.{statement}
 use Rattle.writing_rows.proofs.write_match.Tie as tie
 

@@ -11,8 +11,9 @@ by-direction-requires c κs = search needs
 
 carry-requires : tie.Need-carry-requires
 carry-requires c κs =
-    let on = c .before .before .pre .0 in
-    (rw (c .by-direction .ensures) (spans-low (c .before .before .args .reversed) on), on .fits)
+    let start : tie.Start = search in
+    let on = start .pre .0 in
+    (rw (c .by-direction .ensures) (spans-low (start .args .reversed) on), on .fits)
 
 mul-table : tie.Need-mul-table
 mul-table c = search needs
