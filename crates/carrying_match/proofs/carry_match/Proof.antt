@@ -76,13 +76,14 @@ returns-2 c =
     let in-loop : tie.In-loop Inv-loop μ-loop = search in
     let found : tie.After-first-found Inv-loop μ-loop = search in
     let start : tie.Start Inv-loop μ-loop = search in
+    let inv = in-loop .before .loop .inv in
     let spans = test .before .spans in
     let image = called .before .before .carry .ensures in
     let full = rw (c .enum-told .given .1) at (called .add .ensures) in
-    walk-too-much (start .pre .0) (start .pre .1 .0) (found .first-found .ensures) (in-loop .before .loop .inv)
+    walk-too-much (start .pre .0) (start .pre .1 .0) (found .first-found .ensures) inv
     (in-loop .loop-test .taken) (found-at .found-at .ensures)
     (sym (spans .ensures) ∙ not-false (spans .result) (test .if1 .left))
-    (too-much-crowded (λ y e. e ∙ image) (in-loop .before .loop .inv .stored .good) (full .0))
+    (too-much-crowded (λ y e. e ∙ image) (inv .stored .good) (full .0))
 
 add-count : tie.Need-add-count Inv-loop μ-loop
 add-count c = search needs
@@ -102,16 +103,17 @@ loop-again c =
     let in-loop : tie.In-loop Inv-loop μ-loop = search in
     let found : tie.After-first-found Inv-loop μ-loop = search in
     let start : tie.Start Inv-loop μ-loop = search in
+    let inv = in-loop .before .loop .inv in
     let spans = test .before .spans in
     let image = called .before .before .carry .ensures in
     let added = rw (c .before .s .given .1) at (called .add .ensures) in
-    walk-step (start .pre .0) (start .pre .1 .0) (found .first-found .ensures) (in-loop .before .loop .inv)
+    walk-step (start .pre .0) (start .pre .1 .0) (found .first-found .ensures) inv
     (in-loop .loop-test .taken) (found-at .found-at .ensures)
     (sym (spans .ensures) ∙ not-false (spans .result) (test .if1 .left))
     (search needs) (
       stored-same (λ y. (λ e. e ∙ image, λ e. e ∙ sym image)) (added .stored),
       refl,
-      omega (arith, in-loop .before .loop .inv .few, fewer .if2 .left),
+      omega (arith, inv .few, fewer .if2 .left),
     )
 
 same-length-3 : tie.Need-same-length-3 Inv-loop μ-loop
