@@ -1,3 +1,2 @@
-pub mod RowsLeast
 pub mod Calls
 pub mod Carried

@@ -1,6 +1,4 @@
 -- What the inner functions of the refining call do.
---     Tabled             finding the cuts and writing the rows
---     MatchesRefined     the whole call on matches
 --     ScriptRefined      the whole call
 --     Roomy              columns with room for the matches of a script
 --     shortScript        the bytes of a script of 64 matches
@@ -10,29 +8,11 @@ use mathlib.Core.Path.{_≡_}
 use mathlib.Core.Bool.{Bool}
 use mathlib.Core.List.{List}
 use lib.ListN.{length}
-use lib.Seq.{sets}
 use Rattle.script.specs.Commands.{lengthsWidth, matchWidth}
 use Rattle.script.specs.Reading.{readScript}
 use Rattle.script.specs.Columns.{matchesRead}
-use Rattle.script.specs.declared.refusal.Refusal.the-variants.{TooManyPieces}
-use Rattle.refining.specs.Rows.{pieceNumbers}
-use Rattle.refining.specs.Refining.{Given, leastOf, capacityOf, refiningOfMatches, refiningOf}
-use Rattle.refining.specs.Demands.{EveryExceeds}
+use Rattle.refining.specs.Refining.{refiningOf}
 use Rattle.refining.specs.declared.answers.Refined.{Refined}
-
--- the cuts found and the rows written: the least table over the table's start, or no room for any resolved refinement
-abbrev pub Tabled : Given → List ℕ → List ℕ → Refined → Type 0
-Tabled g before after (Refined.Rows n) =
-    (n ≡ length (leastOf g))
-    × (length (leastOf g) ≤ capacityOf before)
-    × (after ≡ sets before 0 (pieceNumbers (leastOf g)))
-Tabled g before after (Refined.Refused r) =
-    (r ≡ TooManyPieces) × EveryExceeds g (capacityOf before) × (after ≡ before)
-
--- the whole call on matches
-abbrev pub MatchesRefined : Given → List ℕ → List ℕ → Refined → List ℕ → List ℕ → Type 0
-MatchesRefined g table work reply table′ work′ =
-    record { reply = reply; table = table′; work = work′ } ≡ refiningOfMatches g table work
 
 -- the whole call
 abbrev pub ScriptRefined : List ℕ → List ℕ → List ℕ → Refined → List ℕ → List ℕ → Type 0

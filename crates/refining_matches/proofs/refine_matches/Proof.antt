@@ -2,10 +2,10 @@
 -- Assumes nothing.
 use mathlib.Core.Path.{sym}
 use Rattle.refining.proofs.RefiningCases.{matches-short}
-use Rattle.refine.proofs.Calls.{cleared-refined}
+use Rattle.refining_matches.proofs.Tabling.{cleared-refined}
 use borrow.Author.Needs.{needs}
-use Rattle.refine.proofs.refine_matches.Statement.{statement}
-use Rattle.refine.proofs.refine_matches.Tie as tie
+use Rattle.refining_matches.proofs.refine_matches.Statement.{statement}
+use Rattle.refining_matches.proofs.refine_matches.Tie as tie
 
 mul-if1 : tie.Need-mul-if1
 mul-if1 c = search needs

@@ -1,0 +1,2 @@
+pub mod RowsLeast
+pub mod Tabling

@@ -1,0 +1,81 @@
+-- `cut_and_write` meets its contract: the closure's set holds all cuts of A, and the rows between them are the least
+-- table. Assumes nothing.
+use Rattle.refining_matches.proofs.Tabling.{told-good, crowded-tabled, cuts-writable, rows-tabled}
+use borrow.Author.Needs.{needs}
+use Rattle.refining_matches.proofs.cut_and_write.Statement.{statement}
+use Rattle.refining_matches.proofs.cut_and_write.Tie as tie
+
+close-requires : tie.Need-close-requires
+close-requires c κs = search needs
+
+enum-told : tie.Need-enum-told
+enum-told c = search needs
+
+enum-known-set : tie.Need-enum-known-set
+enum-known-set c = search needs
+
+join-requires : tie.Need-join-requires
+join-requires c κs = search (needs, told-good)
+
+all-places-requires : tie.Need-all-places-requires
+all-places-requires c κs = search needs
+
+-- the start, from the place where the closure has answered
+abbrev start-of : tie.After-close → tie.Start
+start-of closed =
+    let work-known = closed .before .before in
+    let reversed-known = work-known .before .before in
+    let left-b-known = reversed-known .before .before in
+    left-b-known .before .before
+
+write-rows-requires : tie.Need-write-rows-requires
+write-rows-requires c κs =
+    let placed : tie.After-all-places = search in
+    let joined : tie.After-join = search in
+    let held : tie.After-set = search in
+    let closed : tie.After-close = search in
+    let start = start-of closed in
+    let fit = start .pre .0 in (
+      fit,
+      cuts-writable fit (start .args .table .now) (held .set .given .1) (joined .join .ensures)
+          (placed .all-places .ensures) (closed .close .ensures) (start .pre .1 .1),
+    )
+
+same-length : tie.Need-same-length
+same-length c = search needs
+
+returns : tie.Need-returns
+returns c = search (needs, crowded-tabled)
+
+same-length-2 : tie.Need-same-length-2
+same-length-2 c = search needs
+
+same-length-3 : tie.Need-same-length-3
+same-length-3 c = search needs
+
+returns-2 : tie.Need-returns-2
+returns-2 c =
+    let written : tie.After-write-rows = search in
+    let placed : tie.After-all-places = search in
+    let joined : tie.After-join = search in
+    let held : tie.After-set = search in
+    let closed : tie.After-close = search in
+    let start = start-of closed in
+    rows-tabled (start .pre .0) (start .args .table .now) (held .set .given .1) (joined .join .ensures)
+    (placed .all-places .ensures) (closed .close .ensures) (written .write-rows .ensures)
+
+pub cut-and-write-spec : {M : Type 1} → statement M
+cut-and-write-spec =
+    tie.close
+    (tie.spec
+    close-requires
+    enum-told
+    enum-known-set
+    join-requires
+    all-places-requires
+    write-rows-requires
+    same-length
+    returns
+    same-length-2
+    same-length-3
+    returns-2)
