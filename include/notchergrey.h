@@ -15,8 +15,8 @@
  * - `place` becomes the offset in the script of the command that is refused, the script's length if bytes ran out where
  *   a command was due, the first extra byte for NOTCHERGREY_TAIL, and 0 for the refusals from 11 on.
  * - A thread with a stack of 512 kB may call any of them, and one with 256 kB any but notchergrey_report. Measured on
- *   x86-64, whatever the input: notchergrey_report takes at most 245 kB, notchergrey_summary 133 kB, notchergrey_refine
- *   81 kB, the others next to nothing. With less the program ends with a segmentation fault: each page of the stack is
+ *   x86-64, whatever the input: notchergrey_report takes at most 275 kB, notchergrey_summary 170 kB, notchergrey_refine
+ *   82 kB, the others next to nothing. With less the program ends with a segmentation fault: each page of the stack is
  *   touched in turn, so that the page that guards its end is met and nothing behind it is overwritten.
  *
  * A script is bytes; its numbers have four bytes, least byte first:
