@@ -1,7 +1,7 @@
 // The count of distinct pieces. Rows are dealt into shares, by a number that depends on the piece alone, and each pass
 // over the table counts one share with the help of a store in a local array. The factors that rows are dealt by are
 // drawn from all rows, so that no rows can be made for them. Should rows be dealt badly all the same, a count gives up
-// after so many probes; it is tried once more with other factors, and at last done by sorting.
+// after so many probes; a long table is tried once more with other factors, and at last the pieces are sorted.
 use distinct_store::Counting;
 use distinct_store::Dealing;
 use piece_windows::count_in_windows;
@@ -9,7 +9,7 @@ use rows::Row;
 use rows::row_at;
 use rows::row_count;
 ghost use mathlib.Core.Path.{_≡_};
-ghost use Prim.Native.Nat.{_<_, _≤_, _^_};
+ghost use Prim.Native.Nat.{_<_, _^_};
 ghost use lib.ListN.{length};
 ghost use Rattle.rows.specs.Rows.{rowsOf};
 ghost use Rattle.table.specs.Distinct.{firstOfEach};

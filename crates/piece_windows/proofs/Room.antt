@@ -8,7 +8,6 @@ use mathlib.Core.Path.{_≡_, refl}
 use mathlib.Core.List.{List}
 use native.Mathlib.Omega.{arith}
 use native.Mathlib.Decide.{decLt, ℕ-discrete}
-use borrow.Author.Tests.{eq-eqb}
 use lib.ListN.{length}
 use Rattle.table.specs.Distinct.{same}
 use Rattle.sorted_pieces.specs.Order.{before, pieceAt, Among, Sorted}
@@ -16,7 +15,7 @@ use Rattle.piece_windows.specs.Windows.{inSpan, Gathered, Roomier}
 use Rattle.rows.specs.declared.Row.{Row}
 use Rattle.piece_windows.specs.declared.Span.{Span}
 use Rattle.table.proofs.Pieces.{same-sym}
-use Rattle.sorted_pieces.proofs.Order.{before-same, same-before, before-trans}
+use Rattle.sorted_pieces.proofs.Order.{same-itself, before-same, same-before, before-trans}
 use Rattle.sorted_pieces.proofs.Order.{before-not-same, before-not-after}
 use Rattle.piece_windows.proofs.Spans.{span-start, span-end, span-is}
 
@@ -24,17 +23,7 @@ abbrev cut : Span → Row → Span
 cut span to = record { from = span .from; to = to; closed = true }
 
 among-at : (rs : List Row) (ns : List ℕ) (c i : ℕ) → i < c → Among rs ns c (pieceAt rs ns i)
-among-at rs ns c i below =
-    let r = pieceAt rs ns i in
-    record {
-      place = i;
-      below = below;
-      it = rw (
-        eq-eqb (r .«left_a») (r .«left_a») refl,
-        eq-eqb (r .«left_b») (r .«left_b») refl,
-        eq-eqb (r .length) (r .length) refl,
-      );
-    }
+among-at rs ns c i below = record { place = i; below = below; it = same-itself (pieceAt rs ns i) }
 
 module _ {rs : List Row} {ns ns′ : List ℕ} {kept : ℕ} (s : Sorted rs ns ns′ kept) (span : Span)
     (same-room : length ns′ ≡ length ns) where

@@ -8,7 +8,6 @@ use sorted_pieces::Standing;
 use sorted_pieces::compare;
 use sorted_pieces::sort;
 ghost use mathlib.Core.Path.{_≡_};
-ghost use Prim.Native.Nat.{_≤_, _<_};
 ghost use lib.ListN.{length};
 ghost use Rattle.rows.specs.Rows.{rowsOf};
 ghost use Rattle.table.specs.Distinct.{firstOfEach};
