@@ -110,8 +110,8 @@ uint32_t notchergrey_rows_of(const uint32_t *table, size_t table_len, uint32_t n
  * Sums a table up: its pieces, the distinct ones among them (by left-A, left-B and length), the sum of their lengths
  * modulo 2^64, and in classes[c] the pieces whose length is at least 2^c and below 2^(c+1). `classes` must point to
  * thirty numbers; all are set. Always returns 0. Hand over the finished rows alone, as for notchergrey_rows_of. It
- * took 0.005 s for 100,000 rows and 0.3 s for 1,000,000 where it was measured, and two to three times as long for rows
- * made to be slow; from some 100,000 rows on its time grows with their square.
+ * took 0.003 s for 100,000 rows and 0.13 s for 1,000,000 where it was measured, whatever the rows were; from some
+ * 100,000 rows on its time grows with their square.
  */
 uint32_t notchergrey_summary(const uint32_t *table, size_t table_len, size_t *pieces, size_t *distinct,
                              uint64_t *letters, size_t classes[NOTCHERGREY_CLASSES]);
