@@ -1,5 +1,4 @@
 -- Pieces counted window by window.
---     taken-length, taken-named         the numbers of a window, as a part of all
 --     sorted-counts, sorted-spanned     sorted, they are as many as its pieces
 --     Sized numbers spare               the lengths of the two arrays
 --     Passed rs from found              the pieces before `from` are counted
@@ -14,7 +13,7 @@ use mathlib.Core.Path.{_≡_, refl, sym, ap, _∙_}
 use mathlib.Core.List.{List, []}
 use native.Mathlib.Omega.{arith}
 use lib.ListN.{length, take}
-use lib.Seq.{length-take-le, getD-take, take-all}
+use lib.Seq.{take-length}
 use Rattle.table.specs.Distinct.{firstOfEach}
 use Rattle.table.specs.Summing.{count}
 use Rattle.sorted_pieces.specs.Order.{before, pieceAt, Numbers, Among, Sorted}
@@ -25,55 +24,26 @@ use Rattle.piece_windows.specs.declared.Window.{Window}
 use Rattle.table.proofs.Counting.{count-inside, count-agrees, count-every, count-no-one, count-joined}
 use Rattle.table.proofs.Pieces.{firsts-inside}
 use Rattle.sorted_pieces.proofs.Order.{same-itself, nothing-before}
+use Rattle.piece_windows.proofs.Parts.{among-taken, taken-among, taken-length}
 use Rattle.piece_windows.proofs.Rising.{rising-count}
+use Rattle.piece_windows.proofs.Room.{sorted-some}
 use Rattle.piece_windows.proofs.Joined.{span-open, span-closed}
 
 -- ---- one window
 
-module _ (rs : List Row) (ns : List ℕ) (used : ℕ) (within : used ≤ length ns) where
-  among-taken : (r : Row) → Among rs ns used r → Among rs (take used ns) (length (take used ns)) r
-  among-taken r a =
-      record {
-        place = a .place;
-        below = omega (arith, a .below, length-take-le used ns within);
-        it = rw (getD-take used ns (a .place) 0 (a .below)) (a .it);
-      }
-
-  taken-among : (r : Row) → Among rs (take used ns) (length (take used ns)) r → Among rs ns used r
-  taken-among r a =
-      let below : a .place < used = omega (arith, a .below, length-take-le used ns within) in
-      record { place = a .place; below = below; it = rw (getD-take used ns (a .place) 0 below) at (a .it) }
-
 module _ {rs : List Row} {ns : List ℕ} {used : ℕ} {span : Span} (g : Gathered rs (length rs) ns used span) where
-  pub taken-length : length (take used ns) ≡ used
-  taken-length = length-take-le used ns (g .within)
-
-  pub taken-named : Numbers rs (take used ns)
-  taken-named =
-      record {
-        inside = λ i l.
-            let below : i < used = omega (arith, l, taken-length) in
-            rw (getD-take used ns i 0 below) (g .named i below);
-      }
-
   module _ {ns′ : List ℕ} {c : ℕ} (s : Sorted rs (take used ns) ns′ c) where
     pub sorted-counts : c ≡ count (inSpan span) (firstOfEach rs)
     sorted-counts =
         rising-count rs ns′ c (inSpan span) (s .named) (s .rising)
         (λ r a. g .inside r (taken-among rs ns used (g .within) r (s .of-them r a)))
         (λ r e o.
-        let gathered = g .complete r e (rw (take-all (length rs) rs (omega arith)) o) in
+        let gathered = g .complete r e (rw (take-length rs) o) in
         s .all r (among-taken rs ns used (g .within) r gathered))
-
-    sorted-some : 0 < used → 0 < c
-    sorted-some some =
-        let first = pieceAt rs ns 0 in
-        let a : Among rs ns used first = record { place = 0; below = some; it = same-itself first } in
-        omega (arith, s .all first (among-taken rs ns used (g .within) first a) .below)
 
     pub sorted-spanned : Spanned c span
     sorted-spanned =
-        record { some = λ e. sorted-some (g .spanned .some e); forward = g .spanned .forward }
+        record { some = λ e. sorted-some s (omega (arith, taken-length g, g .spanned .some e)); forward = g .spanned .forward }
 
 -- ---- windows on each other
 

@@ -3,7 +3,8 @@
 --     Rooms numbers spare         room for two numbers at least, and as much to sort them
 --     Gathered rs k ns w          the first numbers of ns, as many as w says, name rows of the pieces of w's span, all
 --                                 that occur among the first k rows of rs
---     Roomier rs ns span ns′ w    what was gathered is gathered still, for a span that may be shorter, and there is room
+--     Roomier rs ns span at ns′ w what was gathered is gathered still, for a span that may be shorter, `at` numbers at most
+--     Passing rs from step ns w   pieces of w's span, which starts at `from`, are gathered: all if each row was looked at
 --     Filled rs from ns w         all pieces of w's span, which starts at `from`, are gathered
 --     Counted rs from w           so many pieces are in w's span, which starts at `from`
 -- Assumes nothing.
@@ -38,10 +39,15 @@ pub record Gathered (rs : List Row) (k : ℕ) (ns : List ℕ) (used : ℕ) (span
   pub complete : (r : Row) → inSpan span r ≡ true → occurs r (take k rs) ≡ true → Among rs ns used r
   pub spanned : Spanned used span
 
-pub record Roomier (rs : List Row) (ns : List ℕ) (span : Span) (ns′ : List ℕ) (w : Window) : Type 0 where
+pub record Roomier (rs : List Row) (ns : List ℕ) (span : Span) (at : ℕ) (ns′ : List ℕ) (w : Window) : Type 0 where
   pub start : w .span .from ≡ span .from
-  pub fewer : w .used < length ns
+  pub fewer : w .used ≤ at
   pub gathered : (k : ℕ) → Gathered rs k ns (length ns) span → Gathered rs k ns′ (w .used) (w .span)
+
+pub record Passing (rs : List Row) (from : Row) (step : ℕ) (ns : List ℕ) (w : Window) : Type 0 where
+  pub start : w .span .from ≡ from
+  pub gathered : Gathered rs 0 ns (w .used) (w .span)
+  pub all : step ≡ 1 → Gathered rs (length rs) ns (w .used) (w .span)
 
 pub record Filled (rs : List Row) (from : Row) (ns : List ℕ) (w : Window) : Type 0 where
   pub start : w .span .from ≡ from

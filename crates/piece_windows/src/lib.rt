@@ -1,21 +1,29 @@
 // The count of distinct pieces in windows, whatever the rows: each pass over the table gathers the numbers of the rows
-// whose pieces lie in a span of the order of pieces, sorts them and counts each piece once. Where the span holds more
-// than there is room for, it is cut short, and the rest is for a later pass.
+// whose pieces lie in a span of the order of pieces, sorts them and counts each piece once. A sample of the rows tells
+// beforehand where the span may end. Where it holds more than there is room for all the same, it is cut short. The rest
+// is for a later pass.
 use rows::Row;
 use rows::row_at;
 use rows::row_count;
 use sorted_pieces::Standing;
 use sorted_pieces::compare;
 use sorted_pieces::sort;
+ghost use Prim.Native.Nat.{_+_, _≤_, _<_};
 ghost use mathlib.Core.Path.{_≡_};
 ghost use lib.ListN.{length};
 ghost use Rattle.rows.specs.Rows.{rowsOf};
 ghost use Rattle.table.specs.Distinct.{firstOfEach};
 ghost use Rattle.sorted_pieces.specs.Order.{before, Numbers};
-ghost use Rattle.piece_windows.specs.Windows.{inSpan, Rooms, Roomier, Filled, Counted};
+ghost use Rattle.piece_windows.specs.Windows.{inSpan, Rooms, Gathered, Roomier, Passing, Filled, Counted};
 
 // The numbers that a window has room for.
 const ROOM: usize = 8192;
+
+// The rows that a sample has at most.
+const SAMPLES: usize = 4096;
+
+// The numbers that a window is to gather, with those of its sample.
+const EXPECTED: usize = 6144;
 
 // The pieces from `from` on, and if it is closed only those before `to`.
 pub struct Span {
@@ -52,18 +60,23 @@ fn is_in_span(row: Row, span: Span) -> bool
     true
 }
 
-// Sorts a full window, and where more than half of it is left, cuts its span in the middle.
-fn make_room(table: &[u32], numbers: &mut [usize], spare: &mut [usize], span: Span) -> Window
-    requires { ⌜ Rooms (now numbers) (now spare) ⌝ }
+// Sorts what is gathered, and where more than `at` pieces are left, cuts the span at the next.
+fn make_room(
+    table: &[u32],
+    numbers: &mut [usize],
+    spare: &mut [usize],
+    span: Span,
+    at: usize,
+) -> Window
     requires { ⌜ Numbers (rowsOf (now table)) (now numbers) ⌝ }
-    ensures { λ r. ⌜ Roomier (rowsOf (now (table .entry))) (now (numbers .entry)) span (now (numbers .exit)) r ⌝ }
+    requires { ⌜ (length (now numbers) ≤ length (now spare)) × (0 < at) ⌝ }
+    ensures { λ r. ⌜ Roomier (rowsOf (now (table .entry))) (now (numbers .entry)) span at (now (numbers .exit)) r ⌝ }
 {
     let kept = sort(table, numbers, spare);
-    let half = numbers.len() / 2;
-    if kept <= half {
+    if kept <= at {
         return Window { used: kept, span };
     }
-    let to = row_at(table, numbers[half]);
+    let to = row_at(table, numbers[at]);
     let from = span.from;
     let shorter = Span {
         from,
@@ -71,39 +84,67 @@ fn make_room(table: &[u32], numbers: &mut [usize], spare: &mut [usize], span: Sp
         closed: true,
     };
     Window {
-        used: half,
+        used: at,
         span: shorter,
     }
 }
 
-// Gathers the rows of the pieces from `from` on, as many pieces as there is room for.
-fn fill(table: &[u32], numbers: &mut [usize], spare: &mut [usize], from: Row) -> Window
+// Gathers every step-th row of the window's span, beside those that are gathered; a full window is cut in the middle.
+fn gather(
+    table: &[u32],
+    numbers: &mut [usize],
+    spare: &mut [usize],
+    window: Window,
+    step: usize,
+) -> Window
     requires { ⌜ Rooms (now numbers) (now spare) ⌝ }
-    ensures { λ r. ⌜ Filled (rowsOf (now (table .entry))) from (now (numbers .exit)) r ⌝ }
+    requires { ⌜ Gathered (rowsOf (now table)) 0 (now numbers) (window .used) (window .span) ⌝ }
+    requires { ⌜ (0 < step) × (step ≤ length (rowsOf (now table)) + 1) ⌝ }
+    ensures { λ r. ⌜ Passing (rowsOf (now (table .entry))) (window .span .from) step (now (numbers .exit)) r ⌝ }
 {
     let rows = row_count(table);
-    let mut used: usize = 0;
-    let mut span = Span {
-        from,
-        to: from,
-        closed: false,
-    };
+    let mut used = window.used;
+    let mut span = window.span;
     let mut k: usize = 0;
     while k < rows {
         if used == numbers.len() {
-            let window = make_room(table, numbers, spare, span);
-            used = window.used;
-            span = window.span;
+            let shorter = make_room(table, numbers, spare, span, used / 2);
+            used = shorter.used;
+            span = shorter.span;
             continue;
         }
         let at = k;
-        k += 1;
+        k += step;
         if is_in_span(row_at(table, at), span) {
             numbers[used] = at;
             used += 1;
         }
     }
     Window { used, span }
+}
+
+// Gathers the rows of the pieces from `from` on, as many pieces as there is room for. Where there may be more rows than
+// that, a sample of them is gathered and cut first.
+fn fill(table: &[u32], numbers: &mut [usize], spare: &mut [usize], from: Row) -> Window
+    requires { ⌜ Rooms (now numbers) (now spare) ⌝ }
+    ensures { λ r. ⌜ Filled (rowsOf (now (table .entry))) from (now (numbers .exit)) r ⌝ }
+{
+    let rows = row_count(table);
+    let span = Span {
+        from,
+        to: from,
+        closed: false,
+    };
+    let open = Window { used: 0, span };
+    if rows <= numbers.len() {
+        return gather(table, numbers, spare, open, 1);
+    }
+    let step = rows / SAMPLES + 1;
+    let sample = gather(table, numbers, spare, open, step);
+    let used = sample.used;
+    let at = EXPECTED / (step + 1) + 1;
+    let cut = make_room(table, &mut numbers[..used], spare, sample.span, at);
+    gather(table, numbers, spare, cut, 1)
 }
 
 // Counts the pieces of one window; says which span it was.

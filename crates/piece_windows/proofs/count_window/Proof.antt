@@ -2,7 +2,8 @@
 use mathlib.Core.Path.{sym}
 use native.Mathlib.Omega.{arith}
 use borrow.Author.Needs.{needs}
-use Rattle.piece_windows.proofs.Windows.{taken-length, taken-named, sorted-counts, sorted-spanned}
+use Rattle.piece_windows.proofs.Parts.{taken-length, taken-named}
+use Rattle.piece_windows.proofs.Windows.{sorted-counts, sorted-spanned}
 use Rattle.piece_windows.proofs.count_window.Statement.{statement}
 use Rattle.piece_windows.proofs.count_window.Tie as tie
 

@@ -1,119 +1,107 @@
--- `fill` meets its contract. The loop keeps `Filling`: the pieces of the span among the first k rows are gathered. The
--- measure is twice how many rows are left, and one more for each number: a full window loses some, a row adds one.
--- Assumes nothing.
-use Prim.Native.Nat.{_+_, _*_, _-_}
+-- `fill` meets its contract. Whatever a sample gathers is gathered by rights, and so is what is left of it once the span
+-- is cut; the last pass looks at every row, so that nothing of the span is missing. Assumes nothing.
 use mathlib.Core.Path.{refl, sym, _∙_}
 use native.Mathlib.Omega.{arith}
+use lib.Seq.{length-front}
 use borrow.Author.Needs.{needs}
-use Rattle.rows.specs.Rows.{rowsOf}
-use Rattle.piece_windows.proofs.Gathering.{Filling, filling-starts, filling-other, filling-one}
-use Rattle.piece_windows.proofs.Gathering.{filling-rooms, filling-numbers, filling-roomier, filling-all}
+use Rattle.piece_windows.proofs.Gathering.{gathered-starts, rooms-kept}
+use Rattle.piece_windows.proofs.Parts.{taken-length, taken-named, gathered-taken, gathered-front}
+use Rattle.piece_windows.proofs.Parts.{quotient-fits}
 use Rattle.piece_windows.proofs.fill.Statement.{statement}
 use Rattle.piece_windows.proofs.fill.Tie as tie
 
-abbrev Inv-loop : tie.InvT-loop
-Inv-loop table numbers₀ spare₀ rows used₀ span₀ k₀ numbers spare used span k =
-    Filling (rowsOf table) (span₀ .from) numbers₀ spare₀ numbers spare used span k
-
-abbrev μ-loop : tie.MeasureT-loop
-μ-loop table numbers₀ spare₀ rows used₀ span₀ k₀ numbers spare used span k = 2 * (rows - k) + used
-
-row-count-requires : tie.Need-row-count-requires Inv-loop μ-loop
+row-count-requires : tie.Need-row-count-requires
 row-count-requires c κs = search needs
 
-loop-holds : tie.Need-loop-holds Inv-loop μ-loop
-loop-holds c =
-    let start : tie.Start Inv-loop μ-loop = search in
-    let at = start .args in
-    filling-starts (rowsOf (at .table .now)) (at .numbers .now) (at .spare .now) _ refl
+gather-requires : tie.Need-gather-requires
+gather-requires c κs =
+    let start : tie.Start = search in
+    (start .pre, (gathered-starts _ _ _ refl, (omega arith, omega arith)))
 
-make-room-requires : tie.Need-make-room-requires Inv-loop μ-loop
-make-room-requires c κs =
-    let start : tie.Start Inv-loop μ-loop = search in
-    let now : tie.At-loop Inv-loop μ-loop = search in
-    (filling-rooms (now .loop .inv) (start .pre), filling-numbers (now .loop .inv) (omega arith))
-
-loop-less : tie.Need-loop-less Inv-loop μ-loop
-loop-less c = search needs
-
-loop-again : tie.Need-loop-again Inv-loop μ-loop
-loop-again c =
-    let now : tie.At-loop Inv-loop μ-loop = search in
-    let called : tie.After-make-room Inv-loop μ-loop = search in
-    filling-roomier (now .loop .inv) (omega arith) (called .make-room .ensures) (search needs) (search needs)
-
-add-k : tie.Need-add-k Inv-loop μ-loop
-add-k c = search needs
-
-row-at-requires : tie.Need-row-at-requires Inv-loop μ-loop
-row-at-requires c κs = search needs
-
-is-in-span-requires : tie.Need-is-in-span-requires Inv-loop μ-loop
-is-in-span-requires c κs = search needs
-
-mul-numbers : tie.Need-mul-numbers Inv-loop μ-loop
-mul-numbers c = search needs
-
-slice-write-numbers : tie.Need-slice-write-numbers Inv-loop μ-loop
-slice-write-numbers c = search needs
-
-add-used : tie.Need-add-used Inv-loop μ-loop
-add-used c = search needs
-
-loop-less-2 : tie.Need-loop-less-2 Inv-loop μ-loop
-loop-less-2 c = search needs
-
-loop-again-2 : tie.Need-loop-again-2 Inv-loop μ-loop
-loop-again-2 c =
-    let now : tie.At-loop Inv-loop μ-loop = search in
-    let read : tie.After-row-at Inv-loop μ-loop = search in
-    let asked : tie.After-is-in-span Inv-loop μ-loop = search in
-    let it = rw (read .row-at .ensures) at (sym (asked .is-in-span .ensures) ∙ c .if2 .taken) in
-    filling-one (now .loop .inv) (omega arith) (omega (arith, now .loop .inv .gathered .within)) it
-
-loop-less-3 : tie.Need-loop-less-3 Inv-loop μ-loop
-loop-less-3 c = search needs
-
-loop-again-3 : tie.Need-loop-again-3 Inv-loop μ-loop
-loop-again-3 c =
-    let now : tie.At-loop Inv-loop μ-loop = search in
-    let read : tie.After-row-at Inv-loop μ-loop = search in
-    let asked : tie.After-is-in-span Inv-loop μ-loop = search in
-    let other = rw (read .row-at .ensures) at (sym (asked .is-in-span .ensures) ∙ c .if2 .left) in
-    filling-other (now .loop .inv) (omega arith) other
-
-same-length : tie.Need-same-length Inv-loop μ-loop
+same-length : tie.Need-same-length
 same-length c = search needs
 
-same-length-2 : tie.Need-same-length-2 Inv-loop μ-loop
+same-length-2 : tie.Need-same-length-2
 same-length-2 c = search needs
 
-returns : tie.Need-returns Inv-loop μ-loop
+returns : tie.Need-returns
 returns c =
-    let now : tie.At-loop Inv-loop μ-loop = search in
-    filling-all (now .loop .inv) (omega arith)
+    let passed : tie.After-gather = search in
+    record { start = passed .gather .ensures .start; gathered = passed .gather .ensures .all refl }
+
+add-step : tie.Need-add-step
+add-step c = search needs
+
+gather-requires-2 : tie.Need-gather-requires-2
+gather-requires-2 c κs =
+    let start : tie.Start = search in
+    (start .pre, (gathered-starts _ _ _ refl, (omega arith, omega arith)))
+
+add-at : tie.Need-add-at
+add-at c = search needs
+
+div-at : tie.Need-div-at
+div-at c = search needs
+
+add-at-2 : tie.Need-add-at-2
+add-at-2 c = record { fits = quotient-fits _ _ (omega arith) }
+
+slice-relend-prefix-make-room : tie.Need-slice-relend-prefix-make-room
+slice-relend-prefix-make-room c = search needs
+
+slice-aggregate-make-room : tie.Need-slice-aggregate-make-room
+slice-aggregate-make-room c =
+    let sampled : tie.After-gather2 = search in
+    sym (taken-length (sampled .gather2 .ensures .gathered))
+
+make-room-requires : tie.Need-make-room-requires
+make-room-requires c κs =
+    let sampled : tie.After-gather2 = search in
+    let gathered = sampled .gather2 .ensures .gathered in
+    (taken-named gathered, (omega (arith, taken-length gathered), omega arith))
+
+gather-requires-3 : tie.Need-gather-requires-3
+gather-requires-3 c κs =
+    let sampled : tie.After-gather2 = search in
+    let cut : tie.After-make-room = search in
+    let part = cut .make-room .ensures .gathered 0 (gathered-taken (sampled .gather2 .ensures .gathered)) in
+    let start : tie.Start = search in
+    let whole = sampled .gather2 .last .1 .0 in
+    let front = length-front whole (cut .make-room .last .1 .0) (sampled .gather2 .result .used) (cut .make-room .kept .1 .0) in
+    (rooms-kept (start .pre) (front ∙ sampled .gather2 .kept .1 .0) (search needs), (gathered-front part _, (omega arith, omega arith)))
+
+same-length-3 : tie.Need-same-length-3
+same-length-3 c = search needs
+
+same-length-4 : tie.Need-same-length-4
+same-length-4 c = search needs
+
+returns-2 : tie.Need-returns-2
+returns-2 c =
+    let sampled : tie.After-gather2 = search in
+    let cut : tie.After-make-room = search in
+    let passed : tie.After-gather3 = search in
+    let from = passed .gather3 .ensures .start ∙ cut .make-room .ensures .start ∙ sampled .gather2 .ensures .start in
+    record { start = from; gathered = passed .gather3 .ensures .all refl }
 
 pub fill-spec : {M : Type 1} → statement M
 fill-spec =
     tie.close
     (tie.spec
-    Inv-loop
-    μ-loop
     row-count-requires
-    loop-holds
-    make-room-requires
-    loop-less
-    loop-again
-    add-k
-    row-at-requires
-    is-in-span-requires
-    mul-numbers
-    slice-write-numbers
-    add-used
-    loop-less-2
-    loop-again-2
-    loop-less-3
-    loop-again-3
+    gather-requires
     same-length
     same-length-2
-    returns)
+    returns
+    add-step
+    gather-requires-2
+    add-at
+    div-at
+    add-at-2
+    slice-relend-prefix-make-room
+    slice-aggregate-make-room
+    make-room-requires
+    gather-requires-3
+    same-length-3
+    same-length-4
+    returns-2)

@@ -1,5 +1,5 @@
--- `make_room` meets its contract: the window is sorted, and where more than half of it is left, its span is cut at the
--- piece in the middle. Assumes nothing.
+-- `make_room` meets its contract: what is gathered is sorted, and where more pieces than asked for are left, the span is
+-- cut at the next. Assumes nothing.
 use native.Mathlib.Omega.{arith}
 use borrow.Author.Needs.{needs}
 use Rattle.piece_windows.proofs.Room.{room-enough, room-cut}
@@ -19,8 +19,7 @@ returns : tie.Need-returns
 returns c =
     let start : tie.Start = search in
     let called : tie.After-sort = search in
-    room-enough (called .sort .ensures) (start .args .span) (search needs) (omega (arith, start .pre .0 .some))
-    (omega (arith, start .pre .0 .some))
+    room-enough (called .sort .ensures) (start .args .span) (search needs) (omega arith)
 
 mul-row-at : tie.Need-mul-row-at
 mul-row-at c = search needs
@@ -44,7 +43,7 @@ returns-2 c =
     let start : tie.Start = search in
     let called : tie.After-sort = search in
     room-cut (called .sort .ensures) (start .args .span) (search needs) (omega arith)
-    (omega (arith, start .pre .0 .some)) (c .before .row-at .ensures)
+    (start .pre .1 .1) (c .before .row-at .ensures)
 
 pub make-room-spec : {M : Type 1} → statement M
 make-room-spec =
