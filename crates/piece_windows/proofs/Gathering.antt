@@ -1,7 +1,6 @@
 -- What a pass over the rows keeps, that gathers the numbers of the rows of a span, or of every step-th of them.
---     rooms-kept                         room stays, whatever is written
 --     gathered-starts                    before any pass
---     Filling                            between two rows: rows of the span gathered, and if the step is one, all so far
+--     Filling                            between two rows: rows of the span are gathered, if the step is one all so far
 --     filling-starts                     before the first row
 --     filling-other, filling-one         after a row outside the span, and after one of it
 --     filling-rooms, filling-numbers     what making room asks for
@@ -20,18 +19,14 @@ use lib.Seq.{getD-set-same, getD-set-other, take-all, take-length}
 use Rattle.rows.specs.Rows.{rowAt}
 use Rattle.table.specs.Distinct.{same, occurs}
 use Rattle.sorted_pieces.specs.Order.{pieceAt, Numbers, Among}
-use Rattle.piece_windows.specs.Windows.{inSpan, Rooms, Gathered, Roomier, Passing}
+use Rattle.piece_windows.specs.Windows.{inSpan, Rooms, Gathered, Roomier, Stepped}
 use Rattle.rows.specs.declared.Row.{Row}
 use Rattle.piece_windows.specs.declared.Span.{Span}
 use Rattle.piece_windows.specs.declared.Window.{Window}
 use Rattle.table.proofs.Pieces.{never-both, same-trans, occurs-passed}
 use Rattle.sorted_pieces.proofs.Order.{same-itself}
+use Rattle.piece_windows.proofs.Parts.{rooms-kept}
 use Rattle.piece_windows.proofs.Spans.{in-span-same}
-
-pub rooms-kept : {ns₀ spare₀ ns spare : List ℕ} → Rooms ns₀ spare₀ → length ns ≡ length ns₀
-    → length spare ≡ length spare₀ → Rooms ns spare
-rooms-kept rooms one other =
-    record { some = omega (arith, rooms .some); room = omega (arith, rooms .room) }
 
 -- ---- what is gathered, row by row
 
@@ -67,7 +62,8 @@ gathered-next {rs} {k} {ns} {used} {span} g inside there =
   where
     among-same : Among rs ns used (rowAt rs k) → (r : Row) → same (rowAt rs k) r ≡ true → Among rs ns used r
     among-same a r one =
-        record { place = a .place; below = a .below; it = same-trans (pieceAt rs ns (a .place)) (rowAt rs k) r (a .it) one }
+        let it = same-trans (pieceAt rs ns (a .place)) (rowAt rs k) r (a .it) one in
+        record { place = a .place; below = a .below; it = it }
 
 module _ {rs : List Row} {j : ℕ} {ns : List ℕ} {used : ℕ} {span : Span} (g : Gathered rs j ns used span) (k : ℕ)
     (inside : k < length rs) (room : used < length ns) where
@@ -128,7 +124,7 @@ filling-starts step spare g =
 
 module _ {rs : List Row} {from : Row} {step : ℕ} {ns₀ spare₀ ns spare : List ℕ} {used : ℕ} {span : Span} {k : ℕ}
     (f : Filling rs from step ns₀ spare₀ ns spare used span k) where
-  pub filling-all : length rs ≤ k → Passing rs from step ns (record { used = used; span = span })
+  pub filling-all : length rs ≤ k → Stepped rs from step ns (record { used = used; span = span })
   filling-all ended =
       record {
         start = f .start;

@@ -1,20 +1,24 @@
 -- The numbers that are gathered, as a part of all there is room for.
---     taken-length, taken-named       they are so many, and each names a row
---     among-taken, taken-among        a row is among the part where it is among all up to there
---     gathered-taken                  what is gathered is gathered in the part
---     gathered-front                  and what is gathered in the part is gathered in the whole, whatever is behind it
+--     rooms-kept                    room stays, whatever is written
+--     among-taken, taken-among      a row is in the part where it is in the whole up to there
+--     taken-length, taken-named     the part has so many numbers, and each names a row
+--     cut-front, cut-rooms          once the part's span is cut, what is left stands at the front of the whole
 -- Assumes nothing.
-use Prim.Native.Nat.{ℕ, _+_, _/_, _^_, _≤_, _<_}
-use mathlib.Core.Path.{_≡_}
+use Prim.Native.Nat.{ℕ, _≤_, _<_}
+use mathlib.Core.Path.{_≡_, _∙_}
 use mathlib.Core.List.{List, _++_}
-use native.Mathlib.Nat.{div-le-self}
 use native.Mathlib.Omega.{arith}
-use lib.ListN.{length, getD, take, length-append, List·getD-append}
-use lib.Seq.{length-take-le, getD-take}
+use lib.ListN.{length, getD, take, drop, length-append, List·getD-append}
+use lib.Seq.{length-take-le, length-front, getD-take}
 use Rattle.sorted_pieces.specs.Order.{Numbers, Among}
-use Rattle.piece_windows.specs.Windows.{Gathered}
+use Rattle.piece_windows.specs.Windows.{Rooms, Gathered, Roomier}
 use Rattle.rows.specs.declared.Row.{Row}
 use Rattle.piece_windows.specs.declared.Span.{Span}
+use Rattle.piece_windows.specs.declared.Window.{Window}
+
+pub rooms-kept : {ns₀ spare₀ ns spare : List ℕ} → Rooms ns₀ spare₀ → length ns ≡ length ns₀
+    → length spare ≡ length spare₀ → Rooms ns spare
+rooms-kept rooms one other = record { some = omega (arith, rooms .some); room = omega (arith, rooms .room) }
 
 module _ (rs : List Row) (ns : List ℕ) (used : ℕ) (within : used ≤ length ns) where
   pub among-taken : (r : Row) → Among rs ns used r → Among rs (take used ns) (length (take used ns)) r
@@ -42,7 +46,7 @@ module _ {rs : List Row} {k : ℕ} {ns : List ℕ} {used : ℕ} {span : Span} (g
             rw (getD-take used ns i 0 below) (g .named i below);
       }
 
-  pub gathered-taken : Gathered rs k (take used ns) (length (take used ns)) span
+  gathered-taken : Gathered rs k (take used ns) (length (take used ns)) span
   gathered-taken =
       record {
         within = omega arith;
@@ -55,7 +59,7 @@ module _ {rs : List Row} {k : ℕ} {ns : List ℕ} {used : ℕ} {span : Span} (g
         };
       }
 
-  pub gathered-front : (rest : List ℕ) → Gathered rs k (ns ++ rest) used span
+  gathered-front : (rest : List ℕ) → Gathered rs k (ns ++ rest) used span
   gathered-front rest =
       record {
         within = omega (arith, length-append ns rest, g .within);
@@ -72,5 +76,12 @@ module _ {rs : List Row} {k : ℕ} {ns : List ℕ} {used : ℕ} {span : Span} (g
       kept : (i : ℕ) → i < used → getD (ns ++ rest) i 0 ≡ getD ns i 0
       kept i l = List·getD-append ns rest 0 i (omega (arith, g .within))
 
-pub quotient-fits : (a b : ℕ) → a + 1 < 2 ^ 64 → a / b + 1 < 2 ^ 64
-quotient-fits a b fits = omega (arith, div-le-self a b)
+module _ {rs : List Row} {k : ℕ} {ns part : List ℕ} {used at : ℕ} {span : Span} {w : Window}
+    (g : Gathered rs k ns used span) (roomier : Roomier rs (take used ns) span at part w) where
+  pub cut-front : Gathered rs k (part ++ drop used ns) (w .used) (w .span)
+  cut-front = gathered-front (roomier .gathered k (gathered-taken g)) (drop used ns)
+
+  pub cut-rooms : {ns₀ spare₀ spare : List ℕ} → Rooms ns₀ spare₀ → length ns ≡ length ns₀
+      → length part ≡ length (take used ns) → length spare ≡ length spare₀ → Rooms (part ++ drop used ns) spare
+  cut-rooms rooms same-room front same-spare =
+      rooms-kept rooms (length-front ns part used front ∙ same-room) same-spare

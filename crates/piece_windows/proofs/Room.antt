@@ -97,7 +97,8 @@ module _ {rs : List Row} {ns ns′ : List ℕ} {kept : ℕ} (s : Sorted rs ns ns
             spanned = record { some = λ e. some; forward = λ e. span-start span to to-inside };
           }
 
-    pub room-cut : 0 < at → {row : Row} → row ≡ to → Roomier rs ns span at ns′ (record { used = at; span = cut span row })
+    pub room-cut : 0 < at → {row : Row} → row ≡ to
+        → Roomier rs ns span at ns′ (record { used = at; span = cut span row })
     room-cut some e =
         rw e
         (record { start = refl; fewer = omega arith; gathered = λ k g. gathered-cut g some })

@@ -16,14 +16,14 @@ use lib.ListN.{length, take}
 use lib.Seq.{take-length}
 use Rattle.table.specs.Distinct.{firstOfEach}
 use Rattle.table.specs.Summing.{count}
-use Rattle.sorted_pieces.specs.Order.{before, pieceAt, Numbers, Among, Sorted}
+use Rattle.sorted_pieces.specs.Order.{before, Sorted}
 use Rattle.piece_windows.specs.Windows.{inSpan, Spanned, Gathered, Counted}
 use Rattle.rows.specs.declared.Row.{Row}
 use Rattle.piece_windows.specs.declared.Span.{Span}
 use Rattle.piece_windows.specs.declared.Window.{Window}
 use Rattle.table.proofs.Counting.{count-inside, count-agrees, count-every, count-no-one, count-joined}
 use Rattle.table.proofs.Pieces.{firsts-inside}
-use Rattle.sorted_pieces.proofs.Order.{same-itself, nothing-before}
+use Rattle.sorted_pieces.proofs.Order.{nothing-before}
 use Rattle.piece_windows.proofs.Parts.{among-taken, taken-among, taken-length}
 use Rattle.piece_windows.proofs.Rising.{rising-count}
 use Rattle.piece_windows.proofs.Room.{sorted-some}
@@ -31,19 +31,22 @@ use Rattle.piece_windows.proofs.Joined.{span-open, span-closed}
 
 -- ---- one window
 
-module _ {rs : List Row} {ns : List ℕ} {used : ℕ} {span : Span} (g : Gathered rs (length rs) ns used span) where
-  module _ {ns′ : List ℕ} {c : ℕ} (s : Sorted rs (take used ns) ns′ c) where
-    pub sorted-counts : c ≡ count (inSpan span) (firstOfEach rs)
-    sorted-counts =
-        rising-count rs ns′ c (inSpan span) (s .named) (s .rising)
-        (λ r a. g .inside r (taken-among rs ns used (g .within) r (s .of-them r a)))
-        (λ r e o.
-        let gathered = g .complete r e (rw (take-length rs) o) in
-        s .all r (among-taken rs ns used (g .within) r gathered))
+module _ {rs : List Row} {ns ns′ : List ℕ} {used c : ℕ} {span : Span} (g : Gathered rs (length rs) ns used span)
+    (s : Sorted rs (take used ns) ns′ c) where
+  pub sorted-counts : c ≡ count (inSpan span) (firstOfEach rs)
+  sorted-counts =
+      rising-count rs ns′ c (inSpan span) (s .named) (s .rising)
+      (λ r a. g .inside r (taken-among rs ns used (g .within) r (s .of-them r a)))
+      (λ r e o.
+      let gathered = g .complete r e (rw (take-length rs) o) in
+      s .all r (among-taken rs ns used (g .within) r gathered))
 
-    pub sorted-spanned : Spanned c span
-    sorted-spanned =
-        record { some = λ e. sorted-some s (omega (arith, taken-length g, g .spanned .some e)); forward = g .spanned .forward }
+  pub sorted-spanned : Spanned c span
+  sorted-spanned =
+      record {
+        some = λ e. sorted-some s (omega (arith, taken-length g, g .spanned .some e));
+        forward = g .spanned .forward;
+      }
 
 -- ---- windows on each other
 

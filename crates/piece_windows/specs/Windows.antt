@@ -1,12 +1,15 @@
 -- The count of distinct pieces in windows. Only private functions promise anything by it.
---     inSpan span r               the piece of r lies in the span
---     Rooms numbers spare         room for two numbers at least, and as much to sort them
---     Gathered rs k ns w          the first numbers of ns, as many as w says, name rows of the pieces of w's span, all
---                                 that occur among the first k rows of rs
---     Roomier rs ns span at ns′ w what was gathered is gathered still, for a span that may be shorter, `at` numbers at most
---     Passing rs from step ns w   pieces of w's span, which starts at `from`, are gathered: all if each row was looked at
---     Filled rs from ns w         all pieces of w's span, which starts at `from`, are gathered
---     Counted rs from w           so many pieces are in w's span, which starts at `from`
+--     inSpan span r                  the piece of r lies in the span
+--     Rooms numbers spare            room for two numbers at least, and as much to sort them
+--     Spanned used span              a closed span holds a piece, and does not end before its start
+--     Gathered rs k ns used span     the first numbers of ns, as many as are used, name rows of the pieces of the span,
+--                                    all that occur among the first k rows of rs
+--     Roomier rs ns span at ns′ w    what was gathered is gathered still, `at` numbers at most, for a span that may be
+--                                    shorter
+--     Stepped rs from step ns w      rows of w's span, which starts at `from`, are gathered, and all its pieces if the
+--                                    step is one
+--     Filled rs from ns w            all pieces of w's span, which starts at `from`, are gathered
+--     Counted rs from w              so many pieces are in w's span, which starts at `from`
 -- Assumes nothing.
 use Prim.Native.Nat.{ℕ, _≤_, _<_}
 use mathlib.Core.Bool.{Bool, true, false, not, _&&_, _||_}
@@ -44,7 +47,7 @@ pub record Roomier (rs : List Row) (ns : List ℕ) (span : Span) (at : ℕ) (ns�
   pub fewer : w .used ≤ at
   pub gathered : (k : ℕ) → Gathered rs k ns (length ns) span → Gathered rs k ns′ (w .used) (w .span)
 
-pub record Passing (rs : List Row) (from : Row) (step : ℕ) (ns : List ℕ) (w : Window) : Type 0 where
+pub record Stepped (rs : List Row) (from : Row) (step : ℕ) (ns : List ℕ) (w : Window) : Type 0 where
   pub start : w .span .from ≡ from
   pub gathered : Gathered rs 0 ns (w .used) (w .span)
   pub all : step ≡ 1 → Gathered rs (length rs) ns (w .used) (w .span)

@@ -14,7 +14,7 @@ ghost use lib.ListN.{length};
 ghost use Rattle.rows.specs.Rows.{rowsOf};
 ghost use Rattle.table.specs.Distinct.{firstOfEach};
 ghost use Rattle.sorted_pieces.specs.Order.{before, Numbers};
-ghost use Rattle.piece_windows.specs.Windows.{inSpan, Rooms, Gathered, Roomier, Passing, Filled, Counted};
+ghost use Rattle.piece_windows.specs.Windows.{inSpan, Rooms, Gathered, Roomier, Stepped, Filled, Counted};
 
 // The numbers that a window has room for.
 const ROOM: usize = 8192;
@@ -100,7 +100,7 @@ fn gather(
     requires { ⌜ Rooms (now numbers) (now spare) ⌝ }
     requires { ⌜ Gathered (rowsOf (now table)) 0 (now numbers) (window .used) (window .span) ⌝ }
     requires { ⌜ (0 < step) × (step ≤ length (rowsOf (now table)) + 1) ⌝ }
-    ensures { λ r. ⌜ Passing (rowsOf (now (table .entry))) (window .span .from) step (now (numbers .exit)) r ⌝ }
+    ensures { λ r. ⌜ Stepped (rowsOf (now (table .entry))) (window .span .from) step (now (numbers .exit)) r ⌝ }
 {
     let rows = row_count(table);
     let mut used = window.used;

@@ -1,12 +1,12 @@
--- `fill` meets its contract. Whatever a sample gathers is gathered by rights, and so is what is left of it once the span
--- is cut; the last pass looks at every row, so that nothing of the span is missing. Assumes nothing.
+-- `fill` meets its contract. Whatever a sample has gathered are rows of the span, and so is what is left of it once the
+-- span is cut; the last pass looks at every row, so that no piece of the span is missing. Assumes nothing.
+use Prim.Native.Nat.{ℕ, _+_, _/_, _^_, _<_}
 use mathlib.Core.Path.{refl, sym, _∙_}
+use native.Mathlib.Nat.{div-le-self}
 use native.Mathlib.Omega.{arith}
-use lib.Seq.{length-front}
 use borrow.Author.Needs.{needs}
-use Rattle.piece_windows.proofs.Gathering.{gathered-starts, rooms-kept}
-use Rattle.piece_windows.proofs.Parts.{taken-length, taken-named, gathered-taken, gathered-front}
-use Rattle.piece_windows.proofs.Parts.{quotient-fits}
+use Rattle.piece_windows.proofs.Gathering.{gathered-starts}
+use Rattle.piece_windows.proofs.Parts.{taken-length, taken-named, cut-front, cut-rooms}
 use Rattle.piece_windows.proofs.fill.Statement.{statement}
 use Rattle.piece_windows.proofs.fill.Tie as tie
 
@@ -43,6 +43,9 @@ add-at c = search needs
 div-at : tie.Need-div-at
 div-at c = search needs
 
+quotient-fits : (a b : ℕ) → a + 1 < 2 ^ 64 → a / b + 1 < 2 ^ 64
+quotient-fits a b fits = omega (arith, div-le-self a b)
+
 add-at-2 : tie.Need-add-at-2
 add-at-2 c = record { fits = quotient-fits _ _ (omega arith) }
 
@@ -62,13 +65,13 @@ make-room-requires c κs =
 
 gather-requires-3 : tie.Need-gather-requires-3
 gather-requires-3 c κs =
+    let start : tie.Start = search in
     let sampled : tie.After-gather2 = search in
     let cut : tie.After-make-room = search in
-    let part = cut .make-room .ensures .gathered 0 (gathered-taken (sampled .gather2 .ensures .gathered)) in
-    let start : tie.Start = search in
-    let whole = sampled .gather2 .last .1 .0 in
-    let front = length-front whole (cut .make-room .last .1 .0) (sampled .gather2 .result .used) (cut .make-room .kept .1 .0) in
-    (rooms-kept (start .pre) (front ∙ sampled .gather2 .kept .1 .0) (search needs), (gathered-front part _, (omega arith, omega arith)))
+    let gathered = sampled .gather2 .ensures .gathered in
+    let rooms = cut-rooms gathered (cut .make-room .ensures) (start .pre) (sampled .gather2 .kept .1 .0) in
+    let front = cut-front gathered (cut .make-room .ensures) in
+    (rooms (cut .make-room .kept .1 .0) (search needs), (front, (omega arith, omega arith)))
 
 same-length-3 : tie.Need-same-length-3
 same-length-3 c = search needs

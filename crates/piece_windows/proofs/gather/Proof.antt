@@ -1,8 +1,8 @@
--- `gather` meets its contract. The loop keeps `Filling`: what is gathered are rows of the span, and if each row is looked
--- at, all pieces of the span among the first k rows. The measure is twice how many rows are left, and one more for each
--- number: a full window loses some, a row adds one. Assumes nothing.
+-- `gather` meets its contract. The loop keeps `Filling`: what is gathered are rows of the span, and if the step is one,
+-- all its pieces among the first k rows. The measure is twice how many rows are left, and one more for each number: a
+-- full window loses some, a row adds one. Assumes nothing.
 use Prim.Native.Nat.{_+_, _*_, _-_}
-use mathlib.Core.Path.{refl, sym, _∙_}
+use mathlib.Core.Path.{sym, _∙_}
 use native.Mathlib.Omega.{arith}
 use borrow.Author.Needs.{needs}
 use Rattle.rows.specs.Rows.{rowsOf}

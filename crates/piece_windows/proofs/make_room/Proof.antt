@@ -1,5 +1,5 @@
--- `make_room` meets its contract: what is gathered is sorted, and where more pieces than asked for are left, the span is
--- cut at the next. Assumes nothing.
+-- `make_room` meets its contract: what is gathered is sorted, and where more pieces than asked for are left, the span
+-- is cut at the next. Assumes nothing.
 use native.Mathlib.Omega.{arith}
 use borrow.Author.Needs.{needs}
 use Rattle.piece_windows.proofs.Room.{room-enough, room-cut}
