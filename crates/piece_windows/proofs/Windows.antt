@@ -1,5 +1,5 @@
 -- Pieces counted window by window.
---     sorted-counts, sorted-spanned     sorted, they are as many as its pieces
+--     sorted-counts, sorted-spanned     a window's numbers, once they are sorted, are as many as its pieces
 --     Sized numbers spare               the lengths of the two arrays
 --     Passed rs from found              the pieces before `from` are counted
 --     passed-starts                     none before three zeros
