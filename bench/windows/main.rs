@@ -10,7 +10,7 @@ extern "C" {
     fn clock() -> i64;
 }
 
-const ROUNDS: usize = 3;
+const ROUNDS: usize = 5;
 
 fn scattered(k: u32) -> u32 {
     k.wrapping_mul(0x9E37_79B1).rotate_left(15).wrapping_mul(0x85EB_CA6B)
