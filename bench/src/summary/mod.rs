@@ -18,27 +18,24 @@ pub fn run() {
         report(&length);
     }
     println!("Rattle: notchergrey_summary, which works in arrays of its own. Rust: copies of the pieces, sorted.");
-    println!("to ordinary: Rattle's time, over its time for the first table of that length.");
+    println!("to ordinary: Rattle's time, over its time for the first table of that length, with which it takes turns.");
 }
 
 fn report(length: &Length) {
-    let mut ordinary = None;
+    let ordinary = &length.tables[0].1;
     for (name, table) in &length.tables {
         check(name, table);
         let timing = Timing {
             calls: (100_000 / length.rows).max(1),
             inputs: &[Vec::new()],
         };
-        let mut lent = NOTHING;
-        let [rattle, rust] = timing.medians([
-            &mut |_| {
-                black_box(door::summary(black_box(table), &mut lent));
-            },
+        let [rattle, rust, first] = timing.medians([
+            &mut |_| sum_up(table),
             &mut |_| {
                 black_box(plain::sum_up(black_box(table)));
             },
+            &mut |_| sum_up(ordinary),
         ]);
-        let first = *ordinary.get_or_insert(rattle);
         println!(
             "{:<20} {:>9} {:>12.1} {:>12.1} {:>6.2} {:>11.2}",
             name,
@@ -49,6 +46,11 @@ fn report(length: &Length) {
             rattle / first
         );
     }
+}
+
+fn sum_up(table: &[u32]) {
+    let mut lent = NOTHING;
+    black_box(door::summary(black_box(table), &mut lent));
 }
 
 const NOTHING: Summary = Summary {
