@@ -3,29 +3,25 @@
 // each kind of table came up; the first difference ends the run. An argument sets the count of tables.
 #[path = "door.rs"]
 mod door;
+#[allow(dead_code)]
+#[path = "../src/random.rs"]
+mod random;
 
+use random::Random;
 use std::collections::BTreeSet;
 
 // The numbers that a window has room for in the proved program: with more pieces than that there are several windows.
 const ROOM: usize = 8192;
 
-struct Random(u64);
+// Of longer tables than that it looks at about so many rows, at equal distances, to say where a window ends.
+const SAMPLES: usize = 4096;
 
-impl Random {
-    fn below(&mut self, n: u64) -> u64 {
-        self.0 ^= self.0 << 13;
-        self.0 ^= self.0 >> 7;
-        self.0 ^= self.0 << 17;
-        (self.0 >> 11) % n
-    }
-
-    // From the least numbers, from all, or from the greatest.
-    fn number(&mut self, kind: u64, span: u64) -> u32 {
-        match kind {
-            0 => self.below(span) as u32,
-            1 => self.below(1 << 32) as u32,
-            _ => u32::MAX - self.below(span) as u32,
-        }
+// From the least numbers, from all, or from the greatest.
+fn number(random: &mut Random, kind: u32, span: u32) -> u32 {
+    match kind {
+        0 => random.between(0, span - 1),
+        1 => random.any_u32(),
+        _ => u32::MAX - random.between(0, span - 1),
     }
 }
 
@@ -33,40 +29,51 @@ fn piece(row: &[u32]) -> [u32; 3] {
     [row[1], row[2], row[3]]
 }
 
-fn table(random: &mut Random) -> Vec<u32> {
-    let most = [4, 40, 400, 3_000, 30_000][random.below(5) as usize];
-    let rows = random.below(most + 1) as usize;
-    let spans = [1, 3, 30, most, 1 << 20];
-    let columns: Vec<(u64, u64)> = (0..3)
-        .map(|_| (random.below(3), spans[random.below(5) as usize]))
-        .collect();
-    let mut pieces: Vec<[u32; 3]> = (0..rows)
-        .map(|_| [0, 1, 2].map(|c: usize| random.number(columns[c].0, columns[c].1)))
-        .collect();
-    if random.below(2) == 0 {
-        pieces = (0..rows)
-            .map(|_| pieces[random.below(rows as u64) as usize])
-            .collect();
+// The greatest pieces where a sample looks: it then says that windows end too late.
+fn misleading(pieces: &mut Vec<[u32; 3]>) {
+    pieces.sort();
+    let step = pieces.len() / SAMPLES + 1;
+    let mut greatest = pieces.split_off(pieces.len() - pieces.len().div_ceil(step));
+    let mut least = std::mem::take(pieces);
+    for k in 0..greatest.len() + least.len() {
+        let from = if k % step == 0 { &mut greatest } else { &mut least };
+        pieces.push(from.pop().expect("there are as many as places for them"));
     }
-    match random.below(4) {
+}
+
+// A table, and whether it misleads.
+fn table(random: &mut Random) -> (Vec<u32>, bool) {
+    let most = random.one_of(&[4, 40, 400, 3_000, 30_000]);
+    let rows = random.count_between(0, most as usize);
+    let columns = [0; 3].map(|_| (random.between(0, 2), random.one_of(&[1, 3, 30, most, 1 << 20])));
+    let mut pieces: Vec<[u32; 3]> = (0..rows)
+        .map(|_| columns.map(|(kind, span)| number(random, kind, span)))
+        .collect();
+    if random.any_bool() {
+        pieces = (0..rows).map(|_| random.one_of(&pieces)).collect();
+    }
+    let order = random.between(0, 4);
+    match order {
         0 => pieces.sort(),
         1 => pieces.sort_by(|r, s| s.cmp(r)),
+        2 => misleading(&mut pieces),
         _ => (),
     }
     let mut table: Vec<u32> = pieces
         .iter()
-        .flat_map(|[a, b, length]| [random.below(9) as u32, *a, *b, *length, random.below(2) as u32])
+        .flat_map(|[a, b, length]| [random.between(0, 8), *a, *b, *length, random.between(0, 1)])
         .collect();
-    table.extend((0..random.below(5)).map(|_| 7));
-    table
+    let others = random.count_between(0, 4);
+    table.extend(random.any_numbers(others));
+    (table, order == 2)
 }
 
 fn main() {
     let tables: usize = std::env::args().nth(1).map_or(4_000, |n| n.parse().expect("a count of tables"));
-    let mut random = Random(88172645463325252);
-    let (mut empty, mut repeated, mut several) = (0, 0, 0);
+    let mut random = Random::from_seed(2002);
+    let (mut empty, mut repeated, mut several, mut misled) = (0, 0, 0, 0);
     for number in 0..tables {
-        let table = table(&mut random);
+        let (table, misleads) = table(&mut random);
         let pieces: BTreeSet<[u32; 3]> = table.chunks_exact(5).map(piece).collect();
         let counted = door::count(&table);
         if counted != pieces.len() {
@@ -76,8 +83,13 @@ fn main() {
         empty += usize::from(pieces.is_empty());
         repeated += usize::from(0 < pieces.len() && pieces.len() < table.len() / 5);
         several += usize::from(ROOM < pieces.len());
+        misled += usize::from(ROOM < pieces.len() && misleads);
     }
-    println!("windows: {empty} tables without a row, {repeated} with a piece twice, {several} of several windows");
-    assert!(tables < 4_000 || 100 < empty && 1_000 < repeated && 100 < several, "each kind of table comes up");
+    println!(
+        "windows: {empty} tables without a row, {repeated} with a piece twice, {several} of several windows, {misled} of \
+         them with a sample that misleads"
+    );
+    let enough = 100 < empty && 1_000 < repeated && 300 < several && 60 < misled;
+    assert!(tables < 4_000 || enough, "each kind of table comes up");
     println!("windows: {tables} tables, 0 differences");
 }
