@@ -11,21 +11,23 @@ gather-requires c κs = search needs
 
 carry-found-requires : tie.Need-carry-found-requires
 carry-found-requires c κs =
-    let gathered = c .before .before .before in
-    let pre = gathered .before .before .before .before .before .before .before .pre in
+    let gathered : tie.After-gather = search in
+    let start : tie.Start = search in
     let run = gathered .gather .ensures in
-    (pre .0, (turn-ready (pre .1 .0) run (search needs), (run .run, pre .1 .1)))
+    (start .pre .0, (turn-ready (start .pre .1 .0) run (search needs), (run .run, start .pre .1 .1)))
 
 enum-known-count : tie.Need-enum-known-count
 enum-known-count c = search needs
 
 finish-requires : tie.Need-finish-requires
 finish-requires c κs =
-    let called = c .before .before .before .before .before .before in
-    let gathered = called .before .before .before .before in
-    let pre = gathered .before .before .before .before .before .before .before .pre in
-    let held = rw (c .before .before .count .given .1) at (called .carry-found .ensures) in
-    ready-then (turn-ready (pre .1 .0) (gathered .gather .ensures) (search needs)) (held .0) (search needs) .from-good
+    let counted : tie.After-count = search in
+    let called : tie.After-carry-found = search in
+    let gathered : tie.After-gather = search in
+    let start : tie.Start = search in
+    let held = rw (counted .count .given .1) at (called .carry-found .ensures) in
+    ready-then (turn-ready (start .pre .1 .0) (gathered .gather .ensures) (search needs)) (held .0) (search needs)
+    .from-good
 
 enum-told : tie.Need-enum-told
 enum-told c = search needs
@@ -35,25 +37,26 @@ same-length c = search needs
 
 returns : tie.Need-returns
 returns c =
-    let finished = c .before .before in
-    let called = finished .before .before .before .before .before .before .before in
-    let gathered = called .before .before .before .before in
-    let pre = gathered .before .before .before .before .before .before .before .pre in
-    let held = rw (finished .before .before .before .count .given .1) at (called .carry-found .ensures) in
-    let carried-length = finished .before .before .before .before .before .before .work2 .given in
-    turned (pre .1 .0) (gathered .gather .ensures) (search needs) held (finished .finish .ensures)
-    (search (needs, carried-length)) (search needs)
+    let called : tie.After-carry-found = search in
+    let gathered : tie.After-gather = search in
+    let start : tie.Start = search in
+    let finished : tie.After-finish = search in
+    let counted : tie.After-count = search in
+    let carried : tie.After-work2 = search in
+    let held = rw (counted .count .given .1) at (called .carry-found .ensures) in
+    turned (start .pre .1 .0) (gathered .gather .ensures) (search needs) held (finished .finish .ensures)
+    (search (needs, carried .work2 .given)) (search needs)
 
 same-length-2 : tie.Need-same-length-2
 same-length-2 c = search needs
 
 returns-2 : tie.Need-returns-2
 returns-2 c =
-    let called = c .before .before .before .before in
-    let gathered = called .before .before .before .before in
-    let pre = gathered .before .before .before .before .before .before .before .pre in
+    let called : tie.After-carry-found = search in
+    let gathered : tie.After-gather = search in
+    let start : tie.Start = search in
     let full = rw (c .enum-told .given .1) at (called .carry-found .ensures) in
-    turned-too-many (pre .1 .0) (gathered .gather .ensures) (search needs) full
+    turned-too-many (start .pre .1 .0) (gathered .gather .ensures) (search needs) full
 
 pub take-turn-spec : {M : Type 1} → statement M
 take-turn-spec =
