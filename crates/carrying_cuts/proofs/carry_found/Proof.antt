@@ -22,18 +22,16 @@ none-found-requires c κs = search needs
 
 returns : tie.Need-returns Inv-loop μ-loop
 returns c =
-    let test = c .before in
-    let pre = test .before .before .before .before .before .before .pre in
-    let start = pass-start (pre .1 .0) (pre .1 .1 .1) in
-    let none = test .none-found .ensures .when (c .if1 .taken) in
-    pass-end (pre .1 .0) (pass-none (pre .1 .0) start none) (omega arith)
+    let start : tie.Start Inv-loop μ-loop = search in
+    let passed = pass-start (start .pre .1 .0) (start .pre .1 .1 .1) in
+    let none = c .before .none-found .ensures .when (c .if1 .taken) in
+    pass-end (start .pre .1 .0) (pass-none (start .pre .1 .0) passed none) (omega arith)
 
 lowest-found-requires : tie.Need-lowest-found-requires Inv-loop μ-loop
 lowest-found-requires c κs =
-    let test = c .before .before in
-    let pre = test .before .before .before .before .before .before .pre in
-    let some = test .none-found .ensures .unless (c .before .if1 .left) in
-    record { good = pre .1 .0 .from-good; run = pre .1 .1 .0; some = some }
+    let start : tie.Start Inv-loop μ-loop = search in
+    let some = c .before .before .none-found .ensures .unless (c .before .if1 .left) in
+    record { good = start .pre .1 .0 .from-good; run = start .pre .1 .1 .0; some = some }
 
 highest-found-requires : tie.Need-highest-found-requires Inv-loop μ-loop
 highest-found-requires c κs = search needs
@@ -43,8 +41,9 @@ next-near-requires c κs = search needs
 
 loop-holds : tie.Need-loop-holds Inv-loop μ-loop
 loop-holds c =
-    let pre = c .before .before .before .before .before .before .before .before .before .before .before .before .pre in
-    pass-over (pre .1 .0) (pass-start (pre .1 .0) (pre .1 .1 .1)) (c .before .before .before .lowest-found .ensures)
+    let low : tie.After-lowest-found Inv-loop μ-loop = search in
+    let start : tie.Start Inv-loop μ-loop = search in
+    pass-over (start .pre .1 .0) (pass-start (start .pre .1 .0) (start .pre .1 .1 .1)) (low .lowest-found .ensures)
     (c .before .highest-found .ensures) (c .next-near .ensures)
 
 mul-carry-match : tie.Need-mul-carry-match Inv-loop μ-loop
@@ -70,13 +69,12 @@ shared-slice-read-carry-match-4 c = search needs
 
 carry-match-requires : tie.Need-carry-match-requires Inv-loop μ-loop
 carry-match-requires c κs =
-    let in-loop = c .before .before .before .before .before in
-    let inv = in-loop .before .loop .inv in
-    let near = in-loop .before .before in
-    let test = near .before .before .before .before .before .before in
-    let pre = test .before .before .before .before .before .before .pre in (
-      pass-ready (pre .1 .0) inv,
-      (pass-run (pre .1 .0) inv (pre .1 .1 .0), (pre .0 .to-fits (in-loop .before .loop .k) (search needs), inv .few)),
+    let in-loop : tie.In-loop Inv-loop μ-loop = search in
+    let start : tie.Start Inv-loop μ-loop = search in
+    let pre = start .pre in
+    let loop = in-loop .before .loop in (
+      pass-ready (pre .1 .0) (loop .inv),
+      (pass-run (pre .1 .0) (loop .inv) (pre .1 .1 .0), (pre .0 .to-fits (loop .k) (search needs), loop .inv .few)),
     )
 
 enum-known-h : tie.Need-enum-known-h Inv-loop μ-loop
@@ -90,56 +88,53 @@ same-length c = search needs
 
 returns-2 : tie.Need-returns-2 Inv-loop μ-loop
 returns-2 c =
-    let called = c .before .before .before .before in
-    let in-loop = called .before .before .before .before .before .before in
-    let near = in-loop .before .before in
-    let test = near .before .before .before .before .before .before in
-    let pre = test .before .before .before .before .before .before .pre in
+    let called : tie.After-carry-match Inv-loop μ-loop = search in
+    let in-loop : tie.In-loop Inv-loop μ-loop = search in
+    let test : tie.After-none-found Inv-loop μ-loop = search in
+    let start : tie.Start Inv-loop μ-loop = search in
     let full = rw (c .enum-told .given .1) at (called .carry-match .ensures) in
-    pass-too-much (pre .1 .0) (in-loop .before .loop .inv) (search needs) full
+    pass-too-much (start .pre .1 .0) (in-loop .before .loop .inv) (search needs) full
 
 add-next-near : tie.Need-add-next-near Inv-loop μ-loop
 add-next-near c =
-    let in-loop = c .before .before .before .before .before .before .before .before .before .before .before in
-    let near = in-loop .before .before in
-    let test = near .before .before .before .before .before .before in
-    let good = test .before .before .before .before .before .before .good in
-    search (needs, good .1)
+    let in-loop : tie.In-loop Inv-loop μ-loop = search in
+    let test : tie.After-none-found Inv-loop μ-loop = search in
+    let start : tie.Start Inv-loop μ-loop = search in
+    search (needs, start .good .1)
 
 next-near-requires-2 : tie.Need-next-near-requires-2 Inv-loop μ-loop
 next-near-requires-2 c κs =
-    let in-loop = c .before .before .before .before .before .before .before .before .before .before .before in
-    let near = in-loop .before .before in
-    let test = near .before .before .before .before .before .before in
-    let pre = test .before .before .before .before .before .before .pre in
-    (record { same-length = pre .0 .from-length; fits = pre .0 .from-fits }, search needs)
+    let in-loop : tie.In-loop Inv-loop μ-loop = search in
+    let test : tie.After-none-found Inv-loop μ-loop = search in
+    let start : tie.Start Inv-loop μ-loop = search in
+    (record { same-length = start .pre .0 .from-length; fits = start .pre .0 .from-fits }, search needs)
 
 loop-less : tie.Need-loop-less Inv-loop μ-loop
 loop-less c =
-    let in-loop = c .before .before .before .before .before .before .before .before .before .before .before .before in
+    let in-loop : tie.In-loop Inv-loop μ-loop = search in
     omega (arith, c .next-near2 .ensures .from, in-loop .loop-test .taken)
 
 loop-again : tie.Need-loop-again Inv-loop μ-loop
 loop-again c =
-    let called = c .before .before .before .before .before .before in
-    let in-loop = called .before .before .before .before .before .before in
-    let near = in-loop .before .before in
-    let test = near .before .before .before .before .before .before in
-    let pre = test .before .before .before .before .before .before .pre in
-    let held = rw (c .before .before .h .given .1) at (called .carry-match .ensures) in
-    let passed = pass-step (pre .1 .0) (in-loop .before .loop .inv) (search needs) (search needs) held in
-    pass-over (pre .1 .0) passed (near .before .before .before .lowest-found .ensures)
-    (near .before .highest-found .ensures) (c .next-near2 .ensures)
+    let counted : tie.After-h Inv-loop μ-loop = search in
+    let called : tie.After-carry-match Inv-loop μ-loop = search in
+    let in-loop : tie.In-loop Inv-loop μ-loop = search in
+    let high : tie.After-highest-found Inv-loop μ-loop = search in
+    let low : tie.After-lowest-found Inv-loop μ-loop = search in
+    let test : tie.After-none-found Inv-loop μ-loop = search in
+    let start : tie.Start Inv-loop μ-loop = search in
+    let held = rw (counted .h .given .1) at (called .carry-match .ensures) in
+    let passed = pass-step (start .pre .1 .0) (in-loop .before .loop .inv) (search needs) (search needs) held in
+    pass-over (start .pre .1 .0) passed (low .lowest-found .ensures) (high .highest-found .ensures)
+    (c .next-near2 .ensures)
 
 same-length-2 : tie.Need-same-length-2 Inv-loop μ-loop
 same-length-2 c = search needs
 
 returns-3 : tie.Need-returns-3 Inv-loop μ-loop
 returns-3 c =
-    let near = c .before .before in
-    let test = near .before .before .before .before .before .before in
-    let pre = test .before .before .before .before .before .before .pre in
-    pass-end (pre .1 .0) (c .before .loop .inv) (search needs)
+    let start : tie.Start Inv-loop μ-loop = search in
+    pass-end (start .pre .1 .0) (c .before .loop .inv) (search needs)
 
 pub carry-found-spec : {M : Type 1} → statement M
 carry-found-spec =
