@@ -31,14 +31,15 @@ enum-known-seeded c = search needs
 
 drive-requires : tie.Need-drive-requires
 drive-requires c κs =
-    let at-seed = c .before .before .before .before .before .before in
-    let start = at-seed .before .before .before .before .before .before .before .before .before .before .before in
+    let start : tie.Start = search in
+    let at-seed : tie.After-seed = search in
+    let empty-b : tie.After-empty2 = search in
+    let empty-a : tie.After-empty = search in
     let stored = rw (c .before .before .seeded .given .1) at (at-seed .seed .ensures) in (
       start .pre .0,
       seeded-open (columnsOf (start .args .left-a .now) (start .args .left-b .now) (start .args .lengths .now)
           (start .args .reversed .now)) (start .args .capacity)
-          (at-seed .before .before .before .before .empty .ensures) (at-seed .before .before .empty2 .ensures) stored
-          (search needs),
+          (empty-a .empty .ensures) (empty-b .empty2 .ensures) stored (at-seed .seed .kept .1 .1 .0),
     )
 
 same-length : tie.Need-same-length
@@ -46,11 +47,12 @@ same-length c = search needs
 
 returns : tie.Need-returns
 returns c =
-    let at-seed = c .before .before .before .before in
-    let start = at-seed .before .before .before .before .before .before .before .before .before .before .before in
+    let at-seed : tie.After-seed = search in
+    let empty-a : tie.After-empty = search in
+    let start : tie.Start = search in
     let full = rw (c .enum-told .given .1) at (at-seed .seed .ensures) in
     seeded-exceeds (columnsOf (start .args .left-a .now) (start .args .left-b .now) (start .args .lengths .now)
-    (start .args .reversed .now)) (start .pre .0) (at-seed .before .before .before .before .empty .ensures) full
+    (start .args .reversed .now)) (start .pre .0) (empty-a .empty .ensures) full
 
 same-length-2 : tie.Need-same-length-2
 same-length-2 c = search needs

@@ -17,19 +17,24 @@ abbrev μ-loop : tie.MeasureT-loop
 μ-loop left-a left-b lengths reversed work₀ capacity closing₀ work closing = pending closing
 
 loop-holds : tie.Need-loop-holds Inv-loop μ-loop
-loop-holds c = (refl, c .before .before .before .before .before .pre .1)
+loop-holds c =
+    let start : tie.Start Inv-loop μ-loop = search in
+    (refl, start .pre .1)
 
 enum-known-now : tie.Need-enum-known-now Inv-loop μ-loop
 enum-known-now c = search needs
 
 same-length : tie.Need-same-length Inv-loop μ-loop
-same-length c = c .before .before .before .before .loop .inv .0
+same-length c =
+    let at-loop : tie.At-loop Inv-loop μ-loop = search in
+    at-loop .loop .inv .0
 
 returns : tie.Need-returns Inv-loop μ-loop
 returns c =
-    let at-loop = c .before .before .before .before in
+    let at-loop : tie.At-loop Inv-loop μ-loop = search in
+    let start : tie.Start Inv-loop μ-loop = search in
     let done = rw (c .before .before .now .given .1) at (at-loop .loop .inv .1) in
-    all-cuts (done .0) (done .1) (at-loop .before .before .before .before .before .before .pre .0)
+    all-cuts (done .0) (done .1) (start .pre .0)
 
 enum-told : tie.Need-enum-told Inv-loop μ-loop
 enum-told c = search needs
@@ -45,16 +50,18 @@ enum-known-now-2 c = search needs
 
 a-step-requires : tie.Need-a-step-requires Inv-loop μ-loop
 a-step-requires c κs =
-    let at-loop = c .before .before .before .before in
+    let at-loop : tie.At-loop Inv-loop μ-loop = search in
+    let start : tie.Start Inv-loop μ-loop = search in
     let due = rw (c .before .before .now2 .given .1) at (at-loop .loop .inv .1) in
-    (at-loop .before .before .before .before .before .before .pre .0, due)
+    (start .pre .0, due)
 
 loop-less : tie.Need-loop-less Inv-loop μ-loop
 loop-less c =
     let step = c .before .before .a-step in
-    let at-due = c .before .before .before .before .before in
+    let at-due : tie.After-now2 Inv-loop μ-loop = search in
+    let start : tie.Start Inv-loop μ-loop = search in
     let due = at-due .now2 .given in
-    let args = at-due .before .before .before .before .before .before .before .before .args in
+    let args = start .args in
     rw (due .1)
     (stepped-less (columnsOf (args .left-a .now) (args .left-b .now) (args .lengths .now) (args .reversed .now))
     (args .capacity) (due .0 .0) (step .last .1 .1 .1 .1 .0) (step .result) (step .ensures))
@@ -62,9 +69,10 @@ loop-less c =
 loop-again : tie.Need-loop-again Inv-loop μ-loop
 loop-again c =
     let step = c .before .before .a-step in
-    let at-due = c .before .before .before .before .before in
+    let at-due : tie.After-now2 Inv-loop μ-loop = search in
+    let start : tie.Start Inv-loop μ-loop = search in
     let due = at-due .now2 .given in
-    let args = at-due .before .before .before .before .before .before .before .before .args in (
+    let args = start .args in (
       search needs,
       stepped-driving (columnsOf (args .left-a .now) (args .left-b .now) (args .lengths .now) (args .reversed .now))
           (args .capacity) (due .0 .0) (step .last .1 .1 .1 .1 .0) (step .result) (step .ensures),
@@ -75,16 +83,18 @@ enum-known-now-3 c = search needs
 
 b-step-requires : tie.Need-b-step-requires Inv-loop μ-loop
 b-step-requires c κs =
-    let at-loop = c .before .before .before .before in
+    let at-loop : tie.At-loop Inv-loop μ-loop = search in
+    let start : tie.Start Inv-loop μ-loop = search in
     let due = rw (c .before .before .now3 .given .1) at (at-loop .loop .inv .1) in
-    (at-loop .before .before .before .before .before .before .pre .0, due)
+    (start .pre .0, due)
 
 loop-less-2 : tie.Need-loop-less-2 Inv-loop μ-loop
 loop-less-2 c =
     let step = c .before .before .b-step in
-    let at-due = c .before .before .before .before .before in
+    let at-due : tie.After-now3 Inv-loop μ-loop = search in
+    let start : tie.Start Inv-loop μ-loop = search in
     let due = at-due .now3 .given in
-    let args = at-due .before .before .before .before .before .before .before .before .args in
+    let args = start .args in
     rw (due .1)
     (stepped-less (columnsOf (args .left-a .now) (args .left-b .now) (args .lengths .now) (args .reversed .now))
     (args .capacity) (due .0 .0) (step .last .1 .1 .1 .1 .0) (step .result) (step .ensures))
@@ -92,9 +102,10 @@ loop-less-2 c =
 loop-again-2 : tie.Need-loop-again-2 Inv-loop μ-loop
 loop-again-2 c =
     let step = c .before .before .b-step in
-    let at-due = c .before .before .before .before .before in
+    let at-due : tie.After-now3 Inv-loop μ-loop = search in
+    let start : tie.Start Inv-loop μ-loop = search in
     let due = at-due .now3 .given in
-    let args = at-due .before .before .before .before .before .before .before .before .args in (
+    let args = start .args in (
       search needs,
       stepped-driving (columnsOf (args .left-a .now) (args .left-b .now) (args .lengths .now) (args .reversed .now))
           (args .capacity) (due .0 .0) (step .last .1 .1 .1 .1 .0) (step .result) (step .ensures),

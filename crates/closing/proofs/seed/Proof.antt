@@ -15,15 +15,17 @@ abbrev μ-loop : tie.MeasureT-loop
 μ-loop left-a lengths work₀ a₀ k₀ work a k = List.length lengths - k
 
 loop-holds : tie.Need-loop-holds Inv-loop μ-loop
-loop-holds c = sown-start (c .before .before .before .pre .1)
+loop-holds c =
+    let start : tie.Start Inv-loop μ-loop = search in
+    sown-start (start .pre .1)
 
 mul-seed-match : tie.Need-mul-seed-match Inv-loop μ-loop
 mul-seed-match c = search needs
 
 shared-slice-read-seed-match : tie.Need-shared-slice-read-seed-match Inv-loop μ-loop
 shared-slice-read-seed-match c =
-    let ends = c .before .before .before .before .before .before .before .pre .0 in
-    omega (arith, ends .same-length)
+    let start : tie.Start Inv-loop μ-loop = search in
+    omega (arith, start .pre .0 .same-length)
 
 mul-seed-match-2 : tie.Need-mul-seed-match-2 Inv-loop μ-loop
 mul-seed-match-2 c = search needs
@@ -33,9 +35,10 @@ shared-slice-read-seed-match-2 c = search needs
 
 seed-match-requires : tie.Need-seed-match-requires Inv-loop μ-loop
 seed-match-requires c κs =
-    let at-loop = c .before .before .before .before in
-    let ends = at-loop .before .before .before .before .pre .0 in
-    (at-loop .loop .inv .stored .good, ends .fits (at-loop .loop .k) (c .before .before .before .loop-test .taken))
+    let in-loop : tie.In-loop Inv-loop μ-loop = search in
+    let start : tie.Start Inv-loop μ-loop = search in
+    let now = in-loop .before .loop in
+    (now .inv .stored .good, start .pre .0 .fits (now .k) (in-loop .loop-test .taken))
 
 enum-known-s : tie.Need-enum-known-s Inv-loop μ-loop
 enum-known-s c = search needs
@@ -45,16 +48,17 @@ enum-told c = search needs
 
 same-length : tie.Need-same-length Inv-loop μ-loop
 same-length c =
-    let at-call = c .before .before .before .before in
-    at-call .seed-match .kept .0 ∙ at-call .before .before .before .before .before .loop .inv .lengths
+    let called : tie.After-seed-match Inv-loop μ-loop = search in
+    let at-loop : tie.At-loop Inv-loop μ-loop = search in
+    called .seed-match .kept .0 ∙ at-loop .loop .inv .lengths
 
 returns : tie.Need-returns Inv-loop μ-loop
 returns c =
-    let at-call = c .before .before .before .before in
-    let at-loop = at-call .before .before .before .before .before in
-    let full = rw (c .enum-told .given .1) at (at-call .seed-match .ensures) in
-    let test = at-call .before .before .before .before .loop-test in
-    sown-full (at-loop .loop .inv) (test .taken) (at-loop .before .before .before .before .pre .1) full
+    let called : tie.After-seed-match Inv-loop μ-loop = search in
+    let in-loop : tie.In-loop Inv-loop μ-loop = search in
+    let start : tie.Start Inv-loop μ-loop = search in
+    let full = rw (c .enum-told .given .1) at (called .seed-match .ensures) in
+    sown-full (in-loop .before .loop .inv) (in-loop .loop-test .taken) (start .pre .1) full
 
 add-k : tie.Need-add-k Inv-loop μ-loop
 add-k c = search needs
@@ -64,11 +68,10 @@ loop-less c = search needs
 
 loop-again : tie.Need-loop-again Inv-loop μ-loop
 loop-again c =
-    let at-call = c .before .before .before .before .before in
-    let at-loop = at-call .before .before .before .before .before in
-    let added = rw (c .before .s .given .1) at (at-call .seed-match .ensures) in
-    let test = at-call .before .before .before .before .loop-test in
-    sown-step (at-loop .loop .inv) (test .taken) (at-call .seed-match .kept .0) added
+    let called : tie.After-seed-match Inv-loop μ-loop = search in
+    let in-loop : tie.In-loop Inv-loop μ-loop = search in
+    let added = rw (c .before .s .given .1) at (called .seed-match .ensures) in
+    sown-step (in-loop .before .loop .inv) (in-loop .loop-test .taken) (called .seed-match .kept .0) added
 
 same-length-2 : tie.Need-same-length-2 Inv-loop μ-loop
 same-length-2 c = c .before .loop .inv .lengths

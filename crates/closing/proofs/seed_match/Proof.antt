@@ -15,7 +15,7 @@ add-add c = search needs
 
 add-requires-2 : tie.Need-add-requires-2
 add-requires-2 c κs =
-    let at-add = c .before .before .before .before .before .before in
+    let at-add : tie.After-add = search in
     let added = rw (c .before .before .s .given .1) at (at-add .add .ensures) in
     added .stored .good
 
@@ -27,22 +27,23 @@ same-length c = search needs
 
 returns : tie.Need-returns
 returns c =
-    let at-add = c .before .before .before .before .before .before .before .before .before in
-    let at-start = at-add .before .before .before in
-    let added = rw (c .before .before .before .before .before .s .given .1) at (at-add .add .ensures) in
+    let held : tie.After-s = search in
+    let at-add : tie.After-add = search in
+    let start : tie.Start = search in
+    let added = rw (held .s .given .1) at (at-add .add .ensures) in
     let second = c .before .before .add2 in
-    two-added (at-start .args .work .now) (at-start .args .set) (second .last .0) (at-start .args .left)
-    (at-start .args .length) (at-start .pre .0) added (second .result) (second .ensures)
+    two-added (start .args .work .now) (start .args .set) (second .last .0) (start .args .left)
+    (start .args .length) (start .pre .0) added (second .result) (second .ensures)
 
 same-length-2 : tie.Need-same-length-2
 same-length-2 c = search needs
 
 returns-2 : tie.Need-returns-2
 returns-2 c =
-    let at-add = c .before .before .before .before in
-    let at-start = at-add .before .before .before in
+    let at-add : tie.After-add = search in
+    let start : tie.Start = search in
     let full = rw (c .enum-told .given .1) at (at-add .add .ensures) in
-    one-full (at-start .args .length) (at-start .pre .0) (full .0)
+    one-full (start .args .length) (start .pre .0) (full .0)
 
 pub seed-match-spec : {M : Type 1} → statement M
 seed-match-spec =
