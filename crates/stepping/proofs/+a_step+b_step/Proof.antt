@@ -68,7 +68,8 @@ a-step-add-most t c = search needs
 
 a-step-take-turn-requires : (t : ℕ) → a-step-lts.Need-take-turn-requires (a-step-calls t) (a-step-at t) a-step.Post
 a-step-take-turn-requires t c κs =
-    let pre = c .before .before .before .before .before .before .before .before .pre .1 in
+    let start : a-step-lts.Start (a-step-calls t) (a-step-at t) a-step.Post = search in
+    let pre = start .pre .1 in
     (pre .0, (turn-ready A (pre .1), pre .1 .few A))
 
 a-step-enum-told : (t : ℕ) → a-step-lts.Need-enum-told (a-step-calls t) (a-step-at t) a-step.Post
@@ -85,12 +86,13 @@ a-step-same-length t c = search needs
 
 a-step-returns : (t : ℕ) → a-step-lts.Need-returns (a-step-calls t) (a-step-at t) a-step.Post
 a-step-returns t c =
-    let at-call = c .before .before .before .before .before .before .before in
-    let at-start = at-call .before .before .before .before .before .before .before .before .before in
-    let was = at-start .pre .1 .1 in
-    let told = c .before .before .before .hits .given in
-    let next = after A (at-start .args .cuts) (told .0 .1 .0) (told .0 .1 .1 .0) (told .0 .0) in
-    let turned = rw (told .1) at (at-call .take-turn .ensures) in
+    let held : a-step-lts.After-hits (a-step-calls t) (a-step-at t) a-step.Post = search in
+    let called : a-step-lts.After-take-turn (a-step-calls t) (a-step-at t) a-step.Post = search in
+    let start : a-step-lts.Start (a-step-calls t) (a-step-at t) a-step.Post = search in
+    let was = start .pre .1 .1 in
+    let told = held .hits .given in
+    let next = after A (start .args .cuts) (told .0 .1 .0) (told .0 .1 .1 .0) (told .0 .0) in
+    let turned = rw (told .1) at (called .take-turn .ensures) in
     finished B (turned-open was next turned refl) (c .before .none-found .ensures .when (c .if1 .taken))
 
 a-step-same-length-2 : (t : ℕ) → a-step-lts.Need-same-length-2 (a-step-calls t) (a-step-at t) a-step.Post
@@ -98,13 +100,15 @@ a-step-same-length-2 t c = search needs
 
 a-step-returns-2 : (t : ℕ) → a-step-lts.Need-returns-2 (a-step-calls t) (a-step-at t) a-step.Post
 a-step-returns-2 t c =
-    let at-call = c .before .before .before .before .before .before .before .before in
-    let at-start = at-call .before .before .before .before .before .before .before .before .before in
-    let was = at-start .pre .1 .1 in
-    let told = c .before .before .before .before .hits .given in
-    let next = after A (at-start .args .cuts) (told .0 .1 .0) (told .0 .1 .1 .0) (told .0 .0) in
-    let turned = rw (told .1) at (at-call .take-turn .ensures) in
-    let more = c .before .before .none-found .ensures .unless (c .before .if1 .left) in
+    let test = c .before in
+    let held : a-step-lts.After-hits (a-step-calls t) (a-step-at t) a-step.Post = search in
+    let called : a-step-lts.After-take-turn (a-step-calls t) (a-step-at t) a-step.Post = search in
+    let start : a-step-lts.Start (a-step-calls t) (a-step-at t) a-step.Post = search in
+    let was = start .pre .1 .1 in
+    let told = held .hits .given in
+    let next = after A (start .args .cuts) (told .0 .1 .0) (told .0 .1 .1 .0) (told .0 .0) in
+    let turned = rw (told .1) at (called .take-turn .ensures) in
+    let more = test .before .none-found .ensures .unless (test .if1 .left) in
     (turned-open was next turned refl, turned-less was next turned more)
 
 a-step-sub-b-step : (t : ℕ) → a-step-lts.Need-sub-b-step (a-step-calls t) (a-step-at t) a-step.Post
@@ -112,15 +116,17 @@ a-step-sub-b-step t c = search needs
 
 a-step-b-step-requires : (t : ℕ) → a-step-lts.Need-b-step-requires (a-step-calls t) (a-step-at t) a-step.Post
 a-step-b-step-requires t c κs =
-    let at-call = c .before .before .before .before .before .before .before .before .before in
-    let at-start = at-call .before .before .before .before .before .before .before .before .before in
-    let was = at-start .pre .1 .1 in
-    let told = c .before .before .before .before .before .hits .given in
-    let next = after A (at-start .args .cuts) (told .0 .1 .0) (told .0 .1 .1 .0) (told .0 .0) in
-    let turned = rw (told .1) at (at-call .take-turn .ensures) in
-    let more = c .before .before .before .none-found .ensures .unless (c .before .before .if1 .left) in (
-      omega (arith, at-start .pre .0, turned-less was next turned more),
-      (at-start .pre .1 .0, turned-open was next turned refl),
+    let test = c .before .before in
+    let held : a-step-lts.After-hits (a-step-calls t) (a-step-at t) a-step.Post = search in
+    let called : a-step-lts.After-take-turn (a-step-calls t) (a-step-at t) a-step.Post = search in
+    let start : a-step-lts.Start (a-step-calls t) (a-step-at t) a-step.Post = search in
+    let was = start .pre .1 .1 in
+    let told = held .hits .given in
+    let next = after A (start .args .cuts) (told .0 .1 .0) (told .0 .1 .1 .0) (told .0 .0) in
+    let turned = rw (told .1) at (called .take-turn .ensures) in
+    let more = test .before .none-found .ensures .unless (test .if1 .left) in (
+      omega (arith, start .pre .0, turned-less was next turned more),
+      (start .pre .1 .0, turned-open was next turned refl),
     )
 
 a-step-same-length-3 : (t : ℕ) → a-step-lts.Need-same-length-3 (a-step-calls t) (a-step-at t) a-step.Post
@@ -128,24 +134,26 @@ a-step-same-length-3 t c = search needs
 
 a-step-returns-3 : (t : ℕ) → a-step-lts.Need-returns-3 (a-step-calls t) (a-step-at t) a-step.Post
 a-step-returns-3 t c =
-    let at-call = c .before .before .before .before in
-    let pre = at-call .before .before .before .before .before .before .before .before .before .pre .1 in
-    too-many (pre .1) (pre .0) (rw (c .enum-told .given .1) at (at-call .take-turn .ensures))
+    let called : a-step-lts.After-take-turn (a-step-calls t) (a-step-at t) a-step.Post = search in
+    let start : a-step-lts.Start (a-step-calls t) (a-step-at t) a-step.Post = search in
+    let pre = start .pre .1 in
+    too-many (pre .1) (pre .0) (rw (c .enum-told .given .1) at (called .take-turn .ensures))
 
 a-step-same-length-4 : (t : ℕ) → a-step-lts.Need-same-length-4 (a-step-calls t) (a-step-at t) a-step.Post
 a-step-same-length-4 t c = search needs
 
 a-step-returns-4 : (t : ℕ) → a-step-lts.Need-returns-4 (a-step-calls t) (a-step-at t) a-step.Post
 a-step-returns-4 t c =
-    let at-call = c .before .before .before .before .before .before .before .before .before .before .before .before in
-    let at-start = at-call .before .before .before .before .before .before .before .before .before in
-    let was = at-start .pre .1 .1 in
-    let told = c .before .before .before .before .before .before .before .before .hits .given in
-    let next = after A (at-start .args .cuts) (told .0 .1 .0) (told .0 .1 .1 .0) (told .0 .0) in
-    let turned = rw (told .1) at (at-call .take-turn .ensures) in
-    let args = at-start .args in
+    let test : a-step-lts.Else1 (a-step-calls t) (a-step-at t) a-step.Post = search in
+    let held : a-step-lts.After-hits (a-step-calls t) (a-step-at t) a-step.Post = search in
+    let called : a-step-lts.After-take-turn (a-step-calls t) (a-step-at t) a-step.Post = search in
+    let start : a-step-lts.Start (a-step-calls t) (a-step-at t) a-step.Post = search in
+    let was = start .pre .1 .1 in
+    let told = held .hits .given in
+    let next = after A (start .args .cuts) (told .0 .1 .0) (told .0 .1 .1 .0) (told .0 .0) in
+    let turned = rw (told .1) at (called .take-turn .ensures) in
+    let args = start .args in
     let step = c .before .before .b-step in
-    let test = c .before .before .before .before .before in
     let more = test .before .none-found .ensures .unless (test .if1 .left) in
     stepped-on (columnsOf (args .left-a .now) (args .left-b .now) (args .lengths .now) (args .reversed .now))
     (args .capacity) _ (args .cuts) next (turned-less was next turned more) (step .result) (step .ensures)
@@ -155,7 +163,8 @@ b-step-add-most t c = search needs
 
 b-step-take-turn-requires : (t : ℕ) → b-step-lts.Need-take-turn-requires (b-step-calls t) (b-step-at t) b-step.Post
 b-step-take-turn-requires t c κs =
-    let pre = c .before .before .before .before .before .before .before .before .pre .1 in
+    let start : b-step-lts.Start (b-step-calls t) (b-step-at t) b-step.Post = search in
+    let pre = start .pre .1 in
     (fit-other (pre .0), (turn-ready B (pre .1), pre .1 .few B))
 
 b-step-enum-told : (t : ℕ) → b-step-lts.Need-enum-told (b-step-calls t) (b-step-at t) b-step.Post
@@ -172,12 +181,13 @@ b-step-same-length t c = search needs
 
 b-step-returns : (t : ℕ) → b-step-lts.Need-returns (b-step-calls t) (b-step-at t) b-step.Post
 b-step-returns t c =
-    let at-call = c .before .before .before .before .before .before .before in
-    let at-start = at-call .before .before .before .before .before .before .before .before .before in
-    let was = at-start .pre .1 .1 in
-    let told = c .before .before .before .hits .given in
-    let next = after B (at-start .args .cuts) (told .0 .1 .0) (told .0 .1 .1 .0) (told .0 .0) in
-    let turned = rw (told .1) at (at-call .take-turn .ensures) in
+    let held : b-step-lts.After-hits (b-step-calls t) (b-step-at t) b-step.Post = search in
+    let called : b-step-lts.After-take-turn (b-step-calls t) (b-step-at t) b-step.Post = search in
+    let start : b-step-lts.Start (b-step-calls t) (b-step-at t) b-step.Post = search in
+    let was = start .pre .1 .1 in
+    let told = held .hits .given in
+    let next = after B (start .args .cuts) (told .0 .1 .0) (told .0 .1 .1 .0) (told .0 .0) in
+    let turned = rw (told .1) at (called .take-turn .ensures) in
     finished A (turned-open was next turned refl) (c .before .none-found .ensures .when (c .if1 .taken))
 
 b-step-same-length-2 : (t : ℕ) → b-step-lts.Need-same-length-2 (b-step-calls t) (b-step-at t) b-step.Post
@@ -185,13 +195,15 @@ b-step-same-length-2 t c = search needs
 
 b-step-returns-2 : (t : ℕ) → b-step-lts.Need-returns-2 (b-step-calls t) (b-step-at t) b-step.Post
 b-step-returns-2 t c =
-    let at-call = c .before .before .before .before .before .before .before .before in
-    let at-start = at-call .before .before .before .before .before .before .before .before .before in
-    let was = at-start .pre .1 .1 in
-    let told = c .before .before .before .before .hits .given in
-    let next = after B (at-start .args .cuts) (told .0 .1 .0) (told .0 .1 .1 .0) (told .0 .0) in
-    let turned = rw (told .1) at (at-call .take-turn .ensures) in
-    let more = c .before .before .none-found .ensures .unless (c .before .if1 .left) in
+    let test = c .before in
+    let held : b-step-lts.After-hits (b-step-calls t) (b-step-at t) b-step.Post = search in
+    let called : b-step-lts.After-take-turn (b-step-calls t) (b-step-at t) b-step.Post = search in
+    let start : b-step-lts.Start (b-step-calls t) (b-step-at t) b-step.Post = search in
+    let was = start .pre .1 .1 in
+    let told = held .hits .given in
+    let next = after B (start .args .cuts) (told .0 .1 .0) (told .0 .1 .1 .0) (told .0 .0) in
+    let turned = rw (told .1) at (called .take-turn .ensures) in
+    let more = test .before .none-found .ensures .unless (test .if1 .left) in
     (turned-open was next turned refl, turned-less was next turned more)
 
 b-step-sub-a-step : (t : ℕ) → b-step-lts.Need-sub-a-step (b-step-calls t) (b-step-at t) b-step.Post
@@ -199,15 +211,17 @@ b-step-sub-a-step t c = search needs
 
 b-step-a-step-requires : (t : ℕ) → b-step-lts.Need-a-step-requires (b-step-calls t) (b-step-at t) b-step.Post
 b-step-a-step-requires t c κs =
-    let at-call = c .before .before .before .before .before .before .before .before .before in
-    let at-start = at-call .before .before .before .before .before .before .before .before .before in
-    let was = at-start .pre .1 .1 in
-    let told = c .before .before .before .before .before .hits .given in
-    let next = after B (at-start .args .cuts) (told .0 .1 .0) (told .0 .1 .1 .0) (told .0 .0) in
-    let turned = rw (told .1) at (at-call .take-turn .ensures) in
-    let more = c .before .before .before .none-found .ensures .unless (c .before .before .if1 .left) in (
-      omega (arith, at-start .pre .0, turned-less was next turned more),
-      (at-start .pre .1 .0, turned-open was next turned refl),
+    let test = c .before .before in
+    let held : b-step-lts.After-hits (b-step-calls t) (b-step-at t) b-step.Post = search in
+    let called : b-step-lts.After-take-turn (b-step-calls t) (b-step-at t) b-step.Post = search in
+    let start : b-step-lts.Start (b-step-calls t) (b-step-at t) b-step.Post = search in
+    let was = start .pre .1 .1 in
+    let told = held .hits .given in
+    let next = after B (start .args .cuts) (told .0 .1 .0) (told .0 .1 .1 .0) (told .0 .0) in
+    let turned = rw (told .1) at (called .take-turn .ensures) in
+    let more = test .before .none-found .ensures .unless (test .if1 .left) in (
+      omega (arith, start .pre .0, turned-less was next turned more),
+      (start .pre .1 .0, turned-open was next turned refl),
     )
 
 b-step-same-length-3 : (t : ℕ) → b-step-lts.Need-same-length-3 (b-step-calls t) (b-step-at t) b-step.Post
@@ -215,24 +229,26 @@ b-step-same-length-3 t c = search needs
 
 b-step-returns-3 : (t : ℕ) → b-step-lts.Need-returns-3 (b-step-calls t) (b-step-at t) b-step.Post
 b-step-returns-3 t c =
-    let at-call = c .before .before .before .before in
-    let pre = at-call .before .before .before .before .before .before .before .before .before .pre .1 in
-    too-many (pre .1) (pre .0) (rw (c .enum-told .given .1) at (at-call .take-turn .ensures))
+    let called : b-step-lts.After-take-turn (b-step-calls t) (b-step-at t) b-step.Post = search in
+    let start : b-step-lts.Start (b-step-calls t) (b-step-at t) b-step.Post = search in
+    let pre = start .pre .1 in
+    too-many (pre .1) (pre .0) (rw (c .enum-told .given .1) at (called .take-turn .ensures))
 
 b-step-same-length-4 : (t : ℕ) → b-step-lts.Need-same-length-4 (b-step-calls t) (b-step-at t) b-step.Post
 b-step-same-length-4 t c = search needs
 
 b-step-returns-4 : (t : ℕ) → b-step-lts.Need-returns-4 (b-step-calls t) (b-step-at t) b-step.Post
 b-step-returns-4 t c =
-    let at-call = c .before .before .before .before .before .before .before .before .before .before .before .before in
-    let at-start = at-call .before .before .before .before .before .before .before .before .before in
-    let was = at-start .pre .1 .1 in
-    let told = c .before .before .before .before .before .before .before .before .hits .given in
-    let next = after B (at-start .args .cuts) (told .0 .1 .0) (told .0 .1 .1 .0) (told .0 .0) in
-    let turned = rw (told .1) at (at-call .take-turn .ensures) in
-    let args = at-start .args in
+    let test : b-step-lts.Else1 (b-step-calls t) (b-step-at t) b-step.Post = search in
+    let held : b-step-lts.After-hits (b-step-calls t) (b-step-at t) b-step.Post = search in
+    let called : b-step-lts.After-take-turn (b-step-calls t) (b-step-at t) b-step.Post = search in
+    let start : b-step-lts.Start (b-step-calls t) (b-step-at t) b-step.Post = search in
+    let was = start .pre .1 .1 in
+    let told = held .hits .given in
+    let next = after B (start .args .cuts) (told .0 .1 .0) (told .0 .1 .1 .0) (told .0 .0) in
+    let turned = rw (told .1) at (called .take-turn .ensures) in
+    let args = start .args in
     let step = c .before .before .a-step in
-    let test = c .before .before .before .before .before in
     let more = test .before .none-found .ensures .unless (test .if1 .left) in
     stepped-on (columnsOf (args .left-a .now) (args .left-b .now) (args .lengths .now) (args .reversed .now))
     (args .capacity) _ (args .cuts) next (turned-less was next turned more) (step .result) (step .ensures)
