@@ -1,14 +1,13 @@
 -- One turn, whichever side's: what holds between two steps holds again, for the other side.
 --     too-many             where the worker answers "too many", every resolved refinement exceeds the capacity
 --     turn-ready           what the worker is given
---     after                the cuts after a turn
---     turned-open          after a turn, Open with the other side next
---     turned-less          and fewer unused places, if that side has newly found cuts
+--     turn-told            after a turn, Open with the other side next, and fewer unused places, if that side has newly
+--                          found cuts
 --     finished             no side has any: that is the answer Done
 --     stepped-on           a step that goes on with a step
 -- Assumes nothing.
 use Prim.Native.Nat.{ℕ, _+_, _-_, _*_, _≤_, _<_}
-use mathlib.Core.Path.{_≡_, sym, ap, subst, _∙_}
+use mathlib.Core.Path.{_≡_, refl, sym, ap, subst, _∙_}
 use mathlib.Core.Logic.{_↔_, ⊎-elim, _≢_}
 use mathlib.Core.List.{List, _++_, List·Memᴰ·append-cases, Memᴰ·append-left, Memᴰ·append-right}
 use native.Mathlib.Omega.{arith}
@@ -25,7 +24,8 @@ use Rattle.runs.proofs.Membership.{in-parts}
 use Rattle.refining.specs.Columns.{Columns, seenFrom, countOf, Fit, matchAt, matchesOf}
 use Rattle.refining.specs.Refining.{heldIn}
 use Rattle.carrying_match.specs.OneMatch.{before, behind, Ready, TooMuch, crowded, excess}
-use Rattle.carrying_cuts.specs.Worker.{Images, hitsOver, Listed, Turned, TurnedTooMany}
+use Rattle.carrying_cuts.specs.Worker.{Images, hitsOver, Listed, Turned, TurnedTooMany, Turning}
+use Rattle.carrying_cuts.specs.declared.Turn.{Turn}
 use Rattle.stepping.specs.Engine.{at, CutOn, setOn, hitsAt, Counted, Open, unused, Stepped}
 use Rattle.refining.specs.Demands.{EveryExceeds}
 use Rattle.stepping.specs.declared.Cuts.{Cuts}
@@ -46,7 +46,7 @@ back P A p = p
 back P B p = p
 
 -- the cuts after a turn of the side
-abbrev pub after : Side → Cuts → CutSet → CutSet → ℕ → Cuts
+abbrev after : Side → Cuts → CutSet → CutSet → ℕ → Cuts
 after A c from to hits = record { a = from; b = to; «hits_a» = hits; «hits_b» = c .«hits_b» }
 after B c from to hits = record { a = to; b = from; «hits_a» = c .«hits_a»; «hits_b» = hits }
 
@@ -212,7 +212,7 @@ module _ {columns : Columns} {cap : ℕ} {xs : List ℕ} {c : Cuts} {s : Side}
             hits-are = same ∙ k .hits-are;
           }
 
-      pub turned-open : hitsAt (other s) c′ ≡ hitsAt (other s) c → Open columns cap ys c′ (other s)
+      turned-open : hitsAt (other s) c′ ≡ hitsAt (other s) c → Open columns cap ys c′ (other s)
       turned-open same = record {
         good = both (λ u. Good ys (setOn u c′)) s (t .from-kept .kept .good) (t .stored .good);
         a-base = base-same A ∙ o .a-base;
@@ -228,11 +228,22 @@ module _ {columns : Columns} {cap : ℕ} {xs : List ℕ} {c : Cuts} {s : Side}
         few = both (λ u. hitsAt u c′ ≤ cap + countOf columns) s (t .few) (omega (arith, o .few (other s)));
       }
 
-      pub turned-less : ¬ (setOn (other s) c′ .done ≡ setOn (other s) c′ .used) → unused c′ < unused c
+      turned-less : ¬ (setOn (other s) c′ .done ≡ setOn (other s) c′ .used) → unused c′ < unused c
       turned-less more =
           let g = t .stored .good in
           less-unused s c c′ limit-same (t .from-kept .kept .used-same)
           (omega (arith, more, o .settled, t .stored .done-same, g .found-long .order, g .found-short .order)) (g .room)
+
+-- what a turn is for the step that took it, where the worker told the cuts
+module _ {columns : Columns} {cap : ℕ} {xs ys : List ℕ} {c : Cuts} {answer : Turn} {from to : CutSet} {hits : ℕ}
+    (told : answer ≡ Turn.Carried hits from to) where
+  pub turn-told :
+      (s : Side) → Open columns cap xs c s
+      → Turning (seenFrom s columns) xs (setOn s c) (setOn (other s) c) (hitsAt s c) (cap + countOf columns) ys answer
+      → Open columns cap ys (after s c from to hits) (other s)
+      × (¬ NothingFound to → unused (after s c from to hits) < unused c)
+  turn-told A o h = let t = rw told at h in (turned-open o _ t refl, turned-less o (after A c from to hits) t)
+  turn-told B o h = let t = rw told at h in (turned-open o _ t refl, turned-less o (after B c from to hits) t)
 
 pub turn-ready :
     {columns : Columns} {cap : ℕ} {xs : List ℕ} {c : Cuts} (s : Side) → Open columns cap xs c s

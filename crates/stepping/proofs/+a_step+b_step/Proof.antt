@@ -1,7 +1,6 @@
 -- The proof of the cycle of calls {a_step, b_step}. Each one's measure is the number of unused places. Both go through
 -- the one law of a turn, for A and for B. Assumes nothing.
 use Prim.Native.Nat.{ℕ, _<_}
-use mathlib.Core.Path.{refl}
 use native.Mathlib.Omega.{arith}
 use borrow.Author.Needs.{needs}
 use borrow.Fn.Kinds.{In}
@@ -10,7 +9,7 @@ use Rattle.refinement.specs.declared.Side.the-variants.{A, B}
 use Rattle.refining.specs.Columns.{columnsOf}
 use Rattle.stepping.specs.Engine.{unused}
 use Rattle.stepping.proofs.Indexed.{fit-other}
-use Rattle.stepping.proofs.Stepping.{after, too-many, turn-ready, turned-open, turned-less, finished, stepped-on}
+use Rattle.stepping.proofs.Stepping.{too-many, turn-ready, turn-told, finished, stepped-on}
 use Rattle.stepping.proofs.a_step.Reads as a-step
 use Rattle.stepping.proofs.a_step.Kinds as a-step-kinds
 use Rattle.stepping.proofs.+a_step+b_step.Lts-a_step as a-step-lts
@@ -89,11 +88,8 @@ a-step-returns t c =
     let held : a-step-lts.After-hits (a-step-calls t) (a-step-at t) a-step.Post = search in
     let called : a-step-lts.After-take-turn (a-step-calls t) (a-step-at t) a-step.Post = search in
     let start : a-step-lts.Start (a-step-calls t) (a-step-at t) a-step.Post = search in
-    let was = start .pre .1 .1 in
-    let told = held .hits .given in
-    let next = after A (start .args .cuts) (told .0 .1 .0) (told .0 .1 .1 .0) (told .0 .0) in
-    let turned = rw (told .1) at (called .take-turn .ensures) in
-    finished B (turned-open was next turned refl) (c .before .none-found .ensures .when (c .if1 .taken))
+    let went = turn-told (held .hits .given .1) A (start .pre .1 .1) (called .take-turn .ensures) in
+    finished B (went .0) (c .before .none-found .ensures .when (c .if1 .taken))
 
 a-step-same-length-2 : (t : ℕ) → a-step-lts.Need-same-length-2 (a-step-calls t) (a-step-at t) a-step.Post
 a-step-same-length-2 t c = search needs
@@ -104,12 +100,9 @@ a-step-returns-2 t c =
     let held : a-step-lts.After-hits (a-step-calls t) (a-step-at t) a-step.Post = search in
     let called : a-step-lts.After-take-turn (a-step-calls t) (a-step-at t) a-step.Post = search in
     let start : a-step-lts.Start (a-step-calls t) (a-step-at t) a-step.Post = search in
-    let was = start .pre .1 .1 in
-    let told = held .hits .given in
-    let next = after A (start .args .cuts) (told .0 .1 .0) (told .0 .1 .1 .0) (told .0 .0) in
-    let turned = rw (told .1) at (called .take-turn .ensures) in
+    let went = turn-told (held .hits .given .1) A (start .pre .1 .1) (called .take-turn .ensures) in
     let more = test .before .none-found .ensures .unless (test .if1 .left) in
-    (turned-open was next turned refl, turned-less was next turned more)
+    (went .0, went .1 more)
 
 a-step-sub-b-step : (t : ℕ) → a-step-lts.Need-sub-b-step (a-step-calls t) (a-step-at t) a-step.Post
 a-step-sub-b-step t c = search needs
@@ -120,13 +113,10 @@ a-step-b-step-requires t c κs =
     let held : a-step-lts.After-hits (a-step-calls t) (a-step-at t) a-step.Post = search in
     let called : a-step-lts.After-take-turn (a-step-calls t) (a-step-at t) a-step.Post = search in
     let start : a-step-lts.Start (a-step-calls t) (a-step-at t) a-step.Post = search in
-    let was = start .pre .1 .1 in
-    let told = held .hits .given in
-    let next = after A (start .args .cuts) (told .0 .1 .0) (told .0 .1 .1 .0) (told .0 .0) in
-    let turned = rw (told .1) at (called .take-turn .ensures) in
+    let went = turn-told (held .hits .given .1) A (start .pre .1 .1) (called .take-turn .ensures) in
     let more = test .before .none-found .ensures .unless (test .if1 .left) in (
-      omega (arith, start .pre .0, turned-less was next turned more),
-      (start .pre .1 .0, turned-open was next turned refl),
+      omega (arith, start .pre .0, went .1 more),
+      (start .pre .1 .0, went .0),
     )
 
 a-step-same-length-3 : (t : ℕ) → a-step-lts.Need-same-length-3 (a-step-calls t) (a-step-at t) a-step.Post
@@ -148,15 +138,12 @@ a-step-returns-4 t c =
     let held : a-step-lts.After-hits (a-step-calls t) (a-step-at t) a-step.Post = search in
     let called : a-step-lts.After-take-turn (a-step-calls t) (a-step-at t) a-step.Post = search in
     let start : a-step-lts.Start (a-step-calls t) (a-step-at t) a-step.Post = search in
-    let was = start .pre .1 .1 in
-    let told = held .hits .given in
-    let next = after A (start .args .cuts) (told .0 .1 .0) (told .0 .1 .1 .0) (told .0 .0) in
-    let turned = rw (told .1) at (called .take-turn .ensures) in
+    let went = turn-told (held .hits .given .1) A (start .pre .1 .1) (called .take-turn .ensures) in
     let args = start .args in
     let step = c .before .before .b-step in
     let more = test .before .none-found .ensures .unless (test .if1 .left) in
     stepped-on (columnsOf (args .left-a .now) (args .left-b .now) (args .lengths .now) (args .reversed .now))
-    (args .capacity) _ (args .cuts) next (turned-less was next turned more) (step .result) (step .ensures)
+    (args .capacity) _ (args .cuts) _ (went .1 more) (step .result) (step .ensures)
 
 b-step-add-most : (t : ℕ) → b-step-lts.Need-add-most (b-step-calls t) (b-step-at t) b-step.Post
 b-step-add-most t c = search needs
@@ -184,11 +171,8 @@ b-step-returns t c =
     let held : b-step-lts.After-hits (b-step-calls t) (b-step-at t) b-step.Post = search in
     let called : b-step-lts.After-take-turn (b-step-calls t) (b-step-at t) b-step.Post = search in
     let start : b-step-lts.Start (b-step-calls t) (b-step-at t) b-step.Post = search in
-    let was = start .pre .1 .1 in
-    let told = held .hits .given in
-    let next = after B (start .args .cuts) (told .0 .1 .0) (told .0 .1 .1 .0) (told .0 .0) in
-    let turned = rw (told .1) at (called .take-turn .ensures) in
-    finished A (turned-open was next turned refl) (c .before .none-found .ensures .when (c .if1 .taken))
+    let went = turn-told (held .hits .given .1) B (start .pre .1 .1) (called .take-turn .ensures) in
+    finished A (went .0) (c .before .none-found .ensures .when (c .if1 .taken))
 
 b-step-same-length-2 : (t : ℕ) → b-step-lts.Need-same-length-2 (b-step-calls t) (b-step-at t) b-step.Post
 b-step-same-length-2 t c = search needs
@@ -199,12 +183,9 @@ b-step-returns-2 t c =
     let held : b-step-lts.After-hits (b-step-calls t) (b-step-at t) b-step.Post = search in
     let called : b-step-lts.After-take-turn (b-step-calls t) (b-step-at t) b-step.Post = search in
     let start : b-step-lts.Start (b-step-calls t) (b-step-at t) b-step.Post = search in
-    let was = start .pre .1 .1 in
-    let told = held .hits .given in
-    let next = after B (start .args .cuts) (told .0 .1 .0) (told .0 .1 .1 .0) (told .0 .0) in
-    let turned = rw (told .1) at (called .take-turn .ensures) in
+    let went = turn-told (held .hits .given .1) B (start .pre .1 .1) (called .take-turn .ensures) in
     let more = test .before .none-found .ensures .unless (test .if1 .left) in
-    (turned-open was next turned refl, turned-less was next turned more)
+    (went .0, went .1 more)
 
 b-step-sub-a-step : (t : ℕ) → b-step-lts.Need-sub-a-step (b-step-calls t) (b-step-at t) b-step.Post
 b-step-sub-a-step t c = search needs
@@ -215,13 +196,10 @@ b-step-a-step-requires t c κs =
     let held : b-step-lts.After-hits (b-step-calls t) (b-step-at t) b-step.Post = search in
     let called : b-step-lts.After-take-turn (b-step-calls t) (b-step-at t) b-step.Post = search in
     let start : b-step-lts.Start (b-step-calls t) (b-step-at t) b-step.Post = search in
-    let was = start .pre .1 .1 in
-    let told = held .hits .given in
-    let next = after B (start .args .cuts) (told .0 .1 .0) (told .0 .1 .1 .0) (told .0 .0) in
-    let turned = rw (told .1) at (called .take-turn .ensures) in
+    let went = turn-told (held .hits .given .1) B (start .pre .1 .1) (called .take-turn .ensures) in
     let more = test .before .none-found .ensures .unless (test .if1 .left) in (
-      omega (arith, start .pre .0, turned-less was next turned more),
-      (start .pre .1 .0, turned-open was next turned refl),
+      omega (arith, start .pre .0, went .1 more),
+      (start .pre .1 .0, went .0),
     )
 
 b-step-same-length-3 : (t : ℕ) → b-step-lts.Need-same-length-3 (b-step-calls t) (b-step-at t) b-step.Post
@@ -243,15 +221,12 @@ b-step-returns-4 t c =
     let held : b-step-lts.After-hits (b-step-calls t) (b-step-at t) b-step.Post = search in
     let called : b-step-lts.After-take-turn (b-step-calls t) (b-step-at t) b-step.Post = search in
     let start : b-step-lts.Start (b-step-calls t) (b-step-at t) b-step.Post = search in
-    let was = start .pre .1 .1 in
-    let told = held .hits .given in
-    let next = after B (start .args .cuts) (told .0 .1 .0) (told .0 .1 .1 .0) (told .0 .0) in
-    let turned = rw (told .1) at (called .take-turn .ensures) in
+    let went = turn-told (held .hits .given .1) B (start .pre .1 .1) (called .take-turn .ensures) in
     let args = start .args in
     let step = c .before .before .a-step in
     let more = test .before .none-found .ensures .unless (test .if1 .left) in
     stepped-on (columnsOf (args .left-a .now) (args .left-b .now) (args .lengths .now) (args .reversed .now))
-    (args .capacity) _ (args .cuts) next (turned-less was next turned more) (step .result) (step .ensures)
+    (args .capacity) _ (args .cuts) _ (went .1 more) (step .result) (step .ensures)
 
 pub +a-step+b-step-spec : {M : Type 1} → statement M
 +a-step+b-step-spec =
