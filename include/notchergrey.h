@@ -52,17 +52,22 @@ enum notchergrey_refusal {
     NOTCHERGREY_TOO_MANY_PIECES = 12,     /* every resolved refinement has more pieces than the table has rows */
     NOTCHERGREY_NO_SUCH_MATCH = 13,       /* the match number is 0 or above the count of matches */
     NOTCHERGREY_OFF_THE_MATCH = 14,       /* the position is outside the match on its side */
-    NOTCHERGREY_BUFFER_TOO_SHORT = 16     /* the text does not fit into its buffer */
+    NOTCHERGREY_MALFORMED_RECORDS = 15,   /* the numbers are no multiple of four, or a direction is above 1 */
+    NOTCHERGREY_BUFFER_TOO_SHORT = 16     /* the script, the records or the text do not fit into their buffer */
 };
 
 /* A row of a table: match number, left-A, left-B, length, direction (0 direct, 1 reversed). */
 #define NOTCHERGREY_ROW_NUMBERS 5
 /* The numbers of work that refining needs for each row that the table has room for. */
 #define NOTCHERGREY_WORK_NUMBERS 4
+/* A match in a list: left-A, left-B, length, direction (0 direct, 1 reversed). */
+#define NOTCHERGREY_RECORD_NUMBERS 4
 /* The classes of lengths that a summary counts. */
 #define NOTCHERGREY_CLASSES 30
 /* No longer script is admitted, and the first 26,635 bytes of a longer one decide how it is refused. */
 #define NOTCHERGREY_LONGEST_SCRIPT 26634
+/* The bytes of a script with so many matches. */
+#define NOTCHERGREY_SCRIPT_BYTES(matches) (10 + 13 * (matches))
 
 /*
  * Reads a script. Returns 0 and sets p, q and the count of matches, or refuses with 1 to 10.
@@ -76,6 +81,26 @@ uint32_t notchergrey_read(const uint8_t *script, size_t script_len, size_t *plac
  */
 uint32_t notchergrey_match(const uint8_t *script, size_t script_len, uint32_t number, size_t *place, uint32_t *left_a,
                            uint32_t *left_b, uint32_t *length, uint32_t *reversed);
+
+/*
+ * Writes the script of a list: p, q and the matches, a record of four numbers for each: left-A, left-B, length and
+ * direction (0 direct, 1 reversed). Returns 0, writes the script to the start of its buffer and sets `length` to its
+ * length, which is NOTCHERGREY_SCRIPT_BYTES of the count of records; the bytes behind it are kept. All records are
+ * judged before a byte is written. Refuses, in this order, with 5; 15 if records_len is no multiple of four; 6; then
+ * record by record with 15 for its direction, 7, 8 or 9, where `place` becomes the record, counted from 1; and last of
+ * all with 16 if the buffer is too short. For 5, 6, 16, and 15 for records_len, `place` becomes 0.
+ */
+uint32_t notchergrey_write(uint32_t p, uint32_t q, const uint32_t *records, size_t records_len, uint8_t *script,
+                           size_t script_len, size_t *place, size_t *length);
+
+/*
+ * The list of a script, as notchergrey_write takes it. Returns 0, sets p, q and the count of matches and writes their
+ * records, 4 * count numbers, to the start of the buffer; the numbers behind them are kept. Refuses with 1 to 10 as
+ * notchergrey_read does, or with 16 if the buffer is too short. Each of the two undoes the other: the script of these
+ * records is this script, byte for byte.
+ */
+uint32_t notchergrey_read_records(const uint8_t *script, size_t script_len, uint32_t *records, size_t records_len,
+                                  size_t *place, uint32_t *p, uint32_t *q, size_t *count);
 
 /*
  * Makes the piece table of a script. The table has room for table_len / 5 rows; work needs four numbers for each of

@@ -27,6 +27,28 @@ extern "C" {
         reversed: *mut u32,
     ) -> u32;
 
+    pub fn notchergrey_write(
+        p: u32,
+        q: u32,
+        records: *const u32,
+        records_len: usize,
+        script: *mut u8,
+        script_len: usize,
+        place: *mut usize,
+        length: *mut usize,
+    ) -> u32;
+
+    pub fn notchergrey_read_records(
+        script: *const u8,
+        script_len: usize,
+        records: *mut u32,
+        records_len: usize,
+        place: *mut usize,
+        p: *mut u32,
+        q: *mut u32,
+        count: *mut usize,
+    ) -> u32;
+
     pub fn notchergrey_refine(
         script: *const u8,
         script_len: usize,

@@ -1,6 +1,7 @@
 // Doors for C and Rust: plain functions over the library, prefix notchergrey_. Each returns 0 or the refusal's number
 // and hands the rest out through pointers. Like a call of the library, a refused one alters no lent number but `place`.
 // The doors on tables refuse nothing.
+use commands::bit;
 use match_rows::span_of;
 use reader::find::find_match;
 use refinement::Side;
@@ -14,20 +15,13 @@ use script::Verdict;
 use summary::sum_up;
 use table::CLASSES;
 ghost use mathlib.Core.Path.{_≡_};
-ghost use Rattle.doors.specs.Doors.{bitOf, readDoor, matchDoor, refineDoor, carryDoor, carryFromA, carryFromB};
+ghost use Rattle.doors.specs.Doors.{readDoor, matchDoor, refineDoor, carryDoor, carryFromA, carryFromB};
 ghost use Rattle.doors.specs.Doors.{rowsDoor, summaryDoor, reportDoor};
 ghost use Rattle.refining.specs.Refining.{refiningOf};
 ghost use Rattle.reporting.specs.Reporting.{reportingOf};
 
 // The number that a request after 01 gives a lent buffer that is too short; 01 itself has none for it.
 const TOO_SHORT: u32 = 16;
-
-// 01's number for a direction: 0 direct, 1 reversed.
-fn bit(reversed: bool) -> u32
-    ensures { λ r. ⌜ r ≡ bitOf reversed ⌝ }
-{
-    if reversed { 1 } else { 0 }
-}
 
 // Reads a script: p, q and the count of matches.
 #[no_mangle]

@@ -8,7 +8,7 @@ ghost use mathlib.Core.Bool.{_||_};
 ghost use Prim.Native.Nat.{_+_, _<_, _≤_};
 ghost use lib.Dec.{eqb};
 ghost use lib.ListN.{length};
-ghost use Rattle.script.specs.Commands.{matchWidth, numberAt, commandOf, lengthsOf, fieldsOf, matchOf, endOf};
+ghost use Rattle.script.specs.Commands.{matchWidth, numberAt, commandOf, lengthsOf, fieldsOf, matchOf, endOf, bitOf};
 
 fn wide(byte: u8) -> u32
     ensures { λ r. ⌜ (r ≡ byte) × (r < 256) ⌝ }
@@ -82,6 +82,13 @@ pub fn is_reversed(code: u8) -> bool
     ensures { λ r. ⌜ r ≡ eqb code 0x52 ⌝ }
 {
     code == 0x52
+}
+
+// A direction as a number: 0 direct, 1 reversed.
+pub fn bit(reversed: bool) -> u32
+    ensures { λ r. ⌜ r ≡ bitOf reversed ⌝ }
+{
+    if reversed { 1 } else { 0 }
 }
 
 // The command at the start of a remainder.

@@ -5,20 +5,18 @@
 --     number-some      no refusal has the number 0
 --     success-heard, refusal-heard of what the doors on scripts share
 --     read-heard, match-heard, refine-heard, carry-heard     of each of these doors
---     bit-heard                    the number of a direction tells the direction
 --     rows-heard, summary-heard    of the doors on tables
 --     report-heard                 of the door for the text
 -- That carrying from one side undoes carrying from the other: proofs/Carrying. Assumes nothing.
 use Prim.Native.Nat.{ℕ, zero, suc, _-_, _≤_}
 use mathlib.Core.Path.{_≡_, refl}
 use mathlib.Core.Logic.{_↔_, _≢_}
-use mathlib.Core.Bool.{Bool, true, false}
 use mathlib.Core.List.{List, _++_}
 use native.Mathlib.Omega.{arith}
 use native.Mathlib.Decide.{decLe}
 use borrow.Author.Tests.{lt-ltb, le-ltb}
-use lib.Dec.{eqb}
 use lib.ListN.{length, take, drop}
+use Rattle.script.specs.Commands.{bitOf}
 use Rattle.script.specs.Refusals.{numberOf, placeOf}
 use Rattle.script.specs.Reading.{Reading, admitted, refused, readScript, verdictOf}
 use Rattle.script.specs.Finding.{findingOf}
@@ -33,7 +31,7 @@ use Rattle.refining.specs.declared.answers.Carried.{Carried}
 use Rattle.reporting.specs.Reporting.{reportOf, reportingOfText, reportingOf}
 use Rattle.table.specs.Finding.{sizeOf, partOf}
 use Rattle.table.specs.Summing.{summaryOf}
-use Rattle.doors.specs.Doors.{Reply, gives, refuses, door, Read, ofReading, readDoor, bitOf, OneMatch, ofFinding}
+use Rattle.doors.specs.Doors.{Reply, gives, refuses, door, Read, ofReading, readDoor, OneMatch, ofFinding}
 use Rattle.doors.specs.Doors.{matchDoor, ofRefined, refineDoor, ofCarried, carryDoor, carryFromA, carryFromB}
 use Rattle.doors.specs.Doors.{rowsDoor, summaryDoor, ReportReply, ofReported, reportDoor}
 
@@ -77,6 +75,8 @@ number-some Refusal.WorkTooShort = omega arith
 number-some Refusal.TooManyPieces = omega arith
 number-some Refusal.NoSuchMatch = omega arith
 number-some Refusal.OffTheMatch = omega arith
+number-some (Refusal.MalformedRecords at) = omega arith
+number-some Refusal.BufferTooShort = omega arith
 
 some-heard : {X : Type 0} (n place : ℕ) (x : X) → 1 ≤ n → heardBy n place x ≡ failure n place
 some-heard zero place x h = absurd (omega arith)
@@ -109,10 +109,6 @@ read-heard script place was = go (readScript script)
     go : (a : Reading) → Hears place was (verdictHeard (verdictOf a)) (door (ofReading a) place was)
     go (admitted p q ms) = success-heard place was _
     go (refused r) = refusal-heard place was r
-
-bit-heard : (b : Bool) → eqb (bitOf b) 1 ≡ b
-bit-heard true = refl
-bit-heard false = refl
 
 -- the match that is found
 abbrev findingHeard : Finding → Heard OneMatch

@@ -7,9 +7,9 @@
 --     reportDoor       the door for the text
 -- `place` and `was` stood behind the pointers before the call. Assumes nothing.
 use Prim.Native.Nat.{ℕ}
-use mathlib.Core.Bool.{Bool, true, false}
 use mathlib.Core.List.{List}
 use lib.ListN.{length}
+use Rattle.script.specs.Commands.{bitOf}
 use Rattle.script.specs.Refusals.{numberOf, placeOf}
 use Rattle.script.specs.Reading.{Reading, admitted, refused, readScript}
 use Rattle.script.specs.Finding.{findingOf}
@@ -65,11 +65,6 @@ abbrev pub readDoor : List ℕ → ℕ → Read → Reply Read
 readDoor script place was = door (ofReading (readScript script)) place was
 
 -- ---- one match
-
--- SCOPE, "Rows": 0 for direct, 1 for reversed
-abbrev pub bitOf : Bool → ℕ
-bitOf true = 1
-bitOf false = 0
 
 -- behind left_a, left_b, length and reversed
 pub record OneMatch : Type 0 where

@@ -4,11 +4,13 @@ use script::command::Command;
 use script::command::Match;
 use script::limits::LONGEST;
 use script::limits::MOST_MATCHES;
+use script::step::Judgement;
 use script::step::Opening;
 use script::step::Step;
 ghost use mathlib.Core.Path.{_≡_};
 ghost use Prim.Native.Nat.{_<_};
-ghost use Rattle.script.specs.Steps.{inRange, lengthsStep, openingOf, matchStep, cutShortStep, stepOf};
+ghost use Rattle.script.specs.Steps.{inRange, lengthsStep, openingOf};
+ghost use Rattle.script.specs.Steps.{matchJudgement, matchStep, cutShortStep, stepOf};
 
 // Whether a sequence may have this many letters.
 fn in_range(letters: u32) -> bool
@@ -17,8 +19,8 @@ fn in_range(letters: u32) -> bool
     0 < letters && letters <= LONGEST
 }
 
-// Lengths with both operands.
-fn judge_lengths(p: u32, q: u32) -> Opening
+// The two lengths, of a script or of a list.
+pub fn judge_lengths(p: u32, q: u32) -> Opening
     ensures { λ r. ⌜ r ≡ lengthsStep p q ⌝ }
 {
     if !in_range(p) {
@@ -46,23 +48,33 @@ pub fn judge_opening(command: Command) -> Opening
     }
 }
 
-// A whole match: 6, 7, 8, 9. The sums are taken in 64 bits, where they cannot wrap.
+// The numbers of a match, of a script or of a list: 7, 8, 9. The sums are taken in 64 bits, where they cannot wrap.
+pub fn judge_numbers(found: Match, p: u32, q: u32, place: usize) -> Judgement
+    ensures { λ r. ⌜ r ≡ matchJudgement p q place found ⌝ }
+{
+    if found.length == 0 {
+        return Judgement::Faulty(Refusal::EmptyMatch(place));
+    }
+    if (p as u64) < found.left_a as u64 + found.length as u64 {
+        return Judgement::Faulty(Refusal::BeyondA(place));
+    }
+    if (q as u64) < found.left_b as u64 + found.length as u64 {
+        return Judgement::Faulty(Refusal::BeyondB(place));
+    }
+    Judgement::Sound
+}
+
+// A whole match: 6, then its numbers.
 fn judge_match(found: Match, p: u32, q: u32, count: usize, at: usize) -> Step
     ensures { λ r. ⌜ r ≡ matchStep p q count at found ⌝ }
 {
     if MOST_MATCHES <= count {
         return Step::Refuse(Refusal::TooManyMatches(at));
     }
-    if found.length == 0 {
-        return Step::Refuse(Refusal::EmptyMatch(at));
+    match judge_numbers(found, p, q, at) {
+        Judgement::Sound => Step::Take(found),
+        Judgement::Faulty(refusal) => Step::Refuse(refusal),
     }
-    if (p as u64) < found.left_a as u64 + found.length as u64 {
-        return Step::Refuse(Refusal::BeyondA(at));
-    }
-    if (q as u64) < found.left_b as u64 + found.length as u64 {
-        return Step::Refuse(Refusal::BeyondB(at));
-    }
-    Step::Take(found)
 }
 
 // A match whose operands are incomplete: 6, 3.

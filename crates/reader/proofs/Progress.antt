@@ -26,7 +26,7 @@ use Rattle.script.specs.declared.step.Step.{Step}
 use Rattle.script.specs.declared.Verdict.{Verdict}
 use Rattle.script.proofs.Seen.{Seen, seen}
 use Rattle.script.proofs.Outcome.{reach-ends, opening-at}
-use Rattle.script.proofs.Judged.{Judged, judged, short-room, short-full, Opens, opens}
+use Rattle.script.proofs.Judged.{Weighed, Judged, judged, short-room, short-full, Opens, opens}
 
 pub rest-drop : (s : List ℕ) (at : ℕ) → take (length s - at) (drop at s) ≡ drop at s
 rest-drop s at = take-all (length s - at) (drop at s) (omega (arith, length-drop at s))
@@ -42,10 +42,10 @@ Next P (Step.Take m) = P m
 match-next : {s : List ℕ} {p q at : ℕ} {ms : List Match} {m : Match} {t : Step} → Reach s p q at ms → MatchAt s at m
     → Judged p q (length ms) at m t → Next (λ n. Reach s p q (at + matchWidth) (ms ++ n ∷ [])) t
 match-next r d (Judged.too-many _) = tt
-match-next r d (Judged.empty _ _) = tt
-match-next r d (Judged.beyond-a _ _ _) = tt
-match-next r d (Judged.beyond-b _ _ _ _) = tt
-match-next r d (Judged.good room w) = taken r room d w
+match-next r d (Judged.room _ (Weighed.empty _)) = tt
+match-next r d (Judged.room _ (Weighed.beyond-a _ _)) = tt
+match-next r d (Judged.room _ (Weighed.beyond-b _ _ _)) = tt
+match-next r d (Judged.room room (Weighed.sound w)) = taken r room d w
 
 step-next : {s : List ℕ} {p q at : ℕ} {ms : List Match} {c : Command} → Reach s p q at ms → Seen s at c
     → Next (λ n. Reach s p q (at + matchWidth) (ms ++ n ∷ [])) (stepOf p q (length ms) at c)

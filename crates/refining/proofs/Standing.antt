@@ -5,20 +5,23 @@
 -- Assumes nothing.
 use Prim.Native.Nat.{ℕ, suc, _*_}
 use mathlib.Core.Path.{_≡_, refl, sym, ap, ap₂, _∙_}
-use mathlib.Core.Bool.{Bool, true, false}
+use mathlib.Core.Bool.{Bool}
 use mathlib.Core.Logic.{⊎-elim}
 use mathlib.Core.List.{List, [], _∷_, map, List·Memᴰ·cases-cons, List·Memᴰ·not-nil}
 use mathlib.Core.List.{List·Memᴰ·head as here, List·Memᴰ·tail as there}
 use native.Mathlib.Omega.{arith}
+use lib.Dec.{eqb}
 use lib.ListN.{length, length-map}
+use Rattle.script.specs.Commands.{bitOf}
 use Rattle.script.specs.declared.command.Match.{Match as ScriptMatch}
+use Rattle.script.proofs.Laws.{bit-told}
 use Rattle.rows.specs.Rows.{rowWidth, numbersOf}
 use Rattle.rows.proofs.Numbers.{numbers-length}
 use Rattle.refinement.specs.declared.Side.the-variants.{A, B}
 use Rattle.refinement.specs.Order.{_∈_}
 use Rattle.refinement.specs.Match.{Match}
 use Rattle.refinement.specs.Refinement.{Refines}
-use Rattle.refining.specs.Rows.{direction, rowOfPiece, pieceNumbers}
+use Rattle.refining.specs.Rows.{rowOfPiece, pieceNumbers}
 use Rattle.refining.specs.Refining.{numbered, Given}
 use Rattle.refining.specs.Demands.{Admitted, reads, Stand}
 
@@ -47,11 +50,8 @@ rows-ab a R r i =
     let m = admitted-ab a (p .1) in
     record { on-a = p .2 .same-track A ∙ m .on-a; on-b = p .2 .same-track B ∙ m .on-b }
 
-direction-inj : (b b′ : Bool) → direction b ≡ direction b′ → b ≡ b′
-direction-inj false false e = refl
-direction-inj false true e = absurd (omega arith)
-direction-inj true false e = absurd (omega arith)
-direction-inj true true e = refl
+direction-inj : (b b′ : Bool) → bitOf b ≡ bitOf b′ → b ≡ b′
+direction-inj b b′ e = sym (bit-told b) ∙ ap (λ (n : ℕ). eqb n 1) e ∙ bit-told b′
 
 numbers-inj :
     (rs rs′ : List Match) → ((r : Match) → r ∈ rs → BetweenAB r) → ((r : Match) → r ∈ rs′ → BetweenAB r)
@@ -67,7 +67,7 @@ numbers-inj (r ∷ rs) (r′ ∷ rs′) h h′ e =
     let leftA : r .leftA ≡ r′ .leftA = cc in
     let leftB : r .leftB ≡ r′ .leftB = cc in
     let letters : r .length ≡ r′ .length = cc in
-    let way : direction (r .reversed) ≡ direction (r′ .reversed) = cc in
+    let way : bitOf (r .reversed) ≡ bitOf (r′ .reversed) = cc in
     let reversed = direction-inj (r .reversed) (r′ .reversed) way in
     let onA = t .on-a ∙ sym (t′ .on-a) in
     let onB = t .on-b ∙ sym (t′ .on-b) in

@@ -5,18 +5,14 @@
 --     piecesCut c run n   the pieces of the first n matches of the columns c
 -- 01, "The table and its buffers". Assumes nothing.
 use Prim.Native.Nat.{ℕ, zero, suc}
-use mathlib.Core.Bool.{Bool, true, false, cond}
+use mathlib.Core.Bool.{cond}
 use mathlib.Core.List.{List, [], _∷_, _++_, map}
+use Rattle.script.specs.Commands.{bitOf}
 use Rattle.rows.specs.Rows.{numbersOf}
 use Rattle.rows.specs.declared.Row.{Row}
 use Rattle.refinement.specs.Match.{Match, spanned}
 use Rattle.refinement.specs.Least.{piecesBetween}
 use Rattle.refining.specs.Columns.{Columns, fromAt, lettersAt, matchAt}
-
--- SCOPE, "Rows": 0 direct, 1 reversed
-abbrev pub direction : Bool → ℕ
-direction false = 0
-direction true = 1
 
 -- SCOPE, "Rows": what a piece puts into each number of its row
 abbrev pub rowOfPiece : Match → Row
@@ -26,7 +22,7 @@ rowOfPiece r =
       «left_a» = r .leftA;
       «left_b» = r .leftB;
       length = r .length;
-      direction = direction (r .reversed);
+      direction = bitOf (r .reversed);
     }
 
 -- what a table of the pieces rs holds

@@ -3,7 +3,7 @@ use script::Refusal;
 ghost use mathlib.Core.Path.{_≡_};
 ghost use Rattle.script.specs.Refusals.{numberOf, placeOf};
 
-// 01's number of a refusal.
+// The number of a refusal: 01's, or that a request gives it.
 pub fn number_of(refusal: Refusal) -> u32
     ensures { λ r. ⌜ r ≡ numberOf refusal ⌝ }
 {
@@ -22,6 +22,8 @@ pub fn number_of(refusal: Refusal) -> u32
         Refusal::TooManyPieces => 12,
         Refusal::NoSuchMatch => 13,
         Refusal::OffTheMatch => 14,
+        Refusal::MalformedRecords(_) => 15,
+        Refusal::BufferTooShort => 16,
     }
 }
 
@@ -44,5 +46,7 @@ pub fn place_of(refusal: Refusal) -> usize
         Refusal::TooManyPieces => 0,
         Refusal::NoSuchMatch => 0,
         Refusal::OffTheMatch => 0,
+        Refusal::MalformedRecords(at) => at,
+        Refusal::BufferTooShort => 0,
     }
 }

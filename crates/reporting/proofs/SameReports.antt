@@ -13,6 +13,7 @@ use mathlib.Core.List.{List, [], _∷_, List·Memᴰ·cases-cons, List·Memᴰ·
 use mathlib.Core.List.{List·Memᴰ·head as here, List·Memᴰ·tail as there}
 use native.Mathlib.Omega.{arith}
 use lib.ListN.{length, take}
+use Rattle.script.specs.Commands.{bitOf}
 use Rattle.script.specs.Refusals.{numberOf, placeOf}
 use Rattle.script.specs.Reading.{Reading, admitted, refused, readScript}
 use Rattle.script.specs.Answers.{value, refusal, contents}
@@ -28,7 +29,7 @@ use Rattle.refinement.specs.Refinement.{Piece}
 use Rattle.refinement.proofs.Theorem.{table-resolved}
 use Rattle.rows.specs.Rows.{rowWidth, rowsOf}
 use Rattle.rows.specs.declared.Row.{Row}
-use Rattle.refining.specs.Rows.{direction, rowOfPiece}
+use Rattle.refining.specs.Rows.{rowOfPiece}
 use Rattle.refining.specs.Refining.{numbered, givenBy, leastOf, Refining, refiningOfMatches}
 use Rattle.refining.specs.Refining.{refiningOfReading, refiningOf}
 use Rattle.refining.specs.declared.answers.Refined.{Refined}
@@ -100,7 +101,7 @@ numbered-fits n (x ∷ ms) h i =
     (λ j. omega (arith, numbered-fits (suc n) ms (λ y k. h y (there k)) j))
     (List·Memᴰ·cases-cons i)
 
-direction-few : (b : Bool) → direction b < 2
+direction-few : (b : Bool) → bitOf b < 2
 direction-few false = omega arith
 direction-few true = omega arith
 

@@ -3,42 +3,19 @@
 --     columns-demand     and of the four
 --     column-filled      a column that is long enough begins with the fields of all matches
 -- Assumes nothing.
-use Prim.Native.Nat.{ℕ, suc, _+_, _≤_, _<_}
-use mathlib.Core.Path.{_≡_, refl, _∙_}
+use Prim.Native.Nat.{ℕ, _+_, _≤_}
+use mathlib.Core.Path.{_≡_}
 use mathlib.Core.Bool.{Bool}
-use mathlib.Core.List.{List, [], _∷_, _++_, map, map-append}
+use mathlib.Core.List.{List, map, map-append}
 use native.Mathlib.Omega.{arith}
-use lib.ListN.{length, getD, take, drop, set, length-set, length-map}
-use lib.Seq.{sets, sets-eq, length-sets, take-at, getD-set-same, getD-set-other}
+use lib.ListN.{length, take, drop, length-map}
+use lib.Seq.{sets-eq, length-sets, take-at}
 use Rattle.script.specs.Reading.{admitted, readScript}
 use Rattle.script.specs.Columns.{columnRead, ColumnsRead}
 use Rattle.script.specs.Demands.{ColumnDemand, ColumnsDemand}
 use Rattle.script.specs.declared.command.Match.{Match}
+use Rattle.script.proofs.Stores.{sets-behind, sets-at}
 use Rattle.script.proofs.Outcome.{outcome-admitted, outcome-refused}
-
--- ---- stores from a place on
-
-module _ {X : Type 0} (blank : X) where
-  -- a place before them keeps its value
-  sets-before : (vs l : List X) (i k : ℕ) → k < i → getD (sets l i vs) k blank ≡ getD l k blank
-  sets-before [] l i k h = refl
-  sets-before (v ∷ vs) l i k h =
-      sets-before vs _ (suc i) k (omega arith) ∙ getD-set-other l i k v blank (omega arith)
-
-  -- and one behind them
-  sets-behind : (vs l : List X) (i k : ℕ) → i + length vs ≤ k → getD (sets l i vs) k blank ≡ getD l k blank
-  sets-behind [] l i k h = refl
-  sets-behind (v ∷ vs) l i k h =
-      sets-behind vs _ (suc i) k (omega arith) ∙ getD-set-other l i k v blank (omega arith)
-
-  -- the value behind n others is stored n places on
-  sets-at : (before after : List X) (v : X) (l : List X) (i k : ℕ) → i + length before ≡ k → k < length l
-      → getD (sets l i (before ++ v ∷ after)) k blank ≡ v
-  sets-at [] after v l i k e h =
-      let here : i ≡ k = omega arith in
-      rw here (sets-before after _ (suc k) k (omega arith) ∙ getD-set-same l k v blank h)
-  sets-at (x ∷ before) after v l i k e h =
-      sets-at before after v (set l i x) (suc i) k (omega arith) (omega (arith, length-set l i x))
 
 module _ {X : Type 0} (s : List ℕ) (field : Match → X) (column : List X) where
   pub column-demand : {after : List X} → after ≡ columnRead s field column → ColumnDemand s field column after

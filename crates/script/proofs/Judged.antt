@@ -1,75 +1,88 @@
--- What a command with its operands comes to, from the computed step and back: views of `matchStep` and `lengthsStep`
--- by their cases.
---     Judged p q count at m t     the match m comes to the step t, in the words of specs/Outcomes
---     judged, judged-step         the computed step is judged so, and what is judged so is the computed step
+-- What a command with its operands comes to, from the computed step and back: views of `matchJudgement`, `matchStep` and
+-- `lengthsStep` by their cases.
+--     Weighed p q place m j       the match m comes to the judgement j, in the words of specs/Outcomes
+--     weighed, weighed-judgement  the computed judgement is weighed so, and what is weighed so is the computed one
+--     Judged p q count at m t     the match m comes to the step t
+--     judged, judged-step         likewise
 --     short-room, short-full      a match that is cut short, with room for it and without
 --     Opens p q o                 the lengths p q come to the opening o
 --     opens, opens-step           likewise
 -- Assumes nothing.
 use Prim.Native.Nat.{ℕ, _+_, _≤_, _<_}
-use mathlib.Core.Path.{_≡_}
+use mathlib.Core.Path.{_≡_, ap}
 use mathlib.Core.Bool.{true, false}
 use native.Mathlib.Omega.{arith}
 use native.Mathlib.Decide.{decLe, ℕ-discrete}
 use native.Mathlib.Nat.{lt-of-not-le}
 use borrow.Author.Tests.{eq-eqb, ne-eqb, lt-ltb, le-ltb, le-leb, lt-leb}
 use Rattle.script.specs.Limits.{longest, mostMatches}
-use Rattle.script.specs.Steps.{inRange, lengthsStep, matchStep, cutShortStep}
+use Rattle.script.specs.Steps.{inRange, lengthsStep, matchJudgement, stepAfter, matchStep, cutShortStep}
 use Rattle.script.specs.Outcomes.{InRange, Within}
 use Rattle.script.specs.declared.refusal.Refusal.the-variants.{CutShort, LengthOutOfRange, TooManyMatches}
 use Rattle.script.specs.declared.refusal.Refusal.the-variants.{EmptyMatch, BeyondA, BeyondB}
 use Rattle.script.specs.declared.command.Match.{Match}
+use Rattle.script.specs.declared.step.Judgement.{Judgement}
+use Rattle.script.specs.declared.step.Judgement.the-variants.{Sound, Faulty}
 use Rattle.script.specs.declared.step.Opening.{Opening}
 use Rattle.script.specs.declared.step.Step.{Step}
 
-pub data Judged (p q count at : ℕ) (m : Match) : Step → Type 0 where
-  too-many : mostMatches ≤ count → Judged p q count at m (Step.Refuse (TooManyMatches at))
-  empty : count < mostMatches → m .length ≡ 0 → Judged p q count at m (Step.Refuse (EmptyMatch at))
-  beyond-a : count < mostMatches → 1 ≤ m .length → p < m .«left_a» + m .length
-      → Judged p q count at m (Step.Refuse (BeyondA at))
-  beyond-b : count < mostMatches → 1 ≤ m .length → m .«left_a» + m .length ≤ p → q < m .«left_b» + m .length
-      → Judged p q count at m (Step.Refuse (BeyondB at))
-  good : count < mostMatches → Within p q m → Judged p q count at m (Step.Take m)
+-- ---- the numbers of a match
 
-module _ (p q count at : ℕ) (m : Match) where
-  pub judged : Judged p q count at m (matchStep p q count at m)
-  judged =
-      elim (decLe mostMatches count) [
-        | yes h ↦ rw (le-leb mostMatches count h) (too-many h)
-        | no n ↦ let room = lt-of-not-le n in
-            rw (lt-leb mostMatches count room) (elim (ℕ-discrete (m .length) 0) [
-              | yes e ↦ rw (eq-eqb (m .length) 0 e) (empty room e)
-              | no n0 ↦ let some : 1 ≤ m .length = omega arith in
-                  rw (ne-eqb (m .length) 0 n0) (elim (decLe (m .«left_a» + m .length) p) [
-                    | no na ↦ rw (lt-ltb p (m .«left_a» + m .length) (lt-of-not-le na))
-                        (beyond-a room some (lt-of-not-le na))
-                    | yes a ↦ rw (le-ltb p (m .«left_a» + m .length) a) (elim (decLe (m .«left_b» + m .length) q) [
-                      | no nb ↦ let b = lt-of-not-le nb in rw lt-ltb (beyond-b room some a b)
-                      | yes b ↦ rw le-ltb (good room (record { some = some; in-a = a; in-b = b }))
-                    ])
-                  ])
+pub data Weighed (p q place : ℕ) (m : Match) : Judgement → Type 0 where
+  empty : m .length ≡ 0 → Weighed p q place m (Faulty (EmptyMatch place))
+  beyond-a : 1 ≤ m .length → p < m .«left_a» + m .length → Weighed p q place m (Faulty (BeyondA place))
+  beyond-b : 1 ≤ m .length → m .«left_a» + m .length ≤ p → q < m .«left_b» + m .length
+      → Weighed p q place m (Faulty (BeyondB place))
+  sound : Within p q m → Weighed p q place m Sound
+
+pub weighed : (p q place : ℕ) (m : Match) → Weighed p q place m (matchJudgement p q place m)
+weighed p q place m =
+    elim (ℕ-discrete (m .length) 0) [
+      | yes e ↦ rw (eq-eqb (m .length) 0 e) (empty e)
+      | no n0 ↦ let some : 1 ≤ m .length = omega arith in
+          rw (ne-eqb (m .length) 0 n0) (elim (decLe (m .«left_a» + m .length) p) [
+            | no na ↦ rw (lt-ltb p (m .«left_a» + m .length) (lt-of-not-le na)) (beyond-a some (lt-of-not-le na))
+            | yes a ↦ rw (le-ltb p (m .«left_a» + m .length) a) (elim (decLe (m .«left_b» + m .length) q) [
+              | no nb ↦ let b = lt-of-not-le nb in rw lt-ltb (beyond-b some a b)
+              | yes b ↦ rw le-ltb (sound (record { some = some; in-a = a; in-b = b }))
             ])
-      ]
+          ])
+    ]
 
-pub judged-step : {p q count at : ℕ} {m : Match} {t : Step} → Judged p q count at m t → matchStep p q count at m ≡ t
-judged-step {count} (too-many h) = rw (le-leb mostMatches count h)
-judged-step {count} {m} (empty h e) = rw (lt-leb mostMatches count h, eq-eqb (m .length) 0 e)
-judged-step {p} {count} {m} (beyond-a h k a) =
-    rw (lt-leb mostMatches count h, ne-eqb (m .length) 0 (omega arith), lt-ltb p (m .«left_a» + m .length) a)
-judged-step {p} {q} {count} {m} (beyond-b h k a b) =
+pub weighed-judgement : {p q place : ℕ} {m : Match} {j : Judgement} → Weighed p q place m j
+    → matchJudgement p q place m ≡ j
+weighed-judgement {m} (empty e) = rw (eq-eqb (m .length) 0 e)
+weighed-judgement {p} {m} (beyond-a k a) =
+    rw (ne-eqb (m .length) 0 (omega arith), lt-ltb p (m .«left_a» + m .length) a)
+weighed-judgement {p} {q} {m} (beyond-b k a b) =
     rw (
-      lt-leb mostMatches count h,
       ne-eqb (m .length) 0 (omega arith),
       le-ltb p (m .«left_a» + m .length) a,
       lt-ltb q (m .«left_b» + m .length) b,
     )
-judged-step {p} {q} {count} {m} (good h w) =
+weighed-judgement {p} {q} {m} (sound w) =
     rw (
-      lt-leb mostMatches count h,
       ne-eqb (m .length) 0 (omega (arith, w .some)),
       le-ltb p (m .«left_a» + m .length) (w .in-a),
       le-ltb q (m .«left_b» + m .length) (w .in-b),
     )
+
+-- ---- a match command
+
+pub data Judged (p q count at : ℕ) (m : Match) : Step → Type 0 where
+  too-many : mostMatches ≤ count → Judged p q count at m (Step.Refuse (TooManyMatches at))
+  room : {j : Judgement} → count < mostMatches → Weighed p q at m j → Judged p q count at m (stepAfter m j)
+
+pub judged : (p q count at : ℕ) (m : Match) → Judged p q count at m (matchStep p q count at m)
+judged p q count at m =
+    elim (decLe mostMatches count) [
+      | yes h ↦ rw (le-leb mostMatches count h) (too-many h)
+      | no n ↦ let few = lt-of-not-le n in rw (lt-leb mostMatches count few) (room few (weighed p q at m))
+    ]
+
+pub judged-step : {p q count at : ℕ} {m : Match} {t : Step} → Judged p q count at m t → matchStep p q count at m ≡ t
+judged-step {count} (too-many h) = rw (le-leb mostMatches count h)
+judged-step {count} {m} (room h w) = rw (lt-leb mostMatches count h) (ap (stepAfter m) (weighed-judgement w))
 
 -- ---- a match whose operands are incomplete
 

@@ -2,16 +2,19 @@
 --     number-bytes       least byte first: each byte counts 256 times the one before it
 --     longest-script     26,634 bytes
 --     beyond-both        a match beyond A and beyond B is refused with 8
+--     bit-told           the number of a direction tells the direction
 -- Not here: the rows of the table of refusals, which `proofs/Outcome` holds to 01's numbers, places and limits, and the
 -- order at a match, 6, 7, 8, 9, which `proofs/Judged` holds `matchStep` to.
 -- Assumes nothing.
 use Prim.Native.Nat.{ℕ, _+_, _*_, _≤_, _<_}
 use mathlib.Core.Path.{_≡_, refl}
+use mathlib.Core.Bool.{Bool, true, false}
 use mathlib.Core.List.{List, [], _∷_}
 use native.Mathlib.Omega.{arith}
+use lib.Dec.{eqb}
 use lib.ListN.{length}
 use Rattle.script.specs.Limits.{longestScript}
-use Rattle.script.specs.Commands.{numberAt}
+use Rattle.script.specs.Commands.{numberAt, bitOf}
 use Rattle.script.specs.Reading.{readScript}
 use Rattle.script.specs.Answers.{refusal, readingAnswer}
 use Rattle.script.specs.Outcomes.{MatchAt, Reach, Outcome}
@@ -28,3 +31,7 @@ pub beyond-both : {s : List ℕ} {p q at : ℕ} {ms : List Match} {m : Match} �
     → MatchAt s at m → 1 ≤ m .length → p < m .«left_a» + m .length → q < m .«left_b» + m .length
     → readingAnswer (readScript s) ≡ refusal 8 at
 beyond-both r room d some a b = outcome-alone (Outcome.beyond-a r room d some a)
+
+pub bit-told : (reversed : Bool) → eqb (bitOf reversed) 1 ≡ reversed
+bit-told true = refl
+bit-told false = refl

@@ -15,13 +15,15 @@ use Rattle.script.specs.declared.refusal.Refusal.the-variants.{Headless,
 use Rattle.script.specs.declared.refusal.Refusal.the-variants.{LengthOutOfRange, TooManyMatches, EmptyMatch}
 use Rattle.script.specs.declared.refusal.Refusal.the-variants.{BeyondA, BeyondB, Tail, WorkTooShort}
 use Rattle.script.specs.declared.refusal.Refusal.the-variants.{TooManyPieces, NoSuchMatch, OffTheMatch}
+use Rattle.script.specs.declared.refusal.Refusal.the-variants.{MalformedRecords, BufferTooShort}
 
 -- the rows of 01's table, in its order
 abbrev refusalOf : ℕ → ℕ → Refusal
 refusalOf number at =
     getD
     (Headless ∷ UnknownCommand at ∷ CutShort at ∷ SecondLengths at ∷ LengthOutOfRange ∷ TooManyMatches at
-    ∷ EmptyMatch at ∷ BeyondA at ∷ BeyondB at ∷ Tail at ∷ WorkTooShort ∷ TooManyPieces ∷ NoSuchMatch ∷ OffTheMatch ∷ [])
+    ∷ EmptyMatch at ∷ BeyondA at ∷ BeyondB at ∷ Tail at ∷ WorkTooShort ∷ TooManyPieces ∷ NoSuchMatch ∷ OffTheMatch
+    ∷ MalformedRecords at ∷ BufferTooShort ∷ [])
     (number - 1) Headless
 
 pub refusal-named : (r : Refusal) → refusalOf (numberOf r) (placeOf r) ≡ r
@@ -39,6 +41,8 @@ refusal-named WorkTooShort = refl
 refusal-named TooManyPieces = refl
 refusal-named NoSuchMatch = refl
 refusal-named OffTheMatch = refl
+refusal-named (MalformedRecords at) = refl
+refusal-named BufferTooShort = refl
 
 pub answer-inj : (x y : Reading) → readingAnswer x ≡ readingAnswer y → x ≡ y
 answer-inj (admitted p q ms) (admitted p′ q′ ms′) e = cc

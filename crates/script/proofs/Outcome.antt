@@ -39,7 +39,7 @@ use Rattle.script.specs.declared.command.Command.the-variants.{Lengths}
 use Rattle.script.specs.declared.step.Step.{Step}
 use Rattle.script.specs.declared.step.Opening.{Opening}
 use Rattle.script.proofs.Seen.{Seen, whole-match, seen, seen-command}
-use Rattle.script.proofs.Judged.{Judged, judged, judged-step, short-room, short-full, Opens, opens, opens-step}
+use Rattle.script.proofs.Judged.{Weighed, Judged, judged, judged-step, short-room, short-full, Opens, opens, opens-step}
 
 length-snoc : (ms : List Match) (m : Match) → length (ms ++ m ∷ []) ≡ length ms + 1
 length-snoc ms m = length-append ms (m ∷ [])
@@ -102,7 +102,7 @@ module _ {s : List ℕ} {p q : ℕ} where
   reach-read (taken {at} {ms} {m} r room d w) =
       reach-read r
       ∙ step-at s p q at (length s - length ms) ms (omega (arith, reach-place r, reach-inside r)) (Seen.pairing d)
-      (judged-step (Judged.good room w))
+      (judged-step (Judged.room room (Weighed.sound w)))
       ∙ ap (λ (n : ℕ). behindMatch s n p q at ms m) (omega (arith, length-snoc ms m))
 
   -- reading ends at a command that does not go on
@@ -167,11 +167,11 @@ outcome-alone {s} (Outcome.too-many-matches {at} {ms} r e b) =
       | no w ↦ ends-answer r (Seen.pairing-short b (lt-of-not-le w)) (short-full full)
     ]
 outcome-alone (Outcome.empty-match r room d e) =
-    ends-answer r (Seen.pairing d) (judged-step (Judged.empty room e))
+    ends-answer r (Seen.pairing d) (judged-step (Judged.room room (Weighed.empty e)))
 outcome-alone (Outcome.beyond-a r room d k a) =
-    ends-answer r (Seen.pairing d) (judged-step (Judged.beyond-a room k a))
+    ends-answer r (Seen.pairing d) (judged-step (Judged.room room (Weighed.beyond-a k a)))
 outcome-alone (Outcome.beyond-b r room d k a b) =
-    ends-answer r (Seen.pairing d) (judged-step (Judged.beyond-b room k a b))
+    ends-answer r (Seen.pairing d) (judged-step (Judged.room room (Weighed.beyond-b k a b)))
 outcome-alone (Outcome.tail r b h) = ends-answer r (Seen.end-then-more b h) refl
 outcome-alone (Outcome.is-admitted r b h) = ends-answer r (Seen.end b h) refl
 
@@ -192,10 +192,10 @@ match-stated : {s : List ℕ} {p q at : ℕ} {ms : List Match} {m : Match} {t : 
     → ((n : Match) → Reach s p q (at + matchWidth) (ms ++ n ∷ []) → Outcome s (readingAnswer (onward n)))
     → Outcome s (readingAnswer (afterStep p q ms t onward))
 match-stated r d (Judged.too-many f) onward next = Outcome.too-many-matches r (omega (arith, reach-place r)) (d .code)
-match-stated r d (Judged.empty room e) onward next = Outcome.empty-match r room d e
-match-stated r d (Judged.beyond-a room k a) onward next = Outcome.beyond-a r room d k a
-match-stated r d (Judged.beyond-b room k a b) onward next = Outcome.beyond-b r room d k a b
-match-stated {m} r d (Judged.good room w) onward next = next m (taken r room d w)
+match-stated r d (Judged.room room (Weighed.empty e)) onward next = Outcome.empty-match r room d e
+match-stated r d (Judged.room room (Weighed.beyond-a k a)) onward next = Outcome.beyond-a r room d k a
+match-stated r d (Judged.room room (Weighed.beyond-b k a b)) onward next = Outcome.beyond-b r room d k a b
+match-stated {m} r d (Judged.room room (Weighed.sound w)) onward next = next m (taken r room d w)
 
 step-stated : {s : List ℕ} {p q at : ℕ} {ms : List Match} {c : Command} → Reach s p q at ms → Seen s at c
     → (onward : Match → Reading)

@@ -3,6 +3,7 @@
 --     numberAt s at                the number in the four bytes from the offset at
 --     fieldsOf reversed s          what a match command says, with its direction
 --     commandOf s                  the command that s starts with
+--     bitOf reversed               a direction as a number, where it is one: in a row, in a record, behind a pointer
 -- 01, "The script". Assumes nothing.
 use Prim.Native.Nat.{ℕ, _+_, _*_}
 use mathlib.Core.Bool.{Bool, true, false, cond}
@@ -51,3 +52,8 @@ commandOf s =
     (cond (eqb code 0x4C) (lengthsOf s)
     (cond (eqb code 0x44) (matchOf false s)
     (cond (eqb code 0x52) (matchOf true s) (cond (eqb code 0x45) (endOf s) Unknown))))
+
+-- SCOPE, "Rows" and "Records": 0 for direct, 1 for reversed
+abbrev pub bitOf : Bool → ℕ
+bitOf true = 1
+bitOf false = 0

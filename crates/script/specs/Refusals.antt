@@ -1,13 +1,14 @@
--- 01's number and place for each refusal. TO READ: contracts mean what stands here.
---     numberOf r     the number in 01's table
+-- The number and place of each refusal. TO READ: contracts mean what stands here.
+--     numberOf r     the number in 01's table, or that a request gives it
 --     placeOf r      the place returned beside it
--- 01, "Refused scripts and calls". Assumes nothing.
+-- 01, "Refused scripts and calls"; 02, #101. Assumes nothing.
 use Prim.Native.Nat.{ℕ}
 use Rattle.script.specs.declared.refusal.Refusal.{Refusal}
 use Rattle.script.specs.declared.refusal.Refusal.the-variants.{Headless, UnknownCommand, CutShort, SecondLengths}
 use Rattle.script.specs.declared.refusal.Refusal.the-variants.{LengthOutOfRange, TooManyMatches, EmptyMatch}
 use Rattle.script.specs.declared.refusal.Refusal.the-variants.{BeyondA, BeyondB, Tail, WorkTooShort}
 use Rattle.script.specs.declared.refusal.Refusal.the-variants.{TooManyPieces, NoSuchMatch, OffTheMatch}
+use Rattle.script.specs.declared.refusal.Refusal.the-variants.{MalformedRecords, BufferTooShort}
 
 -- SCOPE, "Refusals": the rows of the table, in its order
 abbrev pub numberOf : Refusal → ℕ
@@ -25,9 +26,12 @@ numberOf WorkTooShort = 11
 numberOf TooManyPieces = 12
 numberOf NoSuchMatch = 13
 numberOf OffTheMatch = 14
+numberOf (MalformedRecords at) = 15
+numberOf BufferTooShort = 16
 
 -- SCOPE, "Place": up to 9 where the command stands, or the end of the bytes if they ran out where one was due; for 10
--- the first byte too many; from 11 on 0. 1 and 5 are met at the first command only, which stands at 0.
+-- the first byte too many; from 11 on 0. 1 and 5 are met at the first command only, which stands at 0. SCOPE, "Place of a
+-- record": what is found at a record of a list, 15 among it, has the record's number.
 abbrev pub placeOf : Refusal → ℕ
 placeOf Headless = 0
 placeOf (UnknownCommand at) = at
@@ -43,3 +47,5 @@ placeOf WorkTooShort = 0
 placeOf TooManyPieces = 0
 placeOf NoSuchMatch = 0
 placeOf OffTheMatch = 0
+placeOf (MalformedRecords at) = at
+placeOf BufferTooShort = 0

@@ -1,4 +1,5 @@
 -- What one command does to the script read so far. TO READ: contracts mean what stands here.
+--     matchJudgement p q place m     the fault of a match, if it has one; the same for a script and for a list
 --     openingOf c               what the first command does: it opens the script, or the script is refused
 --     stepOf p q count at c     what a later one does, at the offset at with count matches before it
 -- 01, "Refused scripts and calls"; SCOPE, "First fault" and "Order of faults". Assumes nothing.
@@ -13,6 +14,8 @@ use Rattle.script.specs.declared.command.Match.{Match}
 use Rattle.script.specs.declared.command.Command.{Command}
 use Rattle.script.specs.declared.command.Command.the-variants.{Missing, Unknown, Lengths, LengthsCutShort}
 use Rattle.script.specs.declared.command.Command.the-variants.{Pairing, MatchCutShort, End, EndThenMore}
+use Rattle.script.specs.declared.step.Judgement.{Judgement}
+use Rattle.script.specs.declared.step.Judgement.the-variants.{Sound, Faulty}
 use Rattle.script.specs.declared.step.Opening.{Opening}
 use Rattle.script.specs.declared.step.Opening.the-variants.{Open}
 use Rattle.script.specs.declared.step.Opening.the-variants
@@ -38,13 +41,22 @@ openingOf MatchCutShort = Opening.Refuse Headless
 openingOf End = Opening.Refuse Headless
 openingOf EndThenMore = Opening.Refuse Headless
 
--- at a match with its operands: 6, 7, 8, 9. SCOPE, "Sums": numbers here have no upper end, so none wraps
+-- the three numbers of a match: 7, 8, 9. SCOPE, "Sums": numbers here have no upper end, so none wraps
+abbrev pub matchJudgement : ℕ → ℕ → ℕ → Match → Judgement
+matchJudgement p q place m =
+    cond (eqb (m .length) 0) (Faulty (EmptyMatch place))
+    (cond (ltb p (m .«left_a» + m .length)) (Faulty (BeyondA place))
+    (cond (ltb q (m .«left_b» + m .length)) (Faulty (BeyondB place)) Sound))
+
+-- a match without a fault is taken
+abbrev pub stepAfter : Match → Judgement → Step
+stepAfter m Sound = Take m
+stepAfter m (Faulty f) = Refuse f
+
+-- at a match with its operands: 6, then its numbers
 abbrev pub matchStep : ℕ → ℕ → ℕ → ℕ → Match → Step
 matchStep p q count at m =
-    cond (leb mostMatches count) (Refuse (TooManyMatches at))
-    (cond (eqb (m .length) 0) (Refuse (EmptyMatch at))
-    (cond (ltb p (m .«left_a» + m .length)) (Refuse (BeyondA at))
-    (cond (ltb q (m .«left_b» + m .length)) (Refuse (BeyondB at)) (Take m))))
+    cond (leb mostMatches count) (Refuse (TooManyMatches at)) (stepAfter m (matchJudgement p q at m))
 
 -- at a match whose operands are incomplete: 6, 3
 abbrev pub cutShortStep : ℕ → ℕ → Step

@@ -1,4 +1,4 @@
-// The refusals: one variant for each row of 01's table, holding its place where that varies.
+// The refusals: one variant for each row of 01's table and of the requests after it, holding its place where that varies.
 pub enum Refusal {
     Headless,
     UnknownCommand(usize),
@@ -14,4 +14,6 @@ pub enum Refusal {
     TooManyPieces,
     NoSuchMatch,
     OffTheMatch,
+    MalformedRecords(usize),
+    BufferTooShort,
 }

@@ -1,6 +1,12 @@
-// What one command does to the script read so far.
+// What one command does to the script read so far, and whether a match has a fault.
 use crate::command::Match;
 use crate::refusal::Refusal;
+
+// Whether a match, in a script or in a list, or a whole list has a fault.
+pub enum Judgement {
+    Sound,
+    Faulty(Refusal),
+}
 
 // What the first command does.
 pub enum Opening {

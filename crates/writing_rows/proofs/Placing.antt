@@ -12,6 +12,8 @@ use native.Mathlib.Omega.{arith}
 use lib.ListN.{length, getD, set, length-append}
 use lib.Seq.{slice, slice-cons, slice-empty, sets, length-sets}
 use borrow.Author.Tests.{le-leb}
+use Rattle.script.specs.Commands.{bitOf}
+use Rattle.script.proofs.Stores.{sets-append}
 use Rattle.rows.specs.Rows.{rowWidth, rowNumbers, numbersOf}
 use Rattle.rows.proofs.Numbers.{numbers-append}
 use Rattle.refinement.specs.Match.{Match, matchAB, spanned, carryOver}
@@ -19,18 +21,12 @@ use Rattle.refinement.specs.Least.{pieceOf, piecesBetween}
 use Rattle.refinement.proofs.Geometry.{spanned-from}
 use Rattle.runs.specs.Runs.{Bound}
 use Rattle.refining.specs.Columns.{Columns, countOf, fromAt, toAt, lettersAt, wayAt, Fit, matchAt}
-use Rattle.refining.specs.Rows.{direction, rowOfPiece, pieceNumbers, within, piecesCut}
+use Rattle.refining.specs.Rows.{rowOfPiece, pieceNumbers, within, piecesCut}
 use Rattle.refining.proofs.Standing.{length-numbers}
 use Rattle.writing_rows.specs.Writing.{Stretch, Cutting, Placed, Writable, Written}
 use Rattle.writing_rows.proofs.Within.{cutting, within-bounds, stretch}
 
 -- Rows as numbers.
-sets-append : (vs ws xs : List ℕ) (at : ℕ) → sets xs at (vs ++ ws) ≡ sets (sets xs at vs) (at + length vs) ws
-sets-append [] ws xs at = let e : at ≡ at + 0 = omega arith in ap (λ n. sets xs n ws) e
-sets-append (v ∷ vs) ws xs at =
-    let e : suc at + length vs ≡ at + suc (length vs) = omega arith in
-    sets-append vs ws (set xs at v) (suc at) ∙ ap (λ n. sets (sets (set xs at v) (suc at) vs) n ws) e
-
 pieces-append : (rs qs : List Match) → pieceNumbers (rs ++ qs) ≡ pieceNumbers rs ++ pieceNumbers qs
 pieces-append rs qs =
     ap numbersOf (map-append rowOfPiece rs qs) ∙ numbers-append (map rowOfPiece rs) (map rowOfPiece qs)
@@ -55,7 +51,7 @@ low-end :
 low-end false s = omega arith
 low-end true s = omega arith
 
-way : (b : Bool) → cond b 1 0 ≡ direction b
+way : (b : Bool) → cond b 1 0 ≡ bitOf b
 way false = refl
 way true = refl
 

@@ -1,5 +1,8 @@
--- `judge_match` meets its contract: the tests are the definition's, in its order. Assumes nothing.
+-- `judge_match` meets its contract: 6, then what `judge_numbers` says of the match. Assumes nothing.
+use mathlib.Core.Path.{sym, _∙_}
+use borrow.Author.Tests.{lt-leb}
 use borrow.Author.Needs.{needs}
+use Rattle.script.specs.Limits.{mostMatches}
 use Rattle.script.proofs.Tests.{tests}
 use Rattle.judging.proofs.judge_match.Statement.{statement}
 use Rattle.judging.proofs.judge_match.Tie as tie
@@ -7,48 +10,28 @@ use Rattle.judging.proofs.judge_match.Tie as tie
 returns : tie.Need-returns
 returns c = search tests
 
+judge-numbers-requires : tie.Need-judge-numbers-requires
+judge-numbers-requires c κs = search needs
+
+enum-told : tie.Need-enum-told
+enum-told c = search needs
+
+enum-known-refusal : tie.Need-enum-known-refusal
+enum-known-refusal c = search needs
+
 returns-2 : tie.Need-returns-2
-returns-2 c = search tests
-
-cast-if3 : tie.Need-cast-if3
-cast-if3 c = search needs
-
-cast-if3-2 : tie.Need-cast-if3-2
-cast-if3-2 c = search needs
-
-add-if3 : tie.Need-add-if3
-add-if3 c = search needs
+returns-2 c =
+    let passed : tie.Else1 = search in
+    let judged : tie.After-judge-numbers = search in
+    rw (lt-leb mostMatches _ (passed .if1 .left), sym (judged .judge-numbers .ensures) ∙ c .enum-told .given .1)
 
 returns-3 : tie.Need-returns-3
-returns-3 c = search tests
-
-cast-if4 : tie.Need-cast-if4
-cast-if4 c = search needs
-
-cast-if4-2 : tie.Need-cast-if4-2
-cast-if4-2 c = search needs
-
-add-if4 : tie.Need-add-if4
-add-if4 c = search needs
-
-returns-4 : tie.Need-returns-4
-returns-4 c = search tests
-
-returns-5 : tie.Need-returns-5
-returns-5 c = search tests
+returns-3 c =
+    let passed : tie.Else1 = search in
+    let judged : tie.After-judge-numbers = search in
+    rw (lt-leb mostMatches _ (passed .if1 .left), sym (judged .judge-numbers .ensures) ∙ c .before .refusal .given .1)
 
 pub judge-match-spec : {M : Type 1} → statement M
 judge-match-spec =
     tie.close
-    (tie.spec
-    returns
-    returns-2
-    cast-if3
-    cast-if3-2
-    add-if3
-    returns-3
-    cast-if4
-    cast-if4-2
-    add-if4
-    returns-4
-    returns-5)
+    (tie.spec returns judge-numbers-requires enum-told enum-known-refusal returns-2 returns-3)
