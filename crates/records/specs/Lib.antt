@@ -1,0 +1,6 @@
+pub mod Records
+pub mod Bytes
+pub mod Outcomes
+pub mod Writing
+pub mod Listing
+pub mod Demands
