@@ -1,2 +1,4 @@
 pub mod Bytes
 pub mod Scripts
+pub mod Lists
+pub mod Passed

@@ -15,7 +15,7 @@ use Rattle.script.specs.Outcomes.{Outcome}
 use Rattle.script.specs.Demands.{Counted, counted}
 use Rattle.script.specs.declared.command.Match.{Match}
 use Rattle.records.specs.Records.{listOf}
-use Rattle.records.specs.Outcomes.{RecordAt, WritingOutcome, ListingOutcome}
+use Rattle.records.specs.Outcomes.{Says, WritingOutcome, ListingOutcome}
 use Rattle.records.specs.Writing.{writingOf}
 use Rattle.records.specs.Listing.{listingOf}
 use Rattle.records.specs.declared.Written.{Written}
@@ -72,7 +72,7 @@ pub record ListingDemand (s out out′ : List ℕ) (answer : Answer Counted) : T
   pub past : {p q count : ℕ} → answer ≡ value (counted p q count) → drop (4 * count) out′ ≡ drop (4 * count) out
   -- the record behind n others is that of the match behind n others
   pub held : {p q count : ℕ} → answer ≡ value (counted p q count) → (others rest : List Match) (m : Match)
-      → Outcome s (value (contents p q (others ++ m ∷ rest))) → RecordAt out′ (length others) m
+      → Outcome s (value (contents p q (others ++ m ∷ rest))) → Says out′ (length others) m
   -- "bytes to records to bytes": the other call gives the script back, in any buffer that has room for it
   pub undone : {p q count : ℕ} → answer ≡ value (counted p q count) → (lent : List ℕ) → length s ≤ length lent
       → writingOf p q (take (4 * count) out′) lent

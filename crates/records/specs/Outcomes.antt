@@ -2,7 +2,7 @@
 -- place, and one for success. All numbers are those of 01 and 02, written out: a slip made in a definition and in the
 -- code together is refused here. `proofs/WritingOutcome` and `proofs/ListingOutcome` show that exactly one case applies.
 -- TO READ beside SCOPE, "Lists" and "Refusals" (02, #101).
---     RecordAt ns n m      the record behind n others says the match m
+--     Says ns n m          the record behind n others says the match m
 --     Passed p q ns ms     the first records say the matches ms, and have no fault
 --     WritingOutcome       the answers to writing
 --     ListingOutcome       the answers to reading into a list
@@ -26,7 +26,7 @@ pub data WayAt (ns : List ℕ) (at : ℕ) : Bool → Type 0 where
   backward : getD ns at 0 ≡ 1 → WayAt ns at true
 
 -- SCOPE, "Records": left-A, left-B, length, direction
-pub record RecordAt (ns : List ℕ) (n : ℕ) (m : Match) : Type 0 where
+pub record Says (ns : List ℕ) (n : ℕ) (m : Match) : Type 0 where
   pub whole : 4 * n + 4 ≤ length ns
   pub left-a : getD ns (4 * n) 0 ≡ m .«left_a»
   pub left-b : getD ns (4 * n + 1) 0 ≡ m .«left_b»
@@ -44,7 +44,7 @@ pub record Begun (p q : ℕ) (ns : List ℕ) : Type 0 where
 -- records without a fault, from the first on
 pub data Passed (p q : ℕ) (ns : List ℕ) : List Match → Type 0 where
   begun : Begun p q ns → Passed p q ns []
-  passed : {ms : List Match} {m : Match} → Passed p q ns ms → RecordAt ns (length ms) m → Within p q m
+  passed : {ms : List Match} {m : Match} → Passed p q ns ms → Says ns (length ms) m → Within p q m
       → Passed p q ns (ms ++ m ∷ [])
 
 -- ---- writing
@@ -64,13 +64,13 @@ pub data WritingOutcome (p q : ℕ) (ns : List ℕ) (room : ℕ) : Answer ℕ �
   too-many-matches : {n : ℕ} → InRange p → InRange q → length ns ≡ 4 * n → 2048 < n
       → WritingOutcome p q ns room (refusal 6 0)
   -- 7: length 0
-  empty-match : {ms : List Match} {m : Match} → Passed p q ns ms → RecordAt ns (length ms) m → m .length ≡ 0
+  empty-match : {ms : List Match} {m : Match} → Passed p q ns ms → Says ns (length ms) m → m .length ≡ 0
       → WritingOutcome p q ns room (refusal 7 (length ms + 1))
   -- 8: left-A + length above p
-  beyond-a : {ms : List Match} {m : Match} → Passed p q ns ms → RecordAt ns (length ms) m → 1 ≤ m .length
+  beyond-a : {ms : List Match} {m : Match} → Passed p q ns ms → Says ns (length ms) m → 1 ≤ m .length
       → p < m .«left_a» + m .length → WritingOutcome p q ns room (refusal 8 (length ms + 1))
   -- 9: left-B + length above q
-  beyond-b : {ms : List Match} {m : Match} → Passed p q ns ms → RecordAt ns (length ms) m → 1 ≤ m .length
+  beyond-b : {ms : List Match} {m : Match} → Passed p q ns ms → Says ns (length ms) m → 1 ≤ m .length
       → m .«left_a» + m .length ≤ p → q < m .«left_b» + m .length
       → WritingOutcome p q ns room (refusal 9 (length ms + 1))
   -- 16: the script is longer than the buffer

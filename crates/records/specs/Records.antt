@@ -3,12 +3,14 @@
 --     numbersOf m      the record of a match, as numbers
 --     listOf ms        the records of a list of matches, one behind the other
 --     recordsOf ns     the records that a list of numbers holds
+--     recordAt rs k    the one behind k others
 --     matchOf r        the match that a record says
 --     matchesOf ns     the matches of a list of numbers
 -- 02, #101; SCOPE, "Records". Assumes nothing.
 use Prim.Native.Nat.{ℕ}
 use mathlib.Core.List.{List, [], _∷_, map, flatMap}
 use lib.Dec.{eqb}
+use lib.ListN.{getD}
 use Rattle.script.specs.Commands.{bitOf}
 use Rattle.script.specs.declared.command.Match.{Match}
 use Rattle.records.specs.declared.Record.{Record}
@@ -31,6 +33,13 @@ recordsOf (a ∷ b ∷ []) = []
 recordsOf (a ∷ b ∷ d ∷ []) = []
 recordsOf (a ∷ b ∷ d ∷ way ∷ ns) =
     record { «left_a» = a; «left_b» = b; length = d; direction = way } ∷ recordsOf ns
+
+-- past the last a record of zeros, which no contract asks for
+abbrev pub noRecord : Record
+noRecord = record { «left_a» = 0; «left_b» = 0; length = 0; direction = 0 }
+
+abbrev pub recordAt : List Record → ℕ → Record
+recordAt rs k = getD rs k noRecord
 
 -- 1 is reversed; a direction that is neither 0 nor 1 is refused before anybody asks for its match
 abbrev pub matchOf : Record → Match

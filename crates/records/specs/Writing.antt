@@ -5,7 +5,7 @@
 --     Writing               the reply of the call, and what the lent buffer holds after it
 --     writingOf p q ns out  both, by what is handed over and what the buffer holds before it
 -- 02, #101; SCOPE, "Order of writing". Assumes nothing.
-use Prim.Native.Nat.{ℕ, suc, _*_, _%_}
+use Prim.Native.Nat.{ℕ, _+_, _*_, _%_}
 use mathlib.Core.Bool.{cond}
 use mathlib.Core.List.{List, [], _∷_, _++_}
 use lib.ListN.{length, drop}
@@ -36,7 +36,7 @@ firstFault (Faulty f) later = Faulty f
 -- record by record
 unfoldable pub judgedFrom : ℕ → ℕ → ℕ → List Record → Judgement
 judgedFrom p q number [] = Sound
-judgedFrom p q number (r ∷ rs) = firstFault (recordJudgement p q number r) (judgedFrom p q (suc number) rs)
+judgedFrom p q number (r ∷ rs) = firstFault (recordJudgement p q number r) (judgedFrom p q (number + 1) rs)
 
 -- 15 for the count of numbers, then 6, then the records from 1 on
 abbrev pub listJudgement : ℕ → ℕ → List ℕ → Judgement
