@@ -2,3 +2,4 @@ pub mod Bytes
 pub mod Scripts
 pub mod Lists
 pub mod Passed
+pub mod WritingOutcome
