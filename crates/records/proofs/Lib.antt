@@ -3,3 +3,4 @@ pub mod Scripts
 pub mod Lists
 pub mod Passed
 pub mod WritingOutcome
+pub mod Demands

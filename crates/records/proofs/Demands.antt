@@ -1,0 +1,127 @@
+-- The two calls as `writingOf` and `listingOf` define them meet their demands.
+--     writing-demand      of any reply and buffer that equal `writingOf`'s
+--     listing-demand      likewise of `listingOf`, for a string of bytes
+-- Each undoes the other: what is written is admitted and holds the matches of the records (`written-admitted`), and what
+-- is read is written from these matches (`admitted-written`). Assumes nothing.
+use Prim.Native.Nat.{ℕ, suc, _+_, _*_, _%_, _≤_, _<_}
+use mathlib.Core.Path.{_≡_, refl, sym, ap, subst, _∙_}
+use mathlib.Core.Bool.{Bool, true, false}
+use mathlib.Core.List.{List, [], _∷_, _++_, flatMap, append-assoc, List·Memᴰ}
+use mathlib.Core.List.{List·Memᴰ·head as here, List·Memᴰ·tail as there}
+use native.Mathlib.Omega.{arith}
+use native.Mathlib.Decide.{decLe}
+use native.Mathlib.Nat.{lt-of-not-le, add-assoc}
+use borrow.Author.Tests.{eq-eqb, lt-ltb, le-ltb}
+use lib.Dec.{ltb}
+use lib.ListN.{length, getD, take, drop, length-append, length-drop}
+use lib.Seq.{take-at, drop-at, getD-append-add, getD-append-seam}
+use Rattle.script.specs.Commands.{bitOf}
+use Rattle.script.specs.Steps.{matchJudgement}
+use Rattle.script.specs.Reading.{Reading, admitted, refused, readScript}
+use Rattle.script.specs.Answers.{Answer, value, refusal, contents}
+use Rattle.script.specs.Outcomes.{InRange, Within, Reach, Outcome}
+use Rattle.script.specs.Demands.{Counted, counted}
+use Rattle.script.specs.declared.command.Match.{Match}
+use Rattle.script.specs.declared.refusal.Refusal.{Refusal}
+use Rattle.script.specs.declared.refusal.Refusal.the-variants.{BufferTooShort}
+use Rattle.script.specs.declared.step.Judgement.{Judgement}
+use Rattle.script.specs.declared.step.Judgement.the-variants.{Sound, Faulty}
+use Rattle.script.proofs.Outcome.{reach-place, reach-range, reach-within, read-outcome, outcome-admitted, outcome-refused}
+use Rattle.script.proofs.Judged.{Weighed, weighed-judgement, Opens, opens-step}
+use Rattle.script.proofs.Laws.{bit-told}
+use Rattle.records.specs.Records.{numbersOf, listOf, recordsOf, matchOf, matchesOf}
+use Rattle.records.specs.Bytes.{bytesOf}
+use Rattle.records.specs.Outcomes.{WayAt, Says, Begun, Passed, WritingOutcome, ListingOutcome}
+use Rattle.records.specs.Writing.{recordJudgement, judgedFrom, judgementOf, Writing, writingOfJudgement, writingOf}
+use Rattle.records.specs.Listing.{listingOfReading, listingOf}
+use Rattle.records.specs.Demands.{writtenAnswer, Back, WritingDemand, listedAnswer, ListingDemand}
+use Rattle.records.specs.declared.Written.{Written}
+use Rattle.records.specs.declared.Listed.{Listed}
+use Rattle.records.proofs.Bytes.{Bytes}
+use Rattle.records.proofs.Scripts.{flat-append, bytes-length, written-admitted, admitted-written}
+use Rattle.records.proofs.Lists.{list-length, list-back}
+use Rattle.records.proofs.Passed.{passed-begun, passed-within, passed-list}
+use Rattle.records.proofs.WritingOutcome.{Judging, faulty, sound, judging, writing-stated, writing-alone}
+
+-- a refusal is no value
+no-value : {X : Type 0} {n place : ℕ} {x : X} → refusal n place ≡ value x → ⊥
+no-value e = let z : _≡_ {A = ℕ} 0 1 = cc in omega arith
+
+-- what stands at a buffer's start, and what was behind it
+module _ (xs out : List ℕ) (room : length xs ≤ length out) where
+  over-length : length (xs ++ drop (length xs) out) ≡ length out
+  over-length = omega (arith, length-append xs (drop (length xs) out), length-drop (length xs) out)
+
+  over-past : {n : ℕ} → n ≡ length xs → drop n (xs ++ drop (length xs) out) ≡ drop n out
+  over-past e = rw e (drop-at xs _ (length xs) refl)
+
+  over-front : {n : ℕ} → n ≡ length xs → take n (xs ++ drop (length xs) out) ≡ xs
+  over-front e = rw e (take-at xs _ (length xs) refl)
+
+-- ---- writing
+
+module _ (p q : ℕ) (ns : List ℕ) where
+  -- a list without a fault comes back
+  sound-back : {ms : List Match} → Passed p q ns ms → length ns ≡ 4 * length ms
+      → Back p q ns (bytesOf p q (matchesOf ns))
+  sound-back {ms} r e =
+      let b = passed-begun r in
+      let listed = passed-list r e in
+      let same : matchesOf ns ≡ ms = ap matchesOf (sym listed) ∙ list-back ms in
+      let whole : Outcome (bytesOf p q ms) (value (contents p q ms)) =
+      written-admitted ms (b .p-range) (b .q-range) (passed-within r) (omega (arith, b .whole, b .few)) in
+      rw same (record {
+        matches = ms;
+        admitted = whole;
+        listed = listed;
+        back = λ lent room. rw (outcome-admitted whole, le-ltb (length lent) (4 * length ms) (omega arith), listed, e);
+      })
+
+  module _ (out : List ℕ) where
+    -- what the demand says of the buffer
+    record Leaves (w : Writing) : Type 0 where
+      as-long : length (w .script) ≡ length out
+      refused : {n place : ℕ} → writtenAnswer (w .reply) ≡ refusal n place → w .script ≡ out
+      past : {n : ℕ} → writtenAnswer (w .reply) ≡ value n → drop n (w .script) ≡ drop n out
+      undone : {n : ℕ} → writtenAnswer (w .reply) ≡ value n → Back p q ns (take n (w .script))
+
+    refused-leaves : (f : Refusal) → Leaves (record { reply = Written.Refused f; script = out })
+    refused-leaves f =
+        record {
+          as-long = refl;
+          refused = λ _. refl;
+          past = λ e. absurd (no-value e);
+          undone = λ e. absurd (no-value e);
+        }
+
+    written-leaves : {bytes : List ℕ} → Back p q ns bytes → length bytes ≤ length out
+        → Leaves (record { reply = Written.Bytes (length bytes); script = bytes ++ drop (length bytes) out })
+    written-leaves {bytes} back room =
+        record {
+          as-long = over-length bytes out room;
+          refused = λ e. absurd (no-value (sym e));
+          past = λ {n} e. let is : n ≡ length bytes = cc in over-past bytes out room is;
+          undone = λ {n} e. let is : n ≡ length bytes = cc in rw (over-front bytes out room is) back;
+        }
+
+    leaves-by : {j : Judgement} → Judging p q ns j → Leaves (writingOfJudgement j (bytesOf p q (matchesOf ns)) out)
+    leaves-by (faulty {f} _) = refused-leaves f
+    leaves-by (sound r e) =
+        let bytes = bytesOf p q (matchesOf ns) in
+        elim (decLe (length bytes) (length out)) [
+          | yes room ↦ rw (le-ltb (length out) (length bytes) room) (written-leaves (sound-back r e) room)
+          | no short ↦ rw (lt-ltb (length out) (length bytes) (lt-of-not-le short)) (refused-leaves BufferTooShort)
+        ]
+
+    pub writing-demand : {reply : Written} {out′ : List ℕ} → reply ≡ writingOf p q ns out .reply
+        → out′ ≡ writingOf p q ns out .script → WritingDemand p q ns out out′ (writtenAnswer reply)
+    writing-demand is is′ =
+        let leaves = leaves-by (judging p q ns) in
+        rw (is, is′) (record {
+          stated = writing-stated p q ns out;
+          alone = λ _ o. writing-alone p q ns out o;
+          as-long = leaves .as-long;
+          refused = leaves .refused;
+          past = leaves .past;
+          undone = leaves .undone;
+        })
