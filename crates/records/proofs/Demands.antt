@@ -27,6 +27,7 @@ use Rattle.script.specs.declared.refusal.Refusal.the-variants.{BufferTooShort}
 use Rattle.script.specs.declared.step.Judgement.{Judgement}
 use Rattle.script.specs.declared.step.Judgement.the-variants.{Sound, Faulty}
 use Rattle.script.proofs.Outcome.{reach-place, reach-range, reach-within, read-outcome, outcome-admitted, outcome-refused}
+use Rattle.script.proofs.Admitted.{admitted-ended}
 use Rattle.script.proofs.Judged.{Weighed, weighed-judgement, Opens, opens-step}
 use Rattle.script.proofs.Laws.{bit-told}
 use Rattle.records.specs.Records.{numbersOf, listOf, recordsOf, matchOf, matchesOf}
@@ -125,3 +126,62 @@ module _ (p q : ℕ) (ns : List ℕ) where
           past = leaves .past;
           undone = leaves .undone;
         })
+
+-- ---- reading into a list
+
+bit-few : (way : Bool) → ltb 1 (bitOf way) ≡ false
+bit-few true = refl
+bit-few false = refl
+
+bit-way : (ns : List ℕ) (at : ℕ) (way : Bool) → getD ns at 0 ≡ bitOf way → WayAt ns at way
+bit-way ns at true e = WayAt.backward e
+bit-way ns at false e = WayAt.direct e
+
+says-at : (before behind : List ℕ) (m : Match) {n : ℕ} → length before ≡ 4 * n
+    → Says (before ++ (numbersOf m ++ behind)) n m
+says-at before behind m {n} e =
+    let ns = numbersOf m ++ behind in
+    let at : (i : ℕ) → getD (before ++ ns) (4 * n + i) 0 ≡ getD ns i 0 = λ i. rw (← e) (getD-append-add before ns i 0) in
+    record {
+      whole = omega (arith, length-append before ns, length-append (numbersOf m) behind);
+      left-a = rw (← e) (getD-append-seam before (m .«left_a») _ 0);
+      left-b = at 1;
+      letters = at 2;
+      way = bit-way _ (4 * n + 3) (m .reversed) (at 3);
+    }
+
+-- the record behind n others stands n records on
+list-says : (others rest : List Match) (m : Match) (tail : List ℕ)
+    → Says (listOf (others ++ m ∷ rest) ++ tail) (length others) m
+unfolding flatMap
+list-says others rest m tail =
+    rw (flat-append numbersOf others (m ∷ rest), append-assoc (listOf others), append-assoc (numbersOf m))
+    (says-at (listOf others) _ m (list-length others))
+
+-- matches within A and B, as records, have no fault
+list-judged : (p q : ℕ) (ms : List Match) (number : ℕ) → ((m : Match) → List·Memᴰ m ms → Within p q m)
+    → judgedFrom p q number (recordsOf (listOf ms)) ≡ Sound
+unfolding judgedFrom recordsOf flatMap
+list-judged p q [] number within = refl
+list-judged p q (m ∷ ms) number within =
+    let judged : matchJudgement p q number m ≡ Sound = weighed-judgement (Weighed.sound (within m (here refl))) in
+    rw (bit-few (m .reversed), judged) (list-judged p q ms (number + 1) (λ n i. within n (there i)))
+
+module _ (s : List ℕ) (bytes : Bytes s) where
+  -- an admitted script comes back
+  admitted-back : {p q : ℕ} {ms : List Match} → Outcome s (value (contents p q ms))
+      → (lent : List ℕ) → length s ≤ length lent
+      → writingOf p q (listOf ms) lent ≡ record { reply = Written.Bytes (length s); script = s ++ drop (length s) lent }
+  admitted-back {p} {q} {ms} o lent room =
+      let reach = admitted-ended (outcome-admitted o) .reach in
+      let ranges = reach-range reach in
+      let long = list-length ms in
+      rw (
+        opens-step (Opens.open-them (ranges .0) (ranges .1)),
+        eq-eqb (length (listOf ms) % 4) 0 (omega arith),
+        le-ltb 8192 (length (listOf ms)) (omega (arith, reach-place reach)),
+        list-judged p q ms 1 (λ m i. reach-within reach i),
+        list-back ms,
+        admitted-written s bytes o,
+        le-ltb (length lent) (length s) room,
+      )

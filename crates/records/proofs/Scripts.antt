@@ -39,6 +39,7 @@ flat-length f width each (m ∷ ms) =
     omega (arith, length-append (f m) (flatMap f ms), each m, flat-length f width each ms)
 
 pub bytes-length : (p q : ℕ) (ms : List Match) → length (bytesOf p q ms) ≡ 10 + 13 * length ms
+unfolding bytesOf
 bytes-length p q ms =
     omega (arith, length-append (lengthsBytes p q ++ flatMap matchBytes ms) (0x45 ∷ []),
     length-append (lengthsBytes p q) (flatMap matchBytes ms), flat-length matchBytes 13 (λ m. refl) ms)
@@ -135,7 +136,7 @@ module _ (s : List ℕ) {p q : ℕ} (a : InRange p) (b : InRange q) where
 pub written-admitted : {p q : ℕ} (ms : List Match) → InRange p → InRange q
     → ((m : Match) → List·Memᴰ m ms → Within p q m) → length ms ≤ 2048
     → Outcome (bytesOf p q ms) (value (contents p q ms))
-unfolding flatMap
+unfolding flatMap bytesOf
 written-admitted {p} {q} ms a b within few =
     let s = bytesOf p q ms in
     let regroup = append-assoc (lengthsBytes p q) (flatMap matchBytes ms) (0x45 ∷ []) in
@@ -181,6 +182,7 @@ module _ (s : List ℕ) (bytes : Bytes s) where
 
 pub admitted-written : (s : List ℕ) → Bytes s → {p q : ℕ} {ms : List Match} → Outcome s (value (contents p q ms))
     → bytesOf p q ms ≡ s
+unfolding bytesOf
 admitted-written s bytes {p} {q} {ms} (Outcome.is-admitted {at} r b e) =
     let end : drop at s ≡ 0x45 ∷ [] =
     drop-one s 0 at (omega arith)

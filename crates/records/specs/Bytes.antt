@@ -28,5 +28,5 @@ matchBytes m =
     codeOf (m .reversed) ∷ numberBytes (m .«left_a») ++ numberBytes (m .«left_b») ++ numberBytes (m .length)
 
 -- SCOPE, "Written": the lengths, the matches in their order, the end
-abbrev pub bytesOf : ℕ → ℕ → List Match → List ℕ
+unfoldable pub bytesOf : ℕ → ℕ → List Match → List ℕ
 bytesOf p q ms = lengthsBytes p q ++ flatMap matchBytes ms ++ 0x45 ∷ []
