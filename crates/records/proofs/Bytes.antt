@@ -35,7 +35,7 @@ module _ {X : Type 0} (l : List X) (blank : X) where
       ≡ getD l at blank ∷ getD l (at + 1) blank ∷ getD l (at + 2) blank ∷ getD l (at + 3) blank ∷ drop (at + 4) l
   drop-four at h =
       let on : (n : ℕ) → at + n + 1 ≤ length l → drop (at + n) l ≡ getD l (at + n) blank ∷ drop (at + suc n) l
-          = λ n k. let next : at + n + 1 ≡ at + suc n = omega arith in rw (← next) (drop-one (at + n) k) in
+      = λ n k. let next : at + n + 1 ≡ at + suc n = omega arith in rw (← next) (drop-one (at + n) k) in
       drop-one at (omega arith)
       ∙ rw (on 1 (omega arith), on 2 (omega arith), on 3 (omega arith))
 
@@ -57,8 +57,10 @@ number-back n h =
     (omega (arith, low n, low (n / 256), low (n / 256 / 256)))
 
 byte-split : (a n : ℕ) → a < 256 → ((a + 256 * n) % 256 ≡ a) × ((a + 256 * n) / 256 ≡ n)
-byte-split a n h = (add-mul-mod-self-left a 256 n ∙ mod-eq-of-lt h, 
-    let some : 0 < 256 = omega arith in add-mul-div-left a n some ∙ ap (λ (k : ℕ). k + n) (div-eq-of-lt h) ∙ omega arith)
+byte-split a n h = (
+  add-mul-mod-self-left a 256 n ∙ mod-eq-of-lt h,
+  let some : 0 < 256 = omega arith in add-mul-div-left a n some ∙ ap (λ (k : ℕ). k + n) (div-eq-of-lt h) ∙ omega arith,
+)
 
 bytes-back : (a b c d : ℕ) → a < 256 → b < 256 → c < 256 → d < 256
     → numberBytes (a + 256 * b + 65536 * c + 16777216 * d) ≡ a ∷ b ∷ c ∷ d ∷ []

@@ -15,6 +15,7 @@ use borrow.Author.Tests.{eq-eqb, lt-ltb, le-ltb}
 use lib.Dec.{ltb}
 use lib.ListN.{length, getD, take, drop, length-append, length-drop}
 use lib.Seq.{take-at, drop-at, getD-append-add, getD-append-seam}
+use Rattle.script.specs.Refusals.{numberOf, placeOf}
 use Rattle.script.specs.Commands.{bitOf}
 use Rattle.script.specs.Steps.{matchJudgement}
 use Rattle.script.specs.Reading.{Reading, admitted, refused, readScript}
@@ -34,7 +35,7 @@ use Rattle.records.specs.Records.{numbersOf, listOf, recordsOf, matchOf,
 use Rattle.records.specs.Bytes.{bytesOf}
 use Rattle.records.specs.Outcomes.{WayAt, Says, Begun, Passed, WritingOutcome, ListingOutcome}
 use Rattle.records.specs.Writing.{recordJudgement, judgedFrom, judgementOf, Writing, writingOfJudgement, writingOf}
-use Rattle.records.specs.Listing.{listingOfReading, listingOf}
+use Rattle.records.specs.Listing.{Listing, listingOfReading, listingOf}
 use Rattle.records.specs.Demands.{writtenAnswer, Back, WritingDemand, listedAnswer, ListingDemand}
 use Rattle.records.specs.declared.Written.{Written}
 use Rattle.records.specs.declared.Listed.{Listed}
@@ -185,3 +186,85 @@ module _ (s : List ℕ) (bytes : Bytes s) where
         admitted-written s bytes o,
         le-ltb (length lent) (length s) room,
       )
+
+  module _ (out : List ℕ) where
+    listing-alone : {a : Answer Counted} → ListingOutcome s (length out) a → a ≡ listedAnswer (listingOf s out .reply)
+    listing-alone (ListingOutcome.script-refused o) = let f = outcome-refused o in rw (f .read) (cc)
+    listing-alone (ListingOutcome.buffer-too-short {ms = ms} o short) =
+        rw (outcome-admitted o, lt-ltb (length out) (4 * length ms) short)
+    listing-alone (ListingOutcome.is-listed {ms = ms} o room) =
+        rw (outcome-admitted o, le-ltb (length out) (4 * length ms) room)
+
+    -- what the demand says of the buffer, and of the answer
+    record Lists (l : Listing) : Type 0 where
+      stated : ListingOutcome s (length out) (listedAnswer (l .reply))
+      as-long : length (l .records) ≡ length out
+      refused : {n place : ℕ} → listedAnswer (l .reply) ≡ refusal n place → l .records ≡ out
+      past : {p q count : ℕ} → listedAnswer (l .reply) ≡ value (counted p q count)
+          → drop (4 * count) (l .records) ≡ drop (4 * count) out
+      held : {p q count : ℕ} → listedAnswer (l .reply) ≡ value (counted p q count)
+          → (others rest : List Match) (m : Match) → Outcome s (value (contents p q (others ++ m ∷ rest)))
+          → Says (l .records) (length others) m
+      undone : {p q count : ℕ} → listedAnswer (l .reply) ≡ value (counted p q count) → (lent : List ℕ)
+          → length s ≤ length lent → writingOf p q (take (4 * count) (l .records)) lent
+          ≡ record { reply = Written.Bytes (length s); script = s ++ drop (length s) lent }
+
+    refused-lists : (f : Refusal) → ListingOutcome s (length out) (refusal (numberOf f) (placeOf f))
+        → Lists (record { reply = Listed.Refused f; records = out })
+    refused-lists f o =
+        record {
+          stated = o;
+          as-long = refl;
+          refused = λ _. refl;
+          past = λ e. absurd (no-value e);
+          held = λ e. absurd (no-value e);
+          undone = λ e. absurd (no-value e);
+        }
+
+    listed-lists : {p q : ℕ} {ms : List Match} → Outcome s (value (contents p q ms)) → 4 * length ms ≤ length out
+        → Lists (record { reply = Listed.Records p q (length ms); records = listOf ms ++ drop (4 * length ms) out })
+    listed-lists {p} {q} {ms} o room =
+        let long = list-length ms in
+        let fits : length (listOf ms) ≤ length out = omega arith in
+        let over : listOf ms ++ drop (length (listOf ms)) out ≡ listOf ms ++ drop (4 * length ms) out = rw long in
+        rw (← over) (record {
+          stated = ListingOutcome.is-listed o room;
+          as-long = over-length (listOf ms) out fits;
+          refused = λ e. absurd (no-value (sym e));
+          past = λ {count} e.
+              let is : count ≡ length ms = cc in
+              over-past (listOf ms) out fits {n = 4 * count} (omega arith);
+          held = λ e others rest m o′.
+              let same : ms ≡ others ++ m ∷ rest = cc (outcome-admitted o, outcome-admitted o′) in
+              rw same (list-says others rest m _);
+          undone = λ {p = p′} {q = q′} {count} e lent r.
+              let p-is : p′ ≡ p = cc in
+              let q-is : q′ ≡ q = cc in
+              let count-is : count ≡ length ms = cc in
+              rw (p-is, q-is, over-front (listOf ms) out fits {n = 4 * count} (omega arith)) (admitted-back o lent r);
+        })
+
+    lists-by : (x : Reading) → readScript s ≡ x → Lists (listingOfReading x out)
+    lists-by (refused f) e = refused-lists f (ListingOutcome.script-refused (read-outcome e))
+    lists-by (admitted p q ms) e =
+        let o = read-outcome e in
+        elim (decLe (4 * length ms) (length out)) [
+          | yes room ↦ rw (le-ltb (length out) (4 * length ms) room) (listed-lists o room)
+          | no short ↦ let less = lt-of-not-le short in
+              rw (lt-ltb (length out) (4 * length ms) less)
+              (refused-lists BufferTooShort (ListingOutcome.buffer-too-short o less))
+        ]
+
+    pub listing-demand : {reply : Listed} {out′ : List ℕ} → reply ≡ listingOf s out .reply
+        → out′ ≡ listingOf s out .records → ListingDemand s out out′ (listedAnswer reply)
+    listing-demand is is′ =
+        let lists = lists-by (readScript s) refl in
+        rw (is, is′) (record {
+          stated = lists .stated;
+          alone = λ _ o. listing-alone o;
+          as-long = lists .as-long;
+          refused = lists .refused;
+          past = lists .past;
+          held = lists .held;
+          undone = lists .undone;
+        })

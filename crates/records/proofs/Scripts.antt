@@ -41,8 +41,12 @@ flat-length f width each (m ∷ ms) =
 pub bytes-length : (p q : ℕ) (ms : List Match) → length (bytesOf p q ms) ≡ 10 + 13 * length ms
 unfolding bytesOf
 bytes-length p q ms =
-    omega (arith, length-append (lengthsBytes p q ++ flatMap matchBytes ms) (0x45 ∷ []),
-    length-append (lengthsBytes p q) (flatMap matchBytes ms), flat-length matchBytes 13 (λ m. refl) ms)
+    omega (
+      arith,
+      length-append (lengthsBytes p q ++ flatMap matchBytes ms) (0x45 ∷ []),
+      length-append (lengthsBytes p q) (flatMap matchBytes ms),
+      flat-length matchBytes 13 (λ m. refl) ms,
+    )
 
 -- ---- what is written is read
 
@@ -82,8 +86,11 @@ Split p q s before after =
 module _ (s : List ℕ) {p q : ℕ} (a : InRange p) (b : InRange q) where
   passed-length : (before : List Match) → length (lengthsBytes p q ++ flatMap matchBytes before) ≡ 9 + 13 * length before
   passed-length before =
-      omega (arith, length-append (lengthsBytes p q) (flatMap matchBytes before),
-      flat-length matchBytes 13 (λ m. refl) before)
+      omega (
+        arith,
+        length-append (lengthsBytes p q) (flatMap matchBytes before),
+        flat-length matchBytes 13 (λ m. refl) before,
+      )
 
   split-next : (before after : List Match) (m : Match) → Split p q s before (m ∷ after)
       → Split p q s (before ++ m ∷ []) after
@@ -153,8 +160,11 @@ module _ (s : List ℕ) (bytes : Bytes s) where
   lengths-bytes l =
       let whole = l .whole in
       drop-one s 0 0 (omega arith)
-      ∙ rw (l .code .is, number-bytes 1 5 (l .first) refl (omega arith),
-        number-bytes 5 9 (l .second) refl whole)
+      ∙ rw (
+        l .code .is,
+        number-bytes 1 5 (l .first) refl (omega arith),
+        number-bytes 5 9 (l .second) refl whole,
+      )
 
   match-code : {at : ℕ} {way : Bool} → MatchByte s at way → getD s at 0 ≡ codeOf way
   match-code (MatchByte.direct b) = b .is

@@ -171,9 +171,13 @@ module _ (p q : ℕ) (ns : List ℕ) where
     writing-alone (WritingOutcome.beyond-a r s k a) = match-alone r s (Weighed.beyond-a k a)
     writing-alone (WritingOutcome.beyond-b r s k a b) = match-alone r s (Weighed.beyond-b k a b)
     writing-alone (WritingOutcome.buffer-too-short r e short) =
-        rw (all-judged r e,
-          lt-ltb (length out) (length (bytesOf p q (matchesOf ns))) (omega (arith, written-length r e)))
+        rw (
+          all-judged r e,
+          lt-ltb (length out) (length (bytesOf p q (matchesOf ns))) (omega (arith, written-length r e)),
+        )
     writing-alone (WritingOutcome.is-written r e room) =
-        rw (all-judged r e,
+        rw (
+          all-judged r e,
           le-ltb (length out) (length (bytesOf p q (matchesOf ns))) (omega (arith, written-length r e)),
-          written-length r e)
+          written-length r e,
+        )
