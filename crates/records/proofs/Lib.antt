@@ -4,3 +4,4 @@ pub mod Lists
 pub mod Passed
 pub mod WritingOutcome
 pub mod Demands
+pub mod Laying

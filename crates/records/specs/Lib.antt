@@ -1,5 +1,6 @@
 pub mod Records
 pub mod Bytes
+pub mod Storing
 pub mod Outcomes
 pub mod Writing
 pub mod Listing

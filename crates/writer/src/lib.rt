@@ -1,0 +1,120 @@
+// The writer of scripts: from a list of records to the bytes of a script in a lent buffer.
+use judging_records::judge_records;
+use judging_records::match_of;
+use judging_records::record_at;
+use records::RECORD_WIDTH;
+use records::Written;
+use script::Match;
+use script::Refusal;
+use script::command::LENGTHS_WIDTH;
+use script::command::MATCH_WIDTH;
+use script::step::Judgement;
+ghost use mathlib.Core.Path.{_≡_};
+ghost use mathlib.Core.List.{[], _∷_, flatMap};
+ghost use Prim.Native.Nat.{_+_, _*_, _≤_, _<_};
+ghost use lib.ListN.{length};
+ghost use Rattle.script.specs.Commands.{lengthsWidth, matchWidth};
+ghost use Rattle.records.specs.Records.{recordsOf, matchesOf};
+ghost use Rattle.records.specs.Bytes.{numberBytes, lengthsBytes, codeOf, matchBytes, bytesOf};
+ghost use Rattle.records.specs.Storing.{Stored};
+ghost use Rattle.records.specs.Writing.{writingOf};
+ghost use Rattle.records.specs.Demands.{writtenAnswer, WritingDemand};
+
+fn put_byte(out: &mut [u8], at: usize, byte: u8)
+    requires { ⌜ at < length (now out) ⌝ }
+    ensures { λ _. ⌜ Stored (now (out .entry)) at (byte ∷ []) (now (out .exit)) ⌝ }
+{
+    out[at] = byte;
+}
+
+// Puts the four bytes of a number, the least first.
+fn put_number(out: &mut [u8], at: usize, number: u32)
+    requires { ⌜ at + 4 ≤ length (now out) ⌝ }
+    ensures { λ _. ⌜ Stored (now (out .entry)) at (numberBytes number) (now (out .exit)) ⌝ }
+{
+    out[at] = (number % 256) as u8;
+    out[at + 1] = (number / 256 % 256) as u8;
+    out[at + 2] = (number / 65_536 % 256) as u8;
+    out[at + 3] = (number / 16_777_216 % 256) as u8;
+}
+
+// Puts the lengths command.
+fn put_lengths(out: &mut [u8], p: u32, q: u32)
+    requires { ⌜ lengthsWidth ≤ length (now out) ⌝ }
+    ensures { λ _. ⌜ Stored (now (out .entry)) 0 (lengthsBytes p q) (now (out .exit)) ⌝ }
+{
+    put_byte(out, 0, 0x4C);
+    put_number(out, 1, p);
+    put_number(out, 5, q);
+}
+
+// The byte that begins a match command.
+fn code_of(reversed: bool) -> u8
+    ensures { λ r. ⌜ r ≡ codeOf reversed ⌝ }
+{
+    if reversed { 0x52 } else { 0x44 }
+}
+
+// Puts a match command.
+fn put_match(out: &mut [u8], at: usize, found: Match)
+    requires { ⌜ at + matchWidth ≤ length (now out) ⌝ }
+    ensures { λ _. ⌜ Stored (now (out .entry)) at (matchBytes found) (now (out .exit)) ⌝ }
+{
+    put_byte(out, at, code_of(found.reversed));
+    put_number(out, at + 1, found.left_a);
+    put_number(out, at + 5, found.left_b);
+    put_number(out, at + 9, found.length);
+}
+
+// Puts the commands of all records behind the lengths.
+fn put_matches(out: &mut [u8], records: &[u32], count: usize)
+    requires { ⌜
+        (count ≡ length (recordsOf (now records))) × (lengthsWidth + matchWidth * count ≤ length (now out)) ⌝ }
+    ensures { λ _. ⌜
+        Stored (now (out .entry)) lengthsWidth (flatMap matchBytes (matchesOf (now (records .entry))))
+        (now (out .exit)) ⌝ }
+{
+    let mut k = 0;
+    while k < count {
+        put_match(
+            out,
+            LENGTHS_WIDTH + MATCH_WIDTH * k,
+            match_of(record_at(records, k)),
+        );
+        k += 1;
+    }
+}
+
+// Puts the whole script of a list without a fault.
+fn put_script(out: &mut [u8], p: u32, q: u32, records: &[u32], count: usize)
+    requires { ⌜
+        (count ≡ length (recordsOf (now records))) × (lengthsWidth + matchWidth * count + 1 ≤ length (now out)) ⌝ }
+    ensures { λ _. ⌜ Stored (now (out .entry)) 0 (bytesOf p q (matchesOf (now (records .entry)))) (now (out .exit)) ⌝ }
+{
+    put_lengths(out, p, q);
+    put_matches(out, records, count);
+    put_byte(out, LENGTHS_WIDTH + MATCH_WIDTH * count, 0x45);
+}
+
+// Writes the script of p, q and the records, four numbers each, to the start of the lent buffer. All records are judged
+// before a byte is written, so that a refusal leaves the buffer as it was.
+pub fn write(p: u32, q: u32, records: &[u32], out: &mut [u8]) -> Written
+    ensures reply { λ r. ⌜ r ≡ writingOf p q (now (records .entry)) (now (out .entry)) .reply ⌝ }
+    ensures script { λ _. ⌜
+        now (out .exit) ≡ writingOf p q (now (records .entry)) (now (out .entry)) .script ⌝ }
+    ensures demand { λ r. ⌜
+        WritingDemand p q (now (records .entry)) (now (out .entry)) (now (out .exit)) (writtenAnswer r) ⌝ }
+{
+    match judge_records(p, q, records) {
+        Judgement::Faulty(refusal) => Written::Refused(refusal),
+        Judgement::Sound => {
+            let count = records.len() / RECORD_WIDTH;
+            let length = LENGTHS_WIDTH + MATCH_WIDTH * count + 1;
+            if out.len() < length {
+                return Written::Refused(Refusal::BufferTooShort);
+            }
+            put_script(out, p, q, records, count);
+            Written::Bytes(length)
+        }
+    }
+}
