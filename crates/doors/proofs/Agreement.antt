@@ -4,7 +4,7 @@
 --     Hears            this is heard, and the rest is as it was
 --     number-some      no refusal has the number 0
 --     success-heard, refusal-heard of what the doors on scripts share
---     read-heard, match-heard, refine-heard, carry-heard     of each of these doors
+--     read-heard, write-heard, records-heard, match-heard, refine-heard, carry-heard     of each of these doors
 --     rows-heard, summary-heard    of the doors on tables
 --     report-heard                 of the door for the text
 -- That carrying from one side undoes carrying from the other: proofs/Carrying. Assumes nothing.
@@ -23,6 +23,10 @@ use Rattle.script.specs.Finding.{findingOf}
 use Rattle.script.specs.declared.refusal.Refusal.{Refusal}
 use Rattle.script.specs.declared.Verdict.{Verdict}
 use Rattle.script.specs.declared.Finding.{Finding}
+use Rattle.records.specs.Writing.{writingOf}
+use Rattle.records.specs.Listing.{listingOf}
+use Rattle.records.specs.declared.Written.{Written}
+use Rattle.records.specs.declared.Listed.{Listed}
 use Rattle.refinement.specs.declared.Side.{Side}
 use Rattle.refining.specs.Refining.{refiningOf}
 use Rattle.refining.specs.Carrying.{carryingOf}
@@ -34,6 +38,7 @@ use Rattle.table.specs.Summing.{summaryOf}
 use Rattle.doors.specs.Doors.{Reply, gives, refuses, door, Read, ofReading, readDoor, OneMatch, ofFinding}
 use Rattle.doors.specs.Doors.{matchDoor, ofRefined, refineDoor, ofCarried, carryDoor, carryFromA, carryFromB}
 use Rattle.doors.specs.Doors.{rowsDoor, summaryDoor, ReportReply, ofReported, reportDoor}
+use Rattle.doors.specs.Doors.{ofWritten, writeDoor, ofListed, recordsDoor}
 
 -- ---- what the doors on scripts share
 
@@ -110,6 +115,32 @@ read-heard script place was = go (readScript script)
     go (admitted p q ms) = success-heard place was _
     go (refused r) = refusal-heard place was r
 
+-- the length of the script that is written
+abbrev writtenHeard : Written → Heard ℕ
+writtenHeard (Written.Bytes n) = success n
+writtenHeard (Written.Refused r) = refusalHeard r
+
+write-heard : (p q : ℕ) (records script : List ℕ) (place was : ℕ)
+    → Hears place was (writtenHeard (writingOf p q records script .reply)) (writeDoor p q records script place was)
+write-heard p q records script place was = go (writingOf p q records script .reply)
+  where
+    go : (a : Written) → Hears place was (writtenHeard a) (door (ofWritten a) place was)
+    go (Written.Bytes n) = success-heard place was _
+    go (Written.Refused r) = refusal-heard place was r
+
+-- the lengths and the count of the records that are read
+abbrev listedHeard : Listed → Heard Read
+listedHeard (Listed.Records p q n) = success (record { p = p; q = q; count = n })
+listedHeard (Listed.Refused r) = refusalHeard r
+
+records-heard : (script records : List ℕ) (place : ℕ) (was : Read)
+    → Hears place was (listedHeard (listingOf script records .reply)) (recordsDoor script records place was)
+records-heard script records place was = go (listingOf script records .reply)
+  where
+    go : (a : Listed) → Hears place was (listedHeard a) (door (ofListed a) place was)
+    go (Listed.Records p q n) = success-heard place was _
+    go (Listed.Refused r) = refusal-heard place was r
+
 -- the match that is found
 abbrev findingHeard : Finding → Heard OneMatch
 findingHeard (Finding.Found m) =
@@ -184,8 +215,9 @@ record Texts (printed text : List ℕ) (x : ReportReply) (text′ : List ℕ) : 
   -- it is printed if it fits, and the bytes behind it are as they were
   whole : x .number ≡ 0 → text′ ≡ printed ++ drop (length printed) text
   fits : x .number ≡ 0 ↔ length printed ≤ length text
-  -- and else all of them are
+  -- and else all of them are, and the number is 16
   kept : x .number ≢ 0 → text′ ≡ text
+  refused : x .number ≢ 0 → x .number ≡ 16
 
 report-heard : (script text : List ℕ)
     → Texts (reportOf script) text (reportDoor script text) (reportingOf script text .text)
@@ -201,6 +233,7 @@ report-heard script text = go (reportOf script)
                 whole = λ _. refl;
                 fits = (λ _. room, λ _. refl);
                 kept = λ n. absurd (n refl);
+                refused = λ n. absurd (n refl);
               })
           | no short ↦ rw (lt-ltb (length text) (length printed) (omega arith))
               (record {
@@ -208,5 +241,6 @@ report-heard script text = go (reportOf script)
                 whole = λ e. absurd (omega arith);
                 fits = (λ e. absurd (omega arith), λ room. absurd (short room));
                 kept = λ _. refl;
+                refused = λ _. refl;
               })
         ]

@@ -1,5 +1,6 @@
 -- What a door hands out, by what the call of the library says.
 --     read-given, read-refused                  the door for reading
+--     write-given, write-refused, records-given, records-refused     the doors for lists
 --     match-refused                             the door for one match
 --     refine-given, refine-refused              the door for refining
 --     carry-given, carry-refused                the doors for carrying
@@ -12,16 +13,21 @@ use Rattle.script.specs.Refusals.{numberOf, placeOf}
 use Rattle.script.specs.Reading.{readScript, verdictOf}
 use Rattle.script.specs.Finding.{findingOf}
 use Rattle.script.specs.declared.refusal.Refusal.{Refusal}
+use Rattle.script.specs.declared.refusal.Refusal.the-variants.{BufferTooShort}
 use Rattle.script.specs.declared.Finding.{Finding}
 use Rattle.script.specs.declared.Verdict.{Verdict}
 use Rattle.script.proofs.Admitted.{holds-admitted, reading-refused}
+use Rattle.records.specs.Writing.{writingOf}
+use Rattle.records.specs.Listing.{listingOf}
+use Rattle.records.specs.declared.Written.{Written}
+use Rattle.records.specs.declared.Listed.{Listed}
 use Rattle.refinement.specs.declared.Side.{Side}
 use Rattle.refining.specs.Refining.{refiningOf}
 use Rattle.refining.specs.Carrying.{carryingOf}
 use Rattle.refining.specs.declared.answers.Refined.{Refined}
 use Rattle.refining.specs.declared.answers.Carried.{Carried}
 use Rattle.doors.specs.Doors.{Reply, Read, OneMatch, readDoor, matchDoor, refineDoor, carryDoor, reportDoor}
-use Rattle.doors.specs.Doors.{ReportReply}
+use Rattle.doors.specs.Doors.{ReportReply, writeDoor, recordsDoor}
 use Rattle.reporting.specs.Reporting.{reportingOf}
 use Rattle.reporting.specs.declared.Reported.{Reported}
 
@@ -36,6 +42,32 @@ module _ (script : List ℕ) (was-place : ℕ) (was : Read) {told : Verdict}
       → place ≡ placeOf f
       → _≡_ {A = Reply Read} (record { number = number; place = place; given = was }) (readDoor script was-place was)
   read-refused v n p = rw (reading-refused script reads v, n, p)
+
+module _ (p q : ℕ) (records script : List ℕ) (was-place was : ℕ) {reply : Written}
+    (replies : reply ≡ writingOf p q records script .reply) where
+  pub write-given : {length : ℕ} → reply ≡ Written.Bytes length
+      → _≡_ {A = Reply ℕ} (record { number = 0; place = was-place; given = length })
+      (writeDoor p q records script was-place was)
+  write-given e = rw (sym replies ∙ e)
+
+  pub write-refused : {f : Refusal} {number place : ℕ} → reply ≡ Written.Refused f → number ≡ numberOf f
+      → place ≡ placeOf f
+      → _≡_ {A = Reply ℕ} (record { number = number; place = place; given = was })
+      (writeDoor p q records script was-place was)
+  write-refused e n at = rw (sym replies ∙ e, n, at)
+
+module _ (script records : List ℕ) (was-place : ℕ) (was : Read) {reply : Listed}
+    (replies : reply ≡ listingOf script records .reply) where
+  pub records-given : {p q count : ℕ} → reply ≡ Listed.Records p q count
+      → _≡_ {A = Reply Read} (record { number = 0; place = was-place; given = record { p = p; q = q; count = count } })
+      (recordsDoor script records was-place was)
+  records-given e = rw (sym replies ∙ e)
+
+  pub records-refused : {f : Refusal} {number place : ℕ} → reply ≡ Listed.Refused f → number ≡ numberOf f
+      → place ≡ placeOf f
+      → _≡_ {A = Reply Read} (record { number = number; place = place; given = was })
+      (recordsDoor script records was-place was)
+  records-refused e n at = rw (sym replies ∙ e, n, at)
 
 module _ (script : List ℕ) (index was-place : ℕ) (was : OneMatch) {finding : Finding}
     (finds : finding ≡ findingOf (readScript script) index) where
@@ -77,5 +109,6 @@ module _ (script text : List ℕ) {reply : Reported} (replies : reply ≡ report
   report-printed e = rw (sym replies ∙ e)
 
   pub report-short : reply ≡ Reported.TextTooShort n
-      → _≡_ {A = ReportReply} (record { number = 16; length = n }) (reportDoor script text)
-  report-short e = rw (sym replies ∙ e)
+      → {number : ℕ} → number ≡ numberOf BufferTooShort
+      → _≡_ {A = ReportReply} (record { number = number; length = n }) (reportDoor script text)
+  report-short e is = rw (sym replies ∙ e, is)

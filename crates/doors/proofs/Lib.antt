@@ -1,3 +1,4 @@
 pub mod Agreement
 pub mod Carrying
 pub mod Handed
+pub mod Lists

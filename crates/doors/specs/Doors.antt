@@ -3,6 +3,7 @@
 --     Said X           what a call of the library says, whatever its kind: something to hand out, or a refusal
 --     door             what a door makes of it
 --     readDoor, matchDoor, refineDoor, carryFromA, carryFromB     the doors on scripts
+--     writeDoor, recordsDoor     the doors for lists
 --     rowsDoor, summaryDoor     the doors on tables, which refuse nothing
 --     reportDoor       the door for the text
 -- `place` and `was` stood behind the pointers before the call. Assumes nothing.
@@ -14,7 +15,12 @@ use Rattle.script.specs.Refusals.{numberOf, placeOf}
 use Rattle.script.specs.Reading.{Reading, admitted, refused, readScript}
 use Rattle.script.specs.Finding.{findingOf}
 use Rattle.script.specs.declared.refusal.Refusal.{Refusal}
+use Rattle.script.specs.declared.refusal.Refusal.the-variants.{BufferTooShort}
 use Rattle.script.specs.declared.Finding.{Finding}
+use Rattle.records.specs.Writing.{writingOf}
+use Rattle.records.specs.Listing.{listingOf}
+use Rattle.records.specs.declared.Written.{Written}
+use Rattle.records.specs.declared.Listed.{Listed}
 use Rattle.refinement.specs.declared.Side.{Side}
 use Rattle.refinement.specs.declared.Side.the-variants.{A, B}
 use Rattle.refining.specs.Refining.{refiningOf}
@@ -63,6 +69,26 @@ ofReading (refused r) = refuses r
 -- notchergrey_read
 abbrev pub readDoor : List ℕ → ℕ → Read → Reply Read
 readDoor script place was = door (ofReading (readScript script)) place was
+
+-- ---- lists
+
+-- SCOPE, "Written": the script's length
+abbrev pub ofWritten : Written → Said ℕ
+ofWritten (Written.Bytes n) = gives n
+ofWritten (Written.Refused r) = refuses r
+
+-- notchergrey_write; what the lent bytes are after it is the library's `writingOf`
+abbrev pub writeDoor : ℕ → ℕ → List ℕ → List ℕ → ℕ → ℕ → Reply ℕ
+writeDoor p q records script place was = door (ofWritten (writingOf p q records script .reply)) place was
+
+-- SCOPE, "Listed": the lengths and the count of records
+abbrev pub ofListed : Listed → Said Read
+ofListed (Listed.Records p q count) = gives (record { p = p; q = q; count = count })
+ofListed (Listed.Refused r) = refuses r
+
+-- notchergrey_read_records; what the lent numbers are after it is the library's `listingOf`
+abbrev pub recordsDoor : List ℕ → List ℕ → ℕ → Read → Reply Read
+recordsDoor script records place was = door (ofListed (listingOf script records .reply)) place was
 
 -- ---- one match
 
@@ -154,10 +180,10 @@ pub record ReportReply : Type 0 where
   pub number : ℕ
   pub length : ℕ
 
--- a text that fits: 0 and its length; else 16 and the length that it needs
+-- a text that fits: 0 and its length; else the number of a buffer that is too short, and the length that it needs
 abbrev pub ofReported : Reported → ReportReply
 ofReported (Reported.Printed n) = record { number = 0; length = n }
-ofReported (Reported.TextTooShort n) = record { number = 16; length = n }
+ofReported (Reported.TextTooShort n) = record { number = numberOf BufferTooShort; length = n }
 
 -- notchergrey_report; what the lent text holds after it is the library's `reportingOf`
 abbrev pub reportDoor : List ℕ → List ℕ → ReportReply
