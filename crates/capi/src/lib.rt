@@ -4,6 +4,9 @@
 use commands::bit;
 use match_rows::span_of;
 use reader::find::find_match;
+use record_reader::read_records;
+use records::Listed;
+use records::Written;
 use refinement::Side;
 use refining::answers::Carried;
 use refining::answers::Refined;
@@ -11,17 +14,18 @@ use refusals::number_of;
 use refusals::place_of;
 use reporting::Reported;
 use script::Finding;
+use script::Refusal;
 use script::Verdict;
 use summary::sum_up;
 use table::CLASSES;
 ghost use mathlib.Core.Path.{_≡_};
 ghost use Rattle.doors.specs.Doors.{readDoor, matchDoor, refineDoor, carryDoor, carryFromA, carryFromB};
 ghost use Rattle.doors.specs.Doors.{rowsDoor, summaryDoor, reportDoor};
+ghost use Rattle.doors.specs.Doors.{writeDoor, recordsDoor};
+ghost use Rattle.records.specs.Listing.{listingOf};
+ghost use Rattle.records.specs.Writing.{writingOf};
 ghost use Rattle.refining.specs.Refining.{refiningOf};
 ghost use Rattle.reporting.specs.Reporting.{reportingOf};
-
-// The number that a request after 01 gives a lent buffer that is too short; 01 itself has none for it.
-const TOO_SHORT: u32 = 16;
 
 // Reads a script: p, q and the count of matches.
 #[no_mangle]
@@ -100,6 +104,72 @@ pub extern "C" fn notchergrey_match(
             0
         }
         Finding::Refused(refusal) => {
+            *place = place_of(refusal);
+            number_of(refusal)
+        }
+    }
+}
+
+// Writes the script of a list of records to the lent bytes; `length` becomes its length.
+#[no_mangle]
+pub extern "C" fn notchergrey_write(
+    p: u32,
+    q: u32,
+    records: &[u32],
+    script: &mut [u8],
+    place: &mut usize,
+    length: &mut usize,
+) -> u32
+    ensures { λ r. ⌜
+        record { number = r; place = now (place .exit); given = now (length .exit) }
+        ≡ writeDoor p q (now (records .entry)) (now (script .entry)) (now (place .entry)) (now (length .entry)) ⌝ }
+    ensures { λ _. ⌜
+        now (script .exit) ≡ writingOf p q (now (records .entry)) (now (script .entry)) .script ⌝ }
+{
+    match writer::write(p, q, records, script) {
+        Written::Bytes(n) => {
+            *length = n;
+            0
+        }
+        Written::Refused(refusal) => {
+            *place = place_of(refusal);
+            number_of(refusal)
+        }
+    }
+}
+
+// Reads a script into a list: p, q and the count of matches, and their records in the lent numbers.
+#[no_mangle]
+pub extern "C" fn notchergrey_read_records(
+    script: &[u8],
+    records: &mut [u32],
+    place: &mut usize,
+    p: &mut u32,
+    q: &mut u32,
+    count: &mut usize,
+) -> u32
+    ensures { λ r. ⌜
+        record {
+          number = r;
+          place = now (place .exit);
+          given = record { p = now (p .exit); q = now (q .exit); count = now (count .exit) };
+        }
+        ≡ recordsDoor (now (script .entry)) (now (records .entry)) (now (place .entry))
+        (record { p = now (p .entry); q = now (q .entry); count = now (count .entry) }) ⌝ }
+    ensures { λ _. ⌜ now (records .exit) ≡ listingOf (now (script .entry)) (now (records .entry)) .records ⌝ }
+{
+    match read_records(script, records) {
+        Listed::Records {
+            p: a,
+            q: b,
+            count: n,
+        } => {
+            *p = a;
+            *q = b;
+            *count = n;
+            0
+        }
+        Listed::Refused(refusal) => {
             *place = place_of(refusal);
             number_of(refusal)
         }
@@ -255,7 +325,7 @@ pub extern "C" fn notchergrey_report(script: &[u8], text: &mut [u8], length: &mu
         }
         Reported::TextTooShort(n) => {
             *length = n;
-            TOO_SHORT
+            number_of(Refusal::BufferTooShort)
         }
     }
 }

@@ -13,6 +13,9 @@ enum-known-n c = search needs
 enum-known-n-2 : tie.Need-enum-known-n-2
 enum-known-n-2 c = search needs
 
+number-of-requires : tie.Need-number-of-requires
+number-of-requires c κs = search needs
+
 same-length : tie.Need-same-length
 same-length c = search needs
 
@@ -32,6 +35,7 @@ notchergrey-report-spec =
     report-requires
     enum-known-n
     enum-known-n-2
+    number-of-requires
     same-length
     returns
     same-length-2
