@@ -5,11 +5,12 @@
 use crate::slow::carrying::Side;
 use notchergrey_sys::{
     notchergrey_carry_from_a, notchergrey_carry_from_b, notchergrey_match, notchergrey_read,
-    notchergrey_refine, notchergrey_report, notchergrey_rows_of, notchergrey_summary,
+    notchergrey_read_records, notchergrey_refine, notchergrey_report, notchergrey_rows_of,
+    notchergrey_summary, notchergrey_write,
 };
 use std::ptr;
 
-/// The numbers lent to the door that reads a script.
+/// The numbers lent to the door that reads a script, and to the one that reads its records.
 #[derive(Clone, Copy, Debug, PartialEq, Eq)]
 pub struct Reading {
     pub place: usize,
@@ -26,6 +27,13 @@ pub struct OneMatch {
     pub left_b: u32,
     pub length: u32,
     pub reversed: u32,
+}
+
+/// The numbers lent to the door that writes a script, beside the buffer for it.
+#[derive(Clone, Copy, Debug, PartialEq, Eq)]
+pub struct Writing {
+    pub place: usize,
+    pub length: usize,
 }
 
 /// The numbers lent to the door that refines, beside the table and the work buffer.
@@ -90,6 +98,36 @@ pub fn one_match(script: &[u8], number: u32, lent: &mut OneMatch) -> u32 {
     }
 }
 
+pub fn write(p: u32, q: u32, records: &[u32], script: &mut [u8], lent: &mut Writing) -> u32 {
+    unsafe {
+        notchergrey_write(
+            p,
+            q,
+            start_of(records),
+            records.len(),
+            start_of_lent(script),
+            script.len(),
+            &mut lent.place,
+            &mut lent.length,
+        )
+    }
+}
+
+pub fn read_records(script: &[u8], records: &mut [u32], lent: &mut Reading) -> u32 {
+    unsafe {
+        notchergrey_read_records(
+            start_of(script),
+            script.len(),
+            start_of_lent(records),
+            records.len(),
+            &mut lent.place,
+            &mut lent.p,
+            &mut lent.q,
+            &mut lent.count,
+        )
+    }
+}
+
 pub fn refine(script: &[u8], table: &mut [u32], work: &mut [u32], lent: &mut Refining) -> u32 {
     unsafe {
         notchergrey_refine(
@@ -146,9 +184,6 @@ pub fn summary(table: &[u32], lent: &mut Summary) -> u32 {
         )
     }
 }
-
-/// The answer of the door that reports where the text is too long for the buffer lent to it.
-pub const BUFFER_TOO_SHORT: u32 = 16;
 
 /// A refusal's line is a text like any other: the answer is 0 wherever the text fits.
 pub fn report(script: &[u8], text: &mut [u8], length: &mut usize) -> u32 {

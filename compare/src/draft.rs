@@ -2,6 +2,11 @@
 
 use crate::slow::script::{DIRECT, END, LENGTHS, REVERSED};
 
+/// A command byte and its operands.
+pub const BYTES_OF_LENGTHS: usize = 1 + 2 * 4;
+pub const BYTES_OF_A_MATCH: usize = 1 + 3 * 4;
+pub const BYTES_OF_END: usize = 1;
+
 /// The operands and the direction of a match.
 #[derive(Clone, Copy, Debug)]
 pub struct DraftMatch {

@@ -1,4 +1,4 @@
-//! A slow, plain program written from the paper 01, and what sets the proved program beside
+//! A slow, plain program written from the papers 01 and 02, and what sets the proved program beside
 //! it.
 
 pub mod calls;

@@ -57,6 +57,8 @@ fn all_parts(options: &Options) -> Result<usize, String> {
     calls += one_part(&calls::read::PART, options)?;
     calls += one_part(&calls::one_match::PART, options)?;
     calls += one_part(&calls::one_match::PART_OF_ALL_MATCHES, options)?;
+    calls += one_part(&calls::write::PART, options)?;
+    calls += one_part(&calls::read_records::PART, options)?;
     calls += one_part(&calls::refine::PART, options)?;
     calls += one_part(&calls::refine::PART_OF_ALL_LENGTHS, options)?;
     calls += one_part(&calls::carry::PART, options)?;

@@ -5,7 +5,8 @@ use crate::random::Random;
 use crate::tally::{Need, Tally};
 use std::fmt;
 
-/// An input is a list of `Element`s: the bytes of a script or the numbers of a table.
+/// An input is a list of `Element`s: the bytes of a script, the numbers of a table, or p and q with
+/// the numbers of the records behind them.
 pub struct Part<Element: 'static> {
     /// The door's name.
     pub name: &'static str,
@@ -102,6 +103,18 @@ impl<E: Element> Part<E> {
     }
 }
 
+/// How long a buffer is lent where so much is needed: not at all, any length that is too short, one
+/// less, just enough, one more and some more; each length once.
+pub fn lengths_around(needed: usize, random: &mut Random) -> Vec<usize> {
+    let one_less = needed.saturating_sub(1);
+    let any_less = random.count_between(0, one_less);
+    let some_more = needed + random.count_between(2, 100);
+    let mut lengths = vec![0, any_less, one_less, needed, needed + 1, some_more];
+    lengths.sort_unstable();
+    lengths.dedup();
+    lengths
+}
+
 /// Holds one number to what was wanted.
 pub fn same<T: PartialEq + fmt::Display>(name: &str, wanted: T, got: T) -> Result<(), String> {
     if wanted == got {
@@ -134,29 +147,26 @@ impl fmt::Display for Difference {
 }
 
 impl Element for u8 {
-    /// All bytes of a short script; of a long one its beginning and its end.
     fn shown(script: &[u8]) -> String {
-        const SHOWN: usize = 100;
-        let bytes = if script.len() <= 2 * SHOWN {
-            hex(script)
-        } else {
-            let (first, last) = (&script[..SHOWN], &script[script.len() - SHOWN..]);
-            format!("{}.. .. {}", hex(first), hex(last))
-        };
+        let bytes = both_ends(script, |byte| format!("{byte:02X} "));
         format!("script ({} bytes): {bytes}", script.len())
     }
 }
 
 impl Element for u32 {
-    /// All numbers of a short table, the first ones of a long one.
-    fn shown(table: &[u32]) -> String {
-        const SHOWN: usize = 200;
-        let first = &table[..table.len().min(SHOWN)];
-        let numbers: String = first.iter().map(|number| format!("{number} ")).collect();
-        format!("table ({} numbers): {numbers}", table.len())
+    fn shown(input: &[u32]) -> String {
+        let numbers = both_ends(input, |number| format!("{number} "));
+        format!("{} numbers: {numbers}", input.len())
     }
 }
 
-fn hex(bytes: &[u8]) -> String {
-    bytes.iter().map(|byte| format!("{byte:02X} ")).collect()
+/// All of a short input; of a long one its beginning and its end.
+fn both_ends<T>(input: &[T], one: impl Fn(&T) -> String) -> String {
+    const SHOWN: usize = 100;
+    let all = |part: &[T]| part.iter().map(&one).collect::<String>();
+    if input.len() <= 2 * SHOWN {
+        return all(input);
+    }
+    let (first, last) = (&input[..SHOWN], &input[input.len() - SHOWN..]);
+    format!("{}.. .. {}", all(first), all(last))
 }

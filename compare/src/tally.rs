@@ -9,8 +9,8 @@ pub enum Outcome {
     Success,
     /// The refusal of this number.
     Refused(u32),
-    /// A lent text buffer was too short, which is no refusal of 01.
-    TextTooLong,
+    /// From what a success gave, the door that undoes it gave back the input.
+    Undone,
 }
 
 /// What must be met of one outcome at least, so that a generator's fault cannot hide.
@@ -39,8 +39,15 @@ impl Need {
         Need::of(Outcome::Refused(number), times, values)
     }
 
-    pub const fn text_too_long(times: usize, values: usize) -> Need {
-        Need::of(Outcome::TextTooLong, times, values)
+    pub const fn refused_at(number: u32, place: usize) -> Need {
+        Need {
+            value: Some(place),
+            ..Need::refused(number, 1, 1)
+        }
+    }
+
+    pub const fn undone(times: usize, values: usize) -> Need {
+        Need::of(Outcome::Undone, times, values)
     }
 
     const fn of(outcome: Outcome, times: usize, values: usize) -> Need {
@@ -148,7 +155,7 @@ impl fmt::Display for Outcome {
         match self {
             Outcome::Success => f.write_str("success"),
             Outcome::Refused(number) => write!(f, "refusal {number}"),
-            Outcome::TextTooLong => f.write_str("text buffer too short"),
+            Outcome::Undone => f.write_str("undone by the other door"),
         }
     }
 }

@@ -3,7 +3,9 @@
 pub mod carry;
 pub mod one_match;
 pub mod read;
+pub mod read_records;
 pub mod refine;
 pub mod report;
 pub mod rows_of;
 pub mod summary;
+pub mod write;

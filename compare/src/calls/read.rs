@@ -26,13 +26,17 @@ fn compare(bytes: &[u8], random: &mut Random, tally: &mut Tally) -> Result<(), S
     let count = slow.as_ref().map(|script| script.matches.len());
     tally.met(count.map_err(|&refusal| refusal));
     same("the answer", Refusal::number_in(&slow), number)?;
-    same("place", wanted.place, after.place)?;
-    same("p", wanted.p, after.p)?;
-    same("q", wanted.q, after.q)?;
-    same("count", wanted.count, after.count)
+    same_numbers(wanted, after)
 }
 
-fn rubbish(random: &mut Random) -> Reading {
+pub fn same_numbers(wanted: Reading, got: Reading) -> Result<(), String> {
+    same("place", wanted.place, got.place)?;
+    same("p", wanted.p, got.p)?;
+    same("q", wanted.q, got.q)?;
+    same("count", wanted.count, got.count)
+}
+
+pub fn rubbish(random: &mut Random) -> Reading {
     Reading {
         place: random.any_usize(),
         p: random.any_u32(),
@@ -42,7 +46,7 @@ fn rubbish(random: &mut Random) -> Reading {
 }
 
 /// Success leaves the place as it was, and a refusal every other number.
-fn wanted(before: Reading, slow: &Result<Script, Refusal>) -> Reading {
+pub fn wanted(before: Reading, slow: &Result<Script, Refusal>) -> Reading {
     match slow {
         Ok(script) => Reading {
             place: before.place,

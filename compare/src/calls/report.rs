@@ -4,8 +4,9 @@ use crate::door;
 use crate::groups;
 use crate::part::{same, same_all, Part};
 use crate::random::Random;
+use crate::slow::refusal::{Refusal, Word};
 use crate::slow::report::{run, text_of, ROWS};
-use crate::tally::{Need, Outcome, Tally, REFUSALS_OF_SCRIPTS};
+use crate::tally::{Need, Tally, REFUSALS_OF_SCRIPTS};
 
 pub const PART: Part<u8> = Part {
     name: "notchergrey_report",
@@ -19,7 +20,7 @@ pub const PART: Part<u8> = Part {
             Need::success_with(0),
             Need::success_with(ROWS),
             Need::refused(12, 20, 1),
-            Need::text_too_long(20_000, 100),
+            Need::refused(16, 20_000, 1),
         ],
         REFUSALS_OF_SCRIPTS,
     ],
@@ -36,7 +37,7 @@ fn compare(bytes: &[u8], random: &mut Random, tally: &mut Tally) -> Result<(), S
             .map_err(|what| format!("with {room} bytes of text, {what}"))?;
     }
     for room in [just_enough - 1, random.count_between(0, just_enough - 1)] {
-        tally.met_outcome(Outcome::TextTooLong, room);
+        tally.met(Err(Refusal::of_the_call(Word::BufferTooShort)));
         compare_unprinted(bytes, just_enough, room, random)
             .map_err(|what| format!("with {room} bytes of text, {what}"))?;
     }
@@ -69,7 +70,7 @@ fn compare_unprinted(
     let before = random.any_bytes(room);
     let (mut got, mut length) = (before.clone(), random.any_usize());
     let answer = door::report(bytes, &mut got, &mut length);
-    same("the answer", door::BUFFER_TOO_SHORT, answer)?;
+    same("the answer", Word::BufferTooShort as u32, answer)?;
     same("the length", needed, length)?;
     same_all("text", &before, &got)
 }

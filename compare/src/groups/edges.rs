@@ -5,6 +5,10 @@ use crate::draft::Draft;
 use crate::random::Random;
 use crate::slow::script::{DIRECT, REVERSED};
 
+/// p and q, in different orders of size.
+pub const SOME_LENGTHS: [(u32, u32); 5] =
+    [(1, 1), (10, 7), (300, 70_000), (1, LONGEST), (LONGEST, 2)];
+
 /// 01, "Small scripts at the edges" and "One run, complete", all but those of 2,048 matches and
 /// more, and sums that would come out small in 32 bits.
 pub fn lines_of_01(_: &mut Random) -> Vec<Vec<u8>> {
@@ -51,10 +55,7 @@ pub fn command_bytes(_: &mut Random) -> Vec<Vec<u8>> {
 }
 
 pub fn lengths_at_the_limits(_: &mut Random) -> Vec<Vec<u8>> {
-    let around_the_longest = [1, 0x100, 0x1_0000, 0x100_0000].map(|d| [LONGEST - d, LONGEST + d]);
-    let small = [0, 1, 2, 0xFF, 0x100];
-    let large = [LONGEST, 1 << 31, 4_000_000_000, 4_000_000_001, u32::MAX];
-    let values = [around_the_longest.as_flattened(), &small, &large].concat();
+    let values = telling_lengths();
     let mut scripts = Vec::new();
     for &p in &values {
         for &q in &values {
@@ -67,9 +68,17 @@ pub fn lengths_at_the_limits(_: &mut Random) -> Vec<Vec<u8>> {
     scripts
 }
 
+/// Numbers around 0, around 1,000,000,000 and around other ends that a length might be given.
+pub fn telling_lengths() -> Vec<u32> {
+    let around_the_longest = [1, 0x100, 0x1_0000, 0x100_0000].map(|d| [LONGEST - d, LONGEST + d]);
+    let small = [0, 1, 2, 0xFF, 0x100];
+    let large = [LONGEST, 1 << 31, 4_000_000_000, 4_000_000_001, u32::MAX];
+    [around_the_longest.as_flattened(), &small, &large].concat()
+}
+
 pub fn operands_at_the_limits(_: &mut Random) -> Vec<Vec<u8>> {
     let mut scripts = Vec::new();
-    for (p, q) in [(1, 1), (10, 7), (300, 70_000), (1, LONGEST), (LONGEST, 2)] {
+    for (p, q) in SOME_LENGTHS {
         let values = telling_operands(p, q);
         for &left_a in &values {
             for &left_b in &values {
@@ -89,7 +98,7 @@ pub fn operands_at_the_limits(_: &mut Random) -> Vec<Vec<u8>> {
 }
 
 /// Numbers around 0, p, q and the ends of 31 and 32 bits, each once.
-fn telling_operands(p: u32, q: u32) -> Vec<u32> {
+pub fn telling_operands(p: u32, q: u32) -> Vec<u32> {
     let around = |letters: u32| [letters - 1, letters, letters + 1];
     let wrapping = [p.wrapping_neg(), u32::MAX, 1 << 31];
     let mut values = [&[0, 1][..], &around(p), &around(q), &wrapping].concat();

@@ -2,12 +2,12 @@
 
 use super::good::{self, good_left, Beginning, LONGEST};
 use super::noise::telling_bytes;
-use crate::draft::{Draft, DraftMatch};
+use crate::draft::{Draft, DraftMatch, BYTES_OF_A_MATCH, BYTES_OF_LENGTHS};
 use crate::random::Random;
 use crate::slow::script::{DIRECT, END, LENGTHS, REVERSED};
 
-const OPERAND_BYTES_OF_LENGTHS: usize = 8;
-const OPERAND_BYTES_OF_A_MATCH: usize = 12;
+const OPERAND_BYTES_OF_LENGTHS: usize = BYTES_OF_LENGTHS - 1;
+const OPERAND_BYTES_OF_A_MATCH: usize = BYTES_OF_A_MATCH - 1;
 
 pub fn one_fault(random: &mut Random) -> Vec<Vec<u8>> {
     let faults: [fn(&mut Random, Beginning) -> Vec<u8>; 9] = [
@@ -38,13 +38,7 @@ pub fn several_faults(random: &mut Random) -> Vec<Vec<u8>> {
     for _ in 0..60 {
         let matches = random.count_between(0, 5);
         let start = good::beginning(random, matches);
-        let length = random.one_of(&[0, 1, start.p, u32::MAX]);
-        let m = DraftMatch {
-            left_a: too_far_left(random, start.p, length),
-            left_b: too_far_left(random, start.q, length),
-            length,
-            reversed: random.any_bool(),
-        };
+        let m = match_of_several_faults(random, start.p, start.q);
         let whole = start.draft.matching(m).without_end();
         let missing = random.count_between(1, OPERAND_BYTES_OF_A_MATCH);
         scripts.push(whole[..whole.len() - missing].to_vec());
@@ -74,11 +68,9 @@ fn headless(random: &mut Random, start: Beginning) -> Vec<u8> {
 
 /// The beginning's own commands stand behind the bad lengths.
 fn length_out_of_range(random: &mut Random, start: Beginning) -> Vec<u8> {
-    let too_large = random.between(LONGEST + 1, u32::MAX);
-    let bad = random.one_of(&[0, LONGEST + 1, u32::MAX, too_large]);
-    let (p, q) = random.one_of(&[(bad, start.q), (start.p, bad), (bad, bad)]);
+    let (p, q) = bad_lengths(random, start.p, start.q);
     let good = start.draft.end();
-    let behind = &good[1 + OPERAND_BYTES_OF_LENGTHS..];
+    let behind = &good[BYTES_OF_LENGTHS..];
     Draft::lengths(p, q).bytes(behind).without_end()
 }
 
@@ -116,37 +108,67 @@ fn cut_short_second_lengths(random: &mut Random, start: Beginning) -> Vec<u8> {
 }
 
 fn empty_match(random: &mut Random, start: Beginning) -> Vec<u8> {
-    let m = DraftMatch {
-        left_a: random.one_of(&[0, start.p, u32::MAX]),
-        left_b: random.one_of(&[0, start.q, u32::MAX]),
-        length: 0,
-        reversed: random.any_bool(),
-    };
+    let m = match_of_no_letter(random, start.p, start.q);
     going_on(random, start.draft.matching(m))
 }
 
 fn beyond_a(random: &mut Random, start: Beginning) -> Vec<u8> {
-    let any = random.between(1, u32::MAX);
-    let length = random.one_of(&[1, start.p, start.p + 1, u32::MAX, any]);
-    let m = DraftMatch {
-        left_a: too_far_left(random, start.p, length),
-        left_b: random.one_of(&[0, start.q, u32::MAX]),
-        length,
-        reversed: random.any_bool(),
-    };
+    let m = match_beyond_a(random, start.p, start.q);
     going_on(random, start.draft.matching(m))
 }
 
 fn beyond_b(random: &mut Random, start: Beginning) -> Vec<u8> {
-    let any = random.between(1, start.p);
-    let length = random.one_of(&[1, start.p, any]);
-    let m = DraftMatch {
-        left_a: good_left(random, start.p, length),
-        left_b: too_far_left(random, start.q, length),
+    let m = match_beyond_b(random, start.p, start.q);
+    going_on(random, start.draft.matching(m))
+}
+
+/// One of p and q is out of range, or both are.
+pub fn bad_lengths(random: &mut Random, p: u32, q: u32) -> (u32, u32) {
+    let too_large = random.between(LONGEST + 1, u32::MAX);
+    let bad = random.one_of(&[0, LONGEST + 1, u32::MAX, too_large]);
+    random.one_of(&[(bad, q), (p, bad), (bad, bad)])
+}
+
+pub fn match_of_no_letter(random: &mut Random, p: u32, q: u32) -> DraftMatch {
+    DraftMatch {
+        left_a: random.one_of(&[0, p, u32::MAX]),
+        left_b: random.one_of(&[0, q, u32::MAX]),
+        length: 0,
+        reversed: random.any_bool(),
+    }
+}
+
+pub fn match_beyond_a(random: &mut Random, p: u32, q: u32) -> DraftMatch {
+    let any = random.between(1, u32::MAX);
+    let length = random.one_of(&[1, p, p + 1, u32::MAX, any]);
+    DraftMatch {
+        left_a: too_far_left(random, p, length),
+        left_b: random.one_of(&[0, q, u32::MAX]),
         length,
         reversed: random.any_bool(),
-    };
-    going_on(random, start.draft.matching(m))
+    }
+}
+
+pub fn match_beyond_b(random: &mut Random, p: u32, q: u32) -> DraftMatch {
+    let any = random.between(1, p);
+    let length = random.one_of(&[1, p, any]);
+    DraftMatch {
+        left_a: good_left(random, p, length),
+        left_b: too_far_left(random, q, length),
+        length,
+        reversed: random.any_bool(),
+    }
+}
+
+/// Beyond A and beyond B, and sometimes of no letter too.
+pub fn match_of_several_faults(random: &mut Random, p: u32, q: u32) -> DraftMatch {
+    let length = random.one_of(&[0, 1, p, u32::MAX]);
+    DraftMatch {
+        left_a: too_far_left(random, p, length),
+        left_b: too_far_left(random, q, length),
+        length,
+        reversed: random.any_bool(),
+    }
 }
 
 /// A left end from which `length` letters pass the end of `letters`: by one, by far, or by so much

@@ -51,7 +51,7 @@ pub fn good_left(random: &mut Random, letters: u32, length: u32) -> u32 {
     random.one_of(&[0, last, inner, inner])
 }
 
-fn sequence_length(random: &mut Random) -> u32 {
+pub fn sequence_length(random: &mut Random) -> u32 {
     match random.between(0, 5) {
         0 => 1,
         1 => LONGEST,

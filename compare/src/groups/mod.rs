@@ -8,6 +8,7 @@ mod large;
 mod many;
 mod noise;
 pub mod patterned;
+mod records;
 pub mod shapes;
 mod tables;
 mod tiny;
@@ -55,6 +56,42 @@ pub const READING_EACH_ROUND: Groups<u8> = &[
     group("one fault behind good matches", faults::one_fault),
     group("several faults at one command", faults::several_faults),
     group("tails", faults::tails),
+];
+
+pub const LISTS_ONCE: Groups<u32> = &[
+    group("the lines of the request", records::lines_of_101),
+    group("p and q at the limits", records::lengths_at_the_limits),
+    group(
+        "numbers of a record at the limits",
+        records::record_at_the_limits,
+    ),
+    group(
+        "every list of up to two records in one letter, faulty ones too",
+        records::every_tiny_list,
+    ),
+    group(
+        "2,047 to 2,049 records, good and with every fault",
+        records::around_the_most,
+    ),
+    group("up to 65,537 records", records::past_the_most),
+];
+
+pub const LISTS_EACH_ROUND: Groups<u32> = &[
+    group("few good records", records::few),
+    group("many good records", records::many),
+    group("good records of telling numbers", records::telling),
+    group(
+        "one fault at the first, a middle and the last record",
+        records::one_fault,
+    ),
+    group("several faults at one record", records::several_faults),
+    group("several faulty records", records::several_faulty),
+    group(
+        "a count that is no multiple of four",
+        records::no_multiple_of_four,
+    ),
+    group("p or q out of range", records::lengths_out_of_range),
+    group("any numbers", records::noise),
 ];
 
 pub const LONGEST: Groups<u8> = &[group("2,047 and 2,048 matches", many::longest)];

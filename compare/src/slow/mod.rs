@@ -1,8 +1,9 @@
-//! The slow program: the paper 01 taken sentence by sentence, in the plainest Rust. It shares no
-//! code and no layout with the proved program, so that a misreading of 01 would have to be made
-//! twice to pass unseen.
+//! The slow program: the paper 01 and the requests of 02 that have landed, taken sentence by
+//! sentence, in the plainest Rust. It shares no code and no layout with the proved program, so that
+//! a misreading of a paper would have to be made twice to pass unseen.
 
 pub mod carrying;
+pub mod records;
 pub mod refinement;
 pub mod refusal;
 pub mod report;

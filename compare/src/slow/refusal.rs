@@ -1,9 +1,9 @@
-//! 01, "Refused scripts and calls": the words of its table with their numbers, and a refusal at its
-//! place.
+//! 01, "Refused scripts and calls": the words of its table with their numbers, those that the
+//! requests of 02 add, and a refusal at its place.
 
 use std::fmt;
 
-/// A row of 01's table, by its word.
+/// A row of 01's table, by its word; from 15 on what 02 adds.
 #[derive(Clone, Copy, Debug, PartialEq, Eq)]
 pub enum Word {
     Headless = 1,
@@ -20,6 +20,8 @@ pub enum Word {
     TooManyPieces = 12,
     NoSuchMatch = 13,
     OffTheMatch = 14,
+    MalformedRecords = 15,
+    BufferTooShort = 16,
 }
 
 /// "A refusal returns its number and a place."
@@ -39,7 +41,7 @@ impl Refusal {
         answer.as_ref().err().map_or(0, |refusal| refusal.number())
     }
 
-    /// One of 11 to 14, whose place is 0.
+    /// One that is found at no command and at no record: its place is 0.
     pub fn of_the_call(word: Word) -> Refusal {
         Refusal { word, place: 0 }
     }
