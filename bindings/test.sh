@@ -1,8 +1,9 @@
 #!/usr/bin/env bash
-# Holds the header, the Rust wrapper and the two example programs to the library and to the slow program, which needs
-# the archive that `rt staticlib capi` writes. Its last line is 'bindings: N runs, 0 differences', and its exit status
-# 0, only if the header compiles without a warning, the declarations for Rust agree with it, every constant of the
-# header is provoked and is what it says, all tests of the wrapper pass, and every text is the same.
+# Holds the header, the Rust wrapper and the example programs to the library and to the slow program, which needs the
+# archive that `rt staticlib capi` writes. Its last line is 'bindings: N runs, 0 differences', and its exit status 0,
+# only if the header compiles without a warning, the declarations for Rust agree with it, every constant of the header
+# is provoked and is what it says, all tests of the wrapper pass, every table that is printed is the slow program's,
+# lists and scripts turn into each other and back, and each wrong list is refused in its line.
 set -euo pipefail
 
 # What the caller's environment says must not change what is tested: only what the tools need to be found is kept.
@@ -21,8 +22,8 @@ offline=(--quiet --release --locked --offline)
 wrapper=("${offline[@]}" --manifest-path bindings/rust/Cargo.toml --target-dir bindings/rust/target)
 
 # None of these may become fewer unseen: the header's constants, the wrapper's tests, the examples.
-least_constants=19
-least_tests=34
+least_constants=24
+least_tests=47
 least_examples=22
 
 runs=0
@@ -90,8 +91,9 @@ runs=$((runs + 2))
 
 echo 'bindings: the example programs'
 cc -std=c99 -O2 "${warnings[@]}" -Iinclude examples/c/print_table.c "$archive" -o "$scratch/in_c"
-cargo build "${wrapper[@]}" --example print_table
+cargo build "${wrapper[@]}" --example print_table --example list
 cp bindings/rust/target/release/examples/print_table "$scratch/in_rust"
+cp bindings/rust/target/release/examples/list "$scratch/list"
 cargo build "${offline[@]}" --manifest-path compare/Cargo.toml --target-dir compare/target --bin slow
 
 # Runs both programs and ends here, with what differs, if one is wrong.
@@ -120,5 +122,136 @@ for ((bytes = 0; bytes < $(wc -c < "$whole"); bytes++)); do
     head -c "$bytes" "$whole" > "$scratch/cut.script"
     hold "$scratch/cut.script"
 done
+
+# Runs the program for lists: it must write just this file.
+turns() { # WANTED WAY [FILE]
+    "$scratch/list" "${@:2}" > "$scratch/got" 2> "$scratch/said" && cmp "$1" "$scratch/got" || {
+        cat "$scratch/said"
+        fail "list ${*:2} does not write $1"
+    }
+    runs=$((runs + 1))
+}
+
+# Runs it where it must end with this status, write nothing, and begin what it says with these words.
+refuses() { # STATUS WORDS WAY [FILE]
+    local status=0
+    "$scratch/list" "${@:3}" > "$scratch/got" 2> "$scratch/said" || status=$?
+    if [ "$status" -ne "$1" ] || [ -s "$scratch/got" ] || [[ $(cat "$scratch/said") != "$2"* ]]; then
+        cat "$scratch/said"
+        fail "list ${*:3} must write nothing, end with $1 and say '$2', and it ended with $status"
+    fi
+    runs=$((runs + 1))
+}
+
+# Writes a list, in which a tab is \t and a new line \n.
+put_list() { # NAME TEXT
+    printf '%b' "$2" > "$scratch/$1.tsv"
+}
+
+# Such a list must be refused in this line.
+wrong() { # LINE WORDS TEXT
+    put_list wrong "$3"
+    refuses 1 "list: $scratch/wrong.tsv: line $1: $2" to-script "$scratch/wrong.tsv"
+}
+
+# The list of an admitted script, by its bytes.
+list_of() { # SCRIPT
+    od -An -v -tu1 -w1 "$1" | awk '
+        function number(at) { return byte[at] + 256 * (byte[at + 1] + 256 * (byte[at + 2] + 256 * byte[at + 3])) }
+        { byte[NR - 1] = $1 }
+        END {
+            printf "lengths\t%d\t%d\n", number(1), number(5)
+            for (at = 9; at < NR - 1; at += 13)
+                printf "%d\t%d\t%d\t%s\n", number(at + 1), number(at + 5), number(at + 9), byte[at] == 68 ? "+" : "-"
+        }'
+}
+
+echo 'bindings: every example to its list and back'
+while read -r script; do
+    read -r word number place < "${script%.script}.txt"
+    if [ "$word" = refused ] && [ "$number" -le 10 ]; then
+        refuses 1 "list: $script: refused as " to-list "$script"
+        grep -qF " ($number) at byte $place: " "$scratch/said" || fail "list refuses $script otherwise"
+    else
+        list_of "$script" > "$scratch/there.tsv"
+        turns "$scratch/there.tsv" to-list "$script"
+        turns "$script" to-script "$scratch/there.tsv"
+    fi
+done < "$scratch/examples"
+
+echo 'bindings: lists to scripts and back'
+matches() { # COUNT
+    for ((left = 0; left < $1; left++)); do
+        printf '%s\t%s\t%s\t-\n' "$left" "$((2 * left))" "$((left + 1))"
+    done
+}
+put_list edges 'lengths\t1000000000\t1\n999999999\t0\t1\t-\n0\t0\t1\t+\n'
+put_list most "lengths\t9999\t9999\n$(matches 2048)\n"
+put_list none 'lengths\t1\t1\n'
+for name in edges most none; do
+    "$scratch/list" to-script "$scratch/$name.tsv" > "$scratch/$name.script"
+    turns "$scratch/$name.tsv" to-list "$scratch/$name.script"
+done
+turns examples/two-matches.script to-script examples/two-matches.tsv
+turns examples/two-matches.script to-script < examples/two-matches.tsv
+turns examples/two-matches.tsv to-list < examples/two-matches.script
+
+echo 'bindings: the same list in other words'
+while read -r text; do
+    put_list same "$text"
+    turns examples/two-matches.script to-script "$scratch/same.tsv"
+done << 'END'
+lengths\t10\t10\n0\t0\t6\t+\n2\t3\t5\t-
+lengths\t10\t10\r\n0\t0\t6\t+\r\n2\t3\t5\t-\r\n
+# mine\n\nlengths\t10\t10\n  \t\n0\t0\t6\t+\n#2\t3\t5\t+\n2\t3\t5\t-\n\n
+\xef\xbb\xbflengths\t10\t10\n0\t0\t6\t+\n2\t3\t5\t-\n
+#\xe9\nlengths\t010\t10\n0\t00\t6\t+\n2\t3\t5\t-\n
+END
+
+echo 'bindings: wrong lists'
+good='lengths\t10\t10\n0\t0\t6\t+\n'
+wrong 1 'the lengths are missing: begin the list with ' '0\t0\t6\t+\n'
+wrong 3 'the lengths are missing: begin the list with ' '# mine\n\nlengths 10 10\n'
+wrong 1 'the count of fields is 2, not 3: write the word lengths, ' 'lengths\t10\n'
+wrong 1 'the count of fields is 4, not 3: write the word lengths, ' 'lengths\t10\t10\t10\n'
+wrong 1 'the letters of A, "", is no number: write digits alone' 'lengths\t\t10\n'
+wrong 1 'the letters of B, "1e9", is no number: ' 'lengths\t10\t1e9\n'
+wrong 1 'the letters of B, 4294967296, does not fit 32 bits: ' 'lengths\t10\t4294967296\n'
+wrong 1 'refused as length out of range (5): ' 'lengths\t0\t10\n'
+wrong 2 'refused as length out of range (5): ' '\nlengths\t10\t1000000001\n0\t0\t6\t+\n'
+wrong 3 'the lengths come again: write a list for each ' "${good}lengths\t10\t10\n"
+wrong 3 'the count of fields is 1, not 4: write left-A, ' "${good}2 3 5 -\n"
+wrong 3 'the count of fields is 3, not 4: write left-A, ' "${good}2\t3\t5\n"
+wrong 3 'the count of fields is 5, not 4: write left-A, ' "${good}2\t3\t5\t-\t\n"
+wrong 3 'left-A, "left", is no number: ' "${good}left\t3\t5\t-\n"
+wrong 3 'left-B, "+3", is no number: ' "${good}2\t+3\t5\t-\n"
+wrong 5 'the length, "5,000", is no number: ' "${good}#\n\n2\t3\t5,000\t-\n"
+wrong 3 'left-A, 4294967296, does not fit 32 bits: ' "${good}4294967296\t3\t5\t-\n"
+wrong 3 'left-B, 99999999999999999999, does not fit 32 bits: ' "${good}2\t99999999999999999999\t5\t-\n"
+wrong 3 'the direction, "x", is none: write + for ' "${good}2\t3\t5\tx\n"
+wrong 3 'the direction, "", is none: write + for ' "${good}2\t3\t5\t\n"
+wrong 3 'the direction, "1", is none: write + for ' "${good}2\t3\t5\t1\r\n"
+wrong 3 'refused as empty match (7) at record 2: ' "${good}2\t3\t0\t-\n"
+wrong 5 'refused as beyond A (8) at record 2: ' "${good}\n#\n5\t3\t6\t-\n9\t9\t9\t+\n"
+wrong 3 'refused as beyond A (8) at record 2: ' "${good}1\t3\t4294967295\t-\n"
+wrong 4 'refused as beyond B (9) at record 3: ' "${good}2\t3\t5\t-\n0\t5\t6\t-\n"
+wrong 2051 'refused as too many matches (6): ' "# mine\nlengths\t9999\t9999\n$(matches 2050)\n"
+put_list empty '\n# nothing\n'
+refuses 1 "list: $scratch/empty.tsv: the list is empty: begin it with " to-script "$scratch/empty.tsv"
+refuses 1 'list: standard input: line 1: the lengths are missing: ' to-script < examples/two-matches.script
+refuses 1 'list: standard input: refused as headless (1) at byte 0: ' to-list < /dev/null
+
+echo 'bindings: wrong calls of the program for lists'
+refuses 1 "list: $scratch/far.tsv: No such file" to-script "$scratch/far.tsv"
+refuses 1 "list: $scratch: Is a directory" to-list "$scratch"
+refuses 2 'usage: list to-script '
+refuses 2 'usage: list to-script ' to-table examples/two-matches.tsv
+refuses 2 'usage: list to-script ' to-script examples/two-matches.tsv my.script
+[[ $("$scratch/list" to-script --help) = 'usage: list to-script '* ]] || fail 'list --help does not tell how it is used'
+if "$scratch/list" to-script "$scratch/none.tsv" > /dev/full 2> "$scratch/said"; then
+    fail 'list does not see that it cannot write'
+fi
+grep -q '^list: standard output: No space left' "$scratch/said" || fail 'list does not say that it cannot write'
+runs=$((runs + 2))
 
 echo "bindings: $runs runs, 0 differences"

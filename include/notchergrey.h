@@ -8,18 +8,18 @@
  * - A pointer followed by a length is a buffer of that many elements. With length 0 it may be null.
  * - Any other pointer must point to one number, or to the array that it names. It may not be null.
  * - Each must be aligned as its type is: to 4 bytes for uint32_t, to 8 for size_t and uint64_t. Bytes may lie anywhere.
- * - What a function writes to may not overlap with anything else that the same call is lent.
- * - Whatever the buffers and numbers hold before a call does not matter. What a comment does not name is kept: on
- *   success `place` keeps its value, on a refusal everything but `place` does, with one exception: see
- *   notchergrey_refine.
+ * - What a function writes to may hold anything before the call, and may not overlap with anything else that the same
+ *   call is lent. What a comment does not name is kept: on success `place` keeps its value, on a refusal everything but
+ *   `place` does, with two exceptions: see notchergrey_refine and notchergrey_report.
  * - `place` becomes the offset in the script of the command that is refused, the script's length if bytes ran out where
- *   a command was due, the first extra byte for NOTCHERGREY_TAIL, and 0 for the refusals from 11 on.
+ *   a command was due, the first extra byte for NOTCHERGREY_TAIL, and 0 for the refusals from 11 on. notchergrey_write
+ *   is lent no script to read: there it becomes the record that is refused, counted from 1, or 0 if none is at fault.
  * - A thread with a stack of 512 kB may call any of them, and one with 256 kB any but notchergrey_report. Measured on
  *   x86-64, whatever the input: notchergrey_report takes at most 275 kB, notchergrey_summary 170 kB, notchergrey_refine
  *   82 kB, the others next to nothing. With less the program ends with a segmentation fault: each page of the stack is
  *   touched in turn, so that the page that guards its end is met and nothing behind it is overwritten.
  *
- * A script is bytes; its numbers have four bytes, least byte first:
+ * A script is bytes, which notchergrey_write makes of a list of matches. Its numbers have four bytes, least byte first:
  *   4C p q                   the letter counts of sequences A and B, 1 to 1,000,000,000 each; first command, once
  *   44 left-A left-B length  a direct match, from left-A on of A and from left-B on of B, counted from 0
  *   52 left-A left-B length  a reversed match
@@ -36,14 +36,14 @@
 extern "C" {
 #endif
 
-/* Why a script or a call is refused. Reading goes from left to right, and the first fault counts. */
+/* Why a script, a list or a call is refused. Reading goes from left to right, and the first fault counts. */
 enum notchergrey_refusal {
     NOTCHERGREY_HEADLESS = 1,             /* the script is empty, or its first byte isn't 4C */
     NOTCHERGREY_UNKNOWN_COMMAND = 2,      /* a later command byte isn't 4C, 44, 52 or 45 */
     NOTCHERGREY_CUT_SHORT = 3,            /* operands incomplete, or bytes run out before 45 */
     NOTCHERGREY_SECOND_LENGTHS = 4,       /* 4C again */
     NOTCHERGREY_LENGTH_OUT_OF_RANGE = 5,  /* p or q is 0 or above 1,000,000,000 */
-    NOTCHERGREY_TOO_MANY_MATCHES = 6,     /* the command of match 2,049 */
+    NOTCHERGREY_TOO_MANY_MATCHES = 6,     /* there is a match 2,049 */
     NOTCHERGREY_EMPTY_MATCH = 7,          /* a match of length 0 */
     NOTCHERGREY_BEYOND_A = 8,             /* left-A + length is above p */
     NOTCHERGREY_BEYOND_B = 9,             /* left-B + length is above q */
@@ -64,10 +64,13 @@ enum notchergrey_refusal {
 #define NOTCHERGREY_RECORD_NUMBERS 4
 /* The classes of lengths that a summary counts. */
 #define NOTCHERGREY_CLASSES 30
+/* The bytes of a script without matches, and those that each match adds. */
+#define NOTCHERGREY_SHORTEST_SCRIPT 10
+#define NOTCHERGREY_MATCH_BYTES 13
+/* No script and no list has more matches. */
+#define NOTCHERGREY_MOST_MATCHES 2048
 /* No longer script is admitted, and the first 26,635 bytes of a longer one decide how it is refused. */
 #define NOTCHERGREY_LONGEST_SCRIPT 26634
-/* The bytes of a script with so many matches. */
-#define NOTCHERGREY_SCRIPT_BYTES(matches) (10 + 13 * (matches))
 
 /*
  * Reads a script. Returns 0 and sets p, q and the count of matches, or refuses with 1 to 10.
@@ -83,21 +86,22 @@ uint32_t notchergrey_match(const uint8_t *script, size_t script_len, uint32_t nu
                            uint32_t *left_b, uint32_t *length, uint32_t *reversed);
 
 /*
- * Writes the script of a list: p, q and the matches, a record of four numbers for each: left-A, left-B, length and
+ * Writes the script of a list: p, q, and the matches as records of four numbers, which are left-A, left-B, length and
  * direction (0 direct, 1 reversed). Returns 0, writes the script to the start of its buffer and sets `length` to its
- * length, which is NOTCHERGREY_SCRIPT_BYTES of the count of records; the bytes behind it are kept. All records are
- * judged before a byte is written. Refuses, in this order, with 5; 15 if records_len is no multiple of four; 6; then
- * record by record with 15 for its direction, 7, 8 or 9, where `place` becomes the record, counted from 1; and last of
- * all with 16 if the buffer is too short. For 5, 6, 16, and 15 for records_len, `place` becomes 0.
+ * length: NOTCHERGREY_SHORTEST_SCRIPT bytes, and NOTCHERGREY_MATCH_BYTES for each record. The bytes behind it are kept.
+ * Everything is judged before the first byte is written. Refuses, in this order, with 5; with 15 if records_len is no
+ * multiple of four; with 6; then record by record with 15 for its direction, 7, 8 or 9; and last of all with 16 if the
+ * buffer is too short. `place` becomes the record, counted from 1, where a record is at fault, and else 0.
  */
 uint32_t notchergrey_write(uint32_t p, uint32_t q, const uint32_t *records, size_t records_len, uint8_t *script,
                            size_t script_len, size_t *place, size_t *length);
 
 /*
- * The list of a script, as notchergrey_write takes it. Returns 0, sets p, q and the count of matches and writes their
- * records, 4 * count numbers, to the start of the buffer; the numbers behind them are kept. Refuses with 1 to 10 as
- * notchergrey_read does, or with 16 if the buffer is too short. Each of the two undoes the other: the script of these
- * records is this script, byte for byte.
+ * Reads a script back into its list. Returns 0, sets p, q and the count of matches, and writes their records, 4 * count
+ * numbers, to the start of the buffer; the numbers behind them are kept. Refuses with 1 to 10, or with 16 if the buffer
+ * is too short; notchergrey_read tells the count beforehand. It undoes notchergrey_write and is undone by it: the
+ * script of these records is this script, byte for byte, and a script that was written gives back the records that it
+ * was written from.
  */
 uint32_t notchergrey_read_records(const uint8_t *script, size_t script_len, uint32_t *records, size_t records_len,
                                   size_t *place, uint32_t *p, uint32_t *q, size_t *count);

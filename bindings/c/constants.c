@@ -20,6 +20,13 @@
 static uint8_t script[LENGTHS_BYTES + (MOST_MATCHES + 1) * MATCH_BYTES + 1];
 static size_t script_len;
 
+/* Room for the two matches of two_matches as records and as a script. */
+#define MATCHES 2
+#define RECORDS_LEN (MATCHES * NOTCHERGREY_RECORD_NUMBERS)
+#define WRITTEN_LEN (NOTCHERGREY_SHORTEST_SCRIPT + MATCHES * NOTCHERGREY_MATCH_BYTES)
+static uint32_t records[(MOST_MATCHES + 1) * NOTCHERGREY_RECORD_NUMBERS];
+static uint8_t written[sizeof script];
+
 /* Room for the eight rows of two_matches. */
 #define ROWS 8
 #define TABLE_LEN (ROWS * NOTCHERGREY_ROW_NUMBERS)
@@ -79,6 +86,27 @@ static void many_matches(int count)
         match('D', 0, 0, 1);
 }
 
+static void record(size_t number, uint32_t left_a, uint32_t left_b, uint32_t length, uint32_t direction)
+{
+    uint32_t *const first = &records[(number - 1) * NOTCHERGREY_RECORD_NUMBERS];
+    first[0] = left_a;
+    first[1] = left_b;
+    first[2] = length;
+    first[3] = direction;
+}
+
+static void two_records(void)
+{
+    record(1, 0, 0, 6, 0);
+    record(2, 2, 3, 5, 1);
+}
+
+static void many_records(size_t count)
+{
+    for (size_t number = 1; number <= count; number++)
+        record(number, 0, 0, 1, 0);
+}
+
 static void ensure(int holds, const char *name, const char *what)
 {
     if (!holds) {
@@ -132,10 +160,33 @@ static void refused_by_carry(struct refusal wanted, uint32_t of, uint32_t positi
     ensure_refused(wanted, number, place, "notchergrey_carry_from_b");
 }
 
+static void refused_by_read_records(struct refusal wanted, size_t records_len)
+{
+    size_t place = NOWHERE, count;
+    uint32_t p, q;
+    const uint32_t number = notchergrey_read_records(script, script_len, records, records_len, &place, &p, &q,
+                                                     &count);
+    ensure_refused(wanted, number, place, "notchergrey_read_records");
+}
+
+static void refused_by_write(struct refusal wanted, uint32_t p, uint32_t q, size_t records_len, size_t written_len)
+{
+    size_t place = NOWHERE, length;
+    const uint32_t number = notchergrey_write(p, q, records, records_len, written, written_len, &place, &length);
+    ensure_refused(wanted, number, place, "notchergrey_write");
+}
+
+/* Two records of sequences of ten letters. */
+static void refused_records(struct refusal wanted)
+{
+    refused_by_write(wanted, 10, 10, RECORDS_LEN, WRITTEN_LEN);
+}
+
 /* Every door that reads a script refuses this one alike. */
 static void refused_script(struct refusal wanted)
 {
     refused_by_read(wanted);
+    refused_by_read_records(wanted, RECORDS_LEN);
     refused_by_match(wanted, 1);
     refused_by_refine(wanted, TABLE_LEN, WORK_LEN);
     refused_by_carry(wanted, 1, 0);
@@ -217,6 +268,79 @@ static void hold_refusals_of_carrying(void)
     HELD(NOTCHERGREY_OFF_THE_MATCH);
 }
 
+/* Those that scripts have too are the same numbers; what differs is the place. */
+static void hold_refusals_of_records(void)
+{
+    two_records();
+    refused_by_write(REFUSAL(NOTCHERGREY_LENGTH_OUT_OF_RANGE, 0), 10, MOST_LETTERS + 1, RECORDS_LEN, WRITTEN_LEN);
+    refused_by_write(REFUSAL(NOTCHERGREY_MALFORMED_RECORDS, 0), 10, 10, RECORDS_LEN - 1, WRITTEN_LEN);
+
+    record(2, 2, 3, 5, 2);
+    refused_records(REFUSAL(NOTCHERGREY_MALFORMED_RECORDS, 2));
+    HELD(NOTCHERGREY_MALFORMED_RECORDS);
+
+    record(2, 2, 3, 0, 1);
+    refused_records(REFUSAL(NOTCHERGREY_EMPTY_MATCH, 2));
+
+    record(2, 6, 3, 5, 1);
+    refused_records(REFUSAL(NOTCHERGREY_BEYOND_A, 2));
+
+    record(2, 2, 6, 5, 1);
+    refused_records(REFUSAL(NOTCHERGREY_BEYOND_B, 2));
+}
+
+/* Writes these records, of the sequences of `script`, to just as many bytes as the sizes say: they are that script. */
+static void ensure_written(uint32_t letters, size_t matches, const char *name)
+{
+    const size_t records_len = matches * NOTCHERGREY_RECORD_NUMBERS;
+    const size_t written_len = NOTCHERGREY_SHORTEST_SCRIPT + matches * NOTCHERGREY_MATCH_BYTES;
+    size_t place = NOWHERE, length = 0;
+    ensure(notchergrey_write(letters, letters, records, records_len, written, written_len, &place, &length) == 0 &&
+               length == written_len,
+           name, "as many bytes as the script has");
+    ensure(length == script_len && memcmp(written, script, length) == 0, name, "the bytes of the script");
+    refused_by_write(REFUSAL(NOTCHERGREY_BUFFER_TOO_SHORT, 0), letters, letters, records_len, written_len - 1);
+}
+
+static void hold_writing(void)
+{
+    lengths(10, 10);
+    put('E');
+    ensure_written(10, 0, "NOTCHERGREY_SHORTEST_SCRIPT");
+    HELD(NOTCHERGREY_SHORTEST_SCRIPT);
+
+    two_matches();
+    put('E');
+    two_records();
+    ensure_written(10, MATCHES, "NOTCHERGREY_MATCH_BYTES");
+    HELD(NOTCHERGREY_MATCH_BYTES);
+
+    many_matches(MOST_MATCHES);
+    put('E');
+    many_records(MOST_MATCHES + 1);
+    ensure(NOTCHERGREY_MOST_MATCHES == MOST_MATCHES, "NOTCHERGREY_MOST_MATCHES", "2,048 matches");
+    ensure_written(MOST_LETTERS, NOTCHERGREY_MOST_MATCHES, "NOTCHERGREY_MOST_MATCHES");
+    refused_by_write(REFUSAL(NOTCHERGREY_TOO_MANY_MATCHES, 0), MOST_LETTERS, MOST_LETTERS,
+                     (NOTCHERGREY_MOST_MATCHES + 1) * NOTCHERGREY_RECORD_NUMBERS, sizeof written);
+    HELD(NOTCHERGREY_MOST_MATCHES);
+}
+
+/* One number fewer than the records have, and then as many as they have. */
+static void hold_reading_records(void)
+{
+    static const uint32_t wanted[] = {0, 0, 6, 0, 2, 3, 5, 1};
+    size_t place = NOWHERE, count = 0;
+    uint32_t p, q;
+    two_matches();
+    put('E');
+    refused_by_read_records(REFUSAL(NOTCHERGREY_BUFFER_TOO_SHORT, 0), RECORDS_LEN - 1);
+    ensure(notchergrey_read_records(script, script_len, records, RECORDS_LEN, &place, &p, &q, &count) == 0 &&
+               count == MATCHES && sizeof wanted == RECORDS_LEN * sizeof *records &&
+               memcmp(records, wanted, sizeof wanted) == 0,
+           "NOTCHERGREY_RECORD_NUMBERS", "two records");
+    HELD(NOTCHERGREY_RECORD_NUMBERS);
+}
+
 /* One byte fewer than the text has, and then as many as it has. */
 static void hold_reporting(void)
 {
@@ -275,6 +399,9 @@ int main(void)
     hold_refusals_of_scripts();
     hold_refining();
     hold_refusals_of_carrying();
+    hold_refusals_of_records();
+    hold_writing();
+    hold_reading_records();
     hold_reporting();
     hold_classes();
     hold_longest_script();

@@ -6,12 +6,13 @@ use crate::script::Side;
 use crate::table::CLASSES;
 use notchergrey_sys::{
     notchergrey_carry_from_a, notchergrey_carry_from_b, notchergrey_match, notchergrey_read,
-    notchergrey_refine, notchergrey_report, notchergrey_rows_of, notchergrey_summary,
+    notchergrey_read_records, notchergrey_refine, notchergrey_report, notchergrey_rows_of,
+    notchergrey_summary, notchergrey_write,
 };
 
 // SAFETY, in each function here: a door takes a pointer and the length behind it as one slice, and any other pointer
 // as one number or one array. All come from borrows that last through the call; those that are written to are unique,
-// so that none overlaps with another. A door keeps no pointer, and writes nothing but the numbers it is lent.
+// so that none overlaps with another. A door keeps no pointer, and writes to nothing but what it is lent.
 
 /// p, q and the count of matches.
 pub fn read(script: &[u8]) -> Result<(u32, u32, usize), Refusal> {
@@ -26,7 +27,7 @@ pub fn read(script: &[u8]) -> Result<(u32, u32, usize), Refusal> {
             &mut count,
         )
     };
-    Refusal::unless_zero(number, place)?;
+    Refusal::of_script_unless_zero(number, place)?;
     Ok((p, q, count))
 }
 
@@ -46,8 +47,46 @@ pub fn find_match(script: &[u8], number: u32) -> Result<(u32, u32, u32, u32), Re
             &mut reversed,
         )
     };
-    Refusal::unless_zero(number, place)?;
+    Refusal::of_script_unless_zero(number, place)?;
     Ok((left_a, left_b, length, reversed))
+}
+
+/// The script's length.
+pub fn write(p: u32, q: u32, records: &[u32], script: &mut [u8]) -> Result<usize, Refusal> {
+    let (mut place, mut length) = (0, 0);
+    let number = unsafe {
+        notchergrey_write(
+            p,
+            q,
+            records.as_ptr(),
+            records.len(),
+            script.as_mut_ptr(),
+            script.len(),
+            &mut place,
+            &mut length,
+        )
+    };
+    Refusal::of_list_unless_zero(number, place)?;
+    Ok(length)
+}
+
+/// p, q and the count of matches.
+pub fn read_records(script: &[u8], records: &mut [u32]) -> Result<(u32, u32, usize), Refusal> {
+    let (mut place, mut p, mut q, mut count) = (0, 0, 0, 0);
+    let number = unsafe {
+        notchergrey_read_records(
+            script.as_ptr(),
+            script.len(),
+            records.as_mut_ptr(),
+            records.len(),
+            &mut place,
+            &mut p,
+            &mut q,
+            &mut count,
+        )
+    };
+    Refusal::of_script_unless_zero(number, place)?;
+    Ok((p, q, count))
 }
 
 /// The count of rows.
@@ -65,7 +104,7 @@ pub fn refine(script: &[u8], table: &mut [u32], work: &mut [u32]) -> Result<usiz
             &mut rows,
         )
     };
-    Refusal::unless_zero(number, place)?;
+    Refusal::of_script_unless_zero(number, place)?;
     Ok(rows)
 }
 
@@ -86,7 +125,7 @@ pub fn carry(script: &[u8], number: u32, side: Side, position: u32) -> Result<u3
             &mut carried,
         )
     };
-    Refusal::unless_zero(number, place)?;
+    Refusal::of_script_unless_zero(number, place)?;
     Ok(carried)
 }
 

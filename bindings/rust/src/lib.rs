@@ -4,23 +4,17 @@
 //! reversed. Where matches overlap, the table cuts them into pieces so that no end of a piece lies inside another, and
 //! into no more pieces than that takes.
 //!
-//! Matches go in as a script: bytes, in which a command is one byte and its operands are numbers of four bytes, least
-//! byte first. `L` (4C) gives the letter counts of A and B, `D` (44) a direct match and `R` (52) a reversed one, each
-//! with left-A, left-B and length, and `E` (45) is the end. Positions lie between letters and are counted from 0.
+//! Matches go in as a script: bytes, which [`write()`] makes of a list of matches and [`read_matches`] turns back into
+//! one. Positions lie between letters and are counted from 0.
 //!
 //! ```
-//! fn command(letter: u8, operands: &[u32]) -> Vec<u8> {
-//!     let numbers = operands.iter().flat_map(|number| number.to_le_bytes());
-//!     std::iter::once(letter).chain(numbers).collect()
-//! }
+//! use notchergrey::Match;
 //!
-//! let script = [
-//!     command(b'L', &[10, 10]),
-//!     command(b'D', &[0, 0, 6]),
-//!     command(b'R', &[2, 3, 5]),
-//!     command(b'E', &[]),
-//! ]
-//! .concat();
+//! let matches = [
+//!     Match { left_a: 0, left_b: 0, length: 6, reversed: false },
+//!     Match { left_a: 2, left_b: 3, length: 5, reversed: true },
+//! ];
+//! let script = notchergrey::write(10, 10, &matches)?;
 //!
 //! let table = notchergrey::refine(&script)?;
 //! assert_eq!(table.len(), 8);
@@ -30,6 +24,10 @@
 //! assert_eq!(table.summary().distinct, 7);
 //! # Ok::<(), notchergrey::Error>(())
 //! ```
+//!
+//! In a script a command is one byte, and its operands are numbers of four bytes, least byte first. `L` (4C) gives the
+//! letter counts of A and B, `D` (44) a direct match and `R` (52) a reversed one, each with left-A, left-B and length,
+//! and `E` (45) is the end.
 //!
 //! What cannot be answered comes back as a [`Refusal`], which says in plain words what to do about it. [`refine`] and
 //! [`refine_within`] make room for the rows themselves, so that memory may end: they return an [`Error`], which a
@@ -50,6 +48,7 @@
 
 mod door;
 mod error;
+mod list;
 mod refining;
 mod refusal;
 mod report;
@@ -58,9 +57,11 @@ mod table;
 mod word;
 
 pub use error::Error;
+pub use list::{read_matches, read_records_into, write, write_into, List, RECORD_NUMBERS};
 pub use refining::{refine, refine_into, refine_within, WORK_NUMBERS};
 pub use refusal::Refusal;
 pub use report::report;
-pub use script::{carry, find_match, read, Match, Script, Side, LONGEST_SCRIPT};
+pub use script::{carry, find_match, read, Match, Script, Side};
+pub use script::{LONGEST_SCRIPT, MATCH_BYTES, MOST_MATCHES, SHORTEST_SCRIPT};
 pub use table::{rows, rows_of, summary, Row, Rows, Summary, Table, CLASSES, ROW_NUMBERS};
 pub use word::Word;

@@ -7,9 +7,17 @@ use crate::refusal::Refusal;
 /// script from a file needs no more of it.
 pub const LONGEST_SCRIPT: usize = 26_634;
 
-/// The bytes of the lengths, which come first, and of a match, whose last operand is its length.
+/// The bytes of a script without matches. Each match adds [`MATCH_BYTES`].
+pub const SHORTEST_SCRIPT: usize = 10;
+
+/// The bytes of a match in a script. Its last operand is its length.
+pub const MATCH_BYTES: usize = 13;
+
+/// No script and no list has more matches.
+pub const MOST_MATCHES: usize = 2_048;
+
+/// The bytes of the lengths, which come first.
 const LENGTHS_BYTES: usize = 9;
-const MATCH_BYTES: usize = 13;
 
 /// What a script says beside its matches.
 #[derive(Clone, Copy, Debug, PartialEq, Eq, Hash)]

@@ -62,7 +62,7 @@ words! {
         "check the two lengths, and split a sequence that is longer";
     /// There is a match 2,049.
     TooManyMatches = 6, "too many matches":
-        "the script has more than 2,048 matches",
+        "there are more than 2,048 matches",
         "leave out short ones, or write a script for each group of matches that overlaps with no other group";
     /// A match has length 0.
     EmptyMatch = 7, "empty match":
@@ -97,10 +97,18 @@ words! {
     OffTheMatch = 14, "off the match":
         "the match does not span this position on this side",
         "give a position from its left end there to its right end, both included";
+    /// The numbers of the records are no multiple of four, or a direction is above 1.
+    MalformedRecords = 15, "malformed records":
+        "the numbers are no multiple of four, or a direction is neither 0 nor 1",
+        "give four numbers for each match: left-A, left-B, length, and 0 if it is direct or 1 if it is reversed";
+    /// A lent buffer is too short for what is to be written to it.
+    BufferTooShort = 16, "buffer too short":
+        "the script or the records do not fit into the lent buffer",
+        "lend 10 bytes and 13 more for each match to a script, and four numbers for each match to records";
 }
 
 impl Word {
-    /// The number that the specification gives it, 1 to 14.
+    /// The number that the specification gives it, 1 to 16.
     pub fn number(self) -> u32 {
         self as u32
     }

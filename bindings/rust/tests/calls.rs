@@ -1,10 +1,12 @@
-//! The calls on scripts and tables that the documentation does not show: growing and edges.
+//! The calls on scripts, lists and tables that the documentation does not show: growing, edges, there and back.
 
 mod scripts;
 
 use notchergrey::{carry, read, refine, refine_into, refine_within, report, rows_of, Error};
+use notchergrey::{read_matches, read_records_into, write, write_into, List, Match};
 use notchergrey::{Row, Script, Side, Word, CLASSES, ROW_NUMBERS, WORK_NUMBERS};
-use scripts::{run_of_the_specification, script, zigzag, LONG};
+use scripts::{direct, many_matches, records, reversed, run_of_the_specification, script};
+use scripts::{zigzag, LONG};
 
 #[test]
 fn the_room_grows_until_the_table_fits() {
@@ -104,4 +106,107 @@ fn the_text_is_that_of_the_program() {
         report(long),
         include_str!("../../../examples/2048-matches.txt")
     );
+}
+
+/// Scripts that others made, admitted by the reader.
+const EXAMPLES: [&[u8]; 8] = [
+    include_bytes!("../../../examples/two-matches.script"),
+    include_bytes!("../../../examples/no-matches.script"),
+    include_bytes!("../../../examples/2048-matches.script"),
+    include_bytes!("../../../examples/3000-pieces.script"),
+    include_bytes!("../../../examples/real/human-orang.script"),
+    include_bytes!("../../../examples/real/human-orang-refused.script"),
+    include_bytes!("../../../examples/real/pylori-b.script"),
+    include_bytes!("../../../examples/real/pylori-e.script"),
+];
+
+#[test]
+fn a_script_goes_to_its_list_and_back() {
+    let edges = script(LONG, 1, &[(b'R', [LONG - 1, 0, 1]), (b'D', [0, 0, 1])]);
+    let made = [edges, many_matches(2_048)];
+    for script in made.iter().map(Vec::as_slice).chain(EXAMPLES) {
+        let list = read_matches(script).unwrap();
+        assert_eq!(write(list.p, list.q, &list.matches).unwrap(), script);
+        let mut numbers = vec![7; 4 * list.matches.len() + 3];
+        let Script { p, q, matches } = read_records_into(script, &mut numbers).unwrap();
+        assert_eq!((p, q, matches), (list.p, list.q, list.matches.len()));
+        let (read, behind) = numbers.split_at(4 * matches);
+        assert_eq!((read, behind), (&records(&list.matches)[..], &[7; 3][..]));
+        let mut bytes = vec![7; script.len() + 3];
+        assert_eq!(write_into(p, q, read, &mut bytes), Ok(script.len()));
+        assert_eq!(bytes, [script, &[7; 3]].concat());
+    }
+}
+
+#[test]
+fn a_list_goes_to_its_script_and_back() {
+    let many = |count: u32| -> Vec<Match> {
+        let turn = |at| [direct(at, 2 * at, at + 1), reversed(2 * at, at, 1)];
+        (0..count).flat_map(turn).collect()
+    };
+    let edges = vec![reversed(0, 0, LONG), direct(LONG - 1, LONG - 1, 1)];
+    for matches in [vec![], edges, many(1), many(17), many(1_024)] {
+        let script = write(LONG, LONG, &matches).unwrap();
+        let list = List {
+            p: LONG,
+            q: LONG,
+            matches,
+        };
+        assert_eq!(read_matches(&script), Ok(list));
+    }
+}
+
+#[test]
+fn a_list_becomes_the_script_of_its_bytes() {
+    let matches = [direct(0, 0, 6), reversed(2, 3, 5)];
+    assert_eq!(write(10, 10, &matches), Ok(run_of_the_specification()));
+    assert_eq!(write(1, LONG, &[]), Ok(script(1, LONG, &[])));
+}
+
+#[test]
+fn the_first_fault_of_a_list_counts() {
+    // All are to go to a buffer without a byte.
+    let many = [2; 4 * 2_049 + 1];
+    let faults: [(Word, usize, u32, &[u32]); 8] = [
+        (Word::LengthOutOfRange, 0, 0, &many),
+        (Word::MalformedRecords, 0, 10, &many),
+        (Word::TooManyMatches, 0, 10, &many[1..]),
+        (Word::MalformedRecords, 2, 10, &[0, 0, 6, 0, 11, 11, 0, 2]),
+        (Word::EmptyMatch, 2, 10, &[0, 0, 6, 0, 11, 11, 0, 1]),
+        (Word::BeyondA, 2, 10, &[0, 0, 6, 0, 11, 11, 1, 1]),
+        (Word::BeyondB, 1, 10, &[9, 10, 1, 1, 0, 0, 0, 2]),
+        (Word::BufferTooShort, 0, 10, &[0, 0, 6, 0, 9, 9, 1, 1]),
+    ];
+    for (word, place, q, numbers) in faults {
+        let refusal = write_into(10, q, numbers, &mut []).unwrap_err();
+        assert_eq!((refusal.word(), refusal.place()), (word, place));
+    }
+}
+
+#[test]
+fn a_refused_list_keeps_the_lent_buffer() {
+    let good = [0, 0, 6, 0];
+    let mut script = [7; 35];
+    for last in [[2, 3, 5, 2], [2, 3, 0, 1], [6, 3, 5, 1], [2, 6, 5, 1], good] {
+        let refusal = write_into(10, 10, &[good, last].concat(), &mut script).unwrap_err();
+        let wanted = if last == good { None } else { Some(2) };
+        assert_eq!(refusal.record(), wanted);
+        assert_eq!(script, [7; 35]);
+    }
+    assert!(write_into(0, 10, &good, &mut script).is_err());
+    assert!(write_into(10, 10, &good[1..], &mut script).is_err());
+    assert!(write_into(10, 10, &[1; 4 * 2_049], &mut script).is_err());
+    assert_eq!(script, [7; 35]);
+}
+
+#[test]
+fn a_refused_script_keeps_the_lent_records() {
+    let script = run_of_the_specification();
+    let mut numbers = [7; 8];
+    for refused in [&script[..35], &[&script[..], b"E"].concat()] {
+        assert!(read_records_into(refused, &mut numbers).is_err());
+    }
+    let refusal = read_records_into(&script, &mut numbers[..7]).unwrap_err();
+    assert_eq!(refusal.word(), Word::BufferTooShort);
+    assert_eq!(numbers, [7; 8]);
 }

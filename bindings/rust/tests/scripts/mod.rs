@@ -1,6 +1,8 @@
-//! Scripts for the tests.
+//! Scripts and lists for the tests.
 
 #![allow(dead_code)] // no test needs all of them
+
+use notchergrey::Match;
 
 pub const LONG: u32 = 1_000_000_000;
 
@@ -32,4 +34,26 @@ pub fn run_of_the_specification() -> Vec<u8> {
 
 pub fn many_matches(count: usize) -> Vec<u8> {
     script(LONG, LONG, &vec![(b'D', [0, 0, 1]); count])
+}
+
+pub fn direct(left_a: u32, left_b: u32, length: u32) -> Match {
+    Match {
+        left_a,
+        left_b,
+        length,
+        reversed: false,
+    }
+}
+
+pub fn reversed(left_a: u32, left_b: u32, length: u32) -> Match {
+    Match {
+        reversed: true,
+        ..direct(left_a, left_b, length)
+    }
+}
+
+/// Four numbers for each match.
+pub fn records(matches: &[Match]) -> Vec<u32> {
+    let record = |one: &Match| [one.left_a, one.left_b, one.length, one.reversed as u32];
+    matches.iter().flat_map(record).collect()
 }
