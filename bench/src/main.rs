@@ -2,12 +2,14 @@
 //! here tests a time.
 
 mod reader;
+mod records;
 mod refiner;
 mod summary;
 mod timing;
 
 fn main() {
     reader::run();
+    records::run();
     refiner::run();
     summary::run();
 }

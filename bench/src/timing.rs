@@ -9,19 +9,19 @@ const FEWEST: usize = 5;
 const LONG_ENOUGH: Duration = Duration::from_secs(2);
 
 /// What is measured: something done with one input.
-pub type Work<'a> = &'a mut dyn FnMut(&[u8]);
+pub type Work<'a, T> = &'a mut dyn FnMut(&T);
 
 /// How a case is measured: each measurement makes `calls` calls, going through `inputs` in turn.
-pub struct Timing<'a> {
+pub struct Timing<'a, T> {
     pub calls: usize,
-    pub inputs: &'a [Vec<u8>],
+    pub inputs: &'a [T],
 }
 
-impl Timing<'_> {
+impl<T> Timing<'_, T> {
     /// Nanoseconds of processor time for one call of each work: the median of many measurements, of
     /// fewer if they take long. The works take turns, so that whatever slows the machine for a while
     /// slows all of them.
-    pub fn medians<const N: usize>(&self, mut works: [Work; N]) -> [f64; N] {
+    pub fn medians<const N: usize>(&self, mut works: [Work<T>; N]) -> [f64; N] {
         for _ in 0..WARM_UP {
             self.measure_each(&mut works);
         }
@@ -33,11 +33,11 @@ impl Timing<'_> {
         std::array::from_fn(|work| median(measured.iter().map(|times| times[work]).collect()))
     }
 
-    fn measure_each<const N: usize>(&self, works: &mut [Work; N]) -> [f64; N] {
+    fn measure_each<const N: usize>(&self, works: &mut [Work<T>; N]) -> [f64; N] {
         works.each_mut().map(|work| self.measure(work))
     }
 
-    fn measure(&self, work: Work) -> f64 {
+    fn measure(&self, work: Work<T>) -> f64 {
         let start = processor_time();
         for input in self.inputs.iter().cycle().take(self.calls) {
             work(black_box(input));

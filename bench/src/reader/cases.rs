@@ -4,22 +4,22 @@ use compare::draft::{Draft, DraftMatch};
 use compare::random::Random;
 use compare::slow::script::{LONGEST_SEQUENCE, MOST_MATCHES};
 
-const P: u32 = LONGEST_SEQUENCE as u32;
-const Q: u32 = P - 1;
+pub const P: u32 = LONGEST_SEQUENCE as u32;
+pub const Q: u32 = P - 1;
 
 /// Matches of both directions come in no order, so that a branch on the direction has its price.
-const BOTH: [bool; 2] = [false, true];
+pub const BOTH: [bool; 2] = [false, true];
 const DIRECT_ONLY: [bool; 1] = [false];
 
-/// Several scripts of one kind: of a single one the processor would learn every branch.
-pub struct Case {
+/// Several scripts or lists of one kind: of a single one the processor would learn every branch.
+pub struct Case<T> {
     pub name: String,
     pub matches: usize,
-    pub scripts: Vec<Vec<u8>>,
+    pub inputs: Vec<T>,
     pub calls: usize,
 }
 
-pub fn all() -> Vec<Case> {
+pub fn all() -> Vec<Case<Vec<u8>>> {
     let mut random = Random::from_seed(2002);
     let admitted = [0, 10, 100, MOST_MATCHES].map(|matches| {
         let name = format!("{matches} matches");
@@ -41,11 +41,11 @@ pub fn all() -> Vec<Case> {
     admitted.into_iter().chain([direct, refused]).collect()
 }
 
-fn case(name: String, matches: usize, script: impl FnMut() -> Vec<u8>) -> Case {
+pub fn case<T>(name: String, matches: usize, input: impl FnMut() -> T) -> Case<T> {
     Case {
         name,
         matches,
-        scripts: std::iter::repeat_with(script).take(16).collect(),
+        inputs: std::iter::repeat_with(input).take(16).collect(),
         calls: 16 * (1 + 100 / (matches + 10)),
     }
 }
@@ -57,7 +57,7 @@ fn start(random: &mut Random, matches: usize, directions: &[bool]) -> Draft {
     })
 }
 
-fn good_match(random: &mut Random, directions: &[bool]) -> DraftMatch {
+pub fn good_match(random: &mut Random, directions: &[bool]) -> DraftMatch {
     let length = random.between(1, 1_000_000);
     DraftMatch {
         left_a: random.between(0, P - length),

@@ -1,6 +1,6 @@
 //! The proved reader beside plain Rust.
 
-mod cases;
+pub mod cases;
 pub mod plain;
 
 use crate::timing::Timing;
@@ -35,12 +35,12 @@ pub fn run() {
     println!("Rust: plain Rust in one pass that keeps the match of the number.");
 }
 
-fn report_reading(case: &Case) {
+fn report_reading(case: &Case<Vec<u8>>) {
     let mut numbers = NO_NUMBERS;
     let mut lent = Box::new(Columns::ZEROS);
     let timing = Timing {
         calls: case.calls,
-        inputs: &case.scripts,
+        inputs: &case.inputs,
     };
     let [rattle, plain, lent] = timing.medians([
         &mut |script| {
@@ -64,10 +64,10 @@ fn report_reading(case: &Case) {
     );
 }
 
-fn report_one(case: &Case) {
+fn report_one(case: &Case<Vec<u8>>) {
     let timing = Timing {
         calls: case.calls,
-        inputs: &case.scripts,
+        inputs: &case.inputs,
     };
     let number = case.matches as u32;
     let mut found = NO_MATCH;
@@ -125,7 +125,7 @@ const NOT_CARRIED: Carrying = Carrying {
     carried: 0,
 };
 
-const NO_NUMBERS: Reading = Reading {
+pub const NO_NUMBERS: Reading = Reading {
     place: 0,
     p: 0,
     q: 0,
@@ -133,8 +133,8 @@ const NO_NUMBERS: Reading = Reading {
 };
 
 /// Readers that disagree are not worth timing.
-fn check(case: &Case) {
-    for script in &case.scripts {
+fn check(case: &Case<Vec<u8>>) {
+    for script in &case.inputs {
         let mut numbers = NO_NUMBERS;
         let number = door::read(script, &mut numbers);
         let (wanted_number, wanted) = match plain::judge(script) {
@@ -164,9 +164,9 @@ fn check(case: &Case) {
 }
 
 /// What is found and carried, the same of both.
-fn check_one(case: &Case) {
+fn check_one(case: &Case<Vec<u8>>) {
     let number = case.matches as u32;
-    for script in &case.scripts {
+    for script in &case.inputs {
         let mut found = NO_MATCH;
         let answer = door::one_match(script, number, &mut found);
         let mut carried = NOT_CARRIED;
@@ -198,7 +198,7 @@ fn check_one(case: &Case) {
 }
 
 /// The plain reader's columns against the slow program's matches.
-fn check_matches(case: &Case, bytes: &[u8]) {
+fn check_matches(case: &Case<Vec<u8>>, bytes: &[u8]) {
     let Ok(slow) = script::read(bytes) else {
         return;
     };

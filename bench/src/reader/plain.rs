@@ -107,10 +107,10 @@ fn read_with(script: &[u8], mut keep: impl FnMut(usize, Match)) -> Result<Admitt
                 let Some((operands, next)) = behind.split_first_chunk() else {
                     return refused(Word::CutShort);
                 };
-                let [left_a, left_b, length] = match read_operands(operands, p, q) {
-                    Ok(numbers) => numbers,
-                    Err(word) => return refused(word),
-                };
+                let [left_a, left_b, length] = read_operands(operands);
+                if let Err(word) = judge_match([left_a, left_b, length], p, q) {
+                    return refused(word);
+                }
                 let reversed = command == REVERSED;
                 keep(
                     count,
@@ -146,7 +146,6 @@ fn read_lengths(script: &[u8]) -> Result<(u32, u32), Refusal> {
     };
     let p = number(operands, 0);
     let q = number(operands, 4);
-    let in_range = |letters: u32| letters != 0 && u64::from(letters) <= LONGEST_SEQUENCE;
     if in_range(p) && in_range(q) {
         Ok((p, q))
     } else {
@@ -154,10 +153,18 @@ fn read_lengths(script: &[u8]) -> Result<(u32, u32), Refusal> {
     }
 }
 
-fn read_operands(operands: &[u8; 12], p: u32, q: u32) -> Result<[u32; 3], Word> {
-    let left_a = number(operands, 0);
-    let left_b = number(operands, 4);
-    let length = number(operands, 8);
+/// Whether a sequence may have so many letters.
+pub fn in_range(letters: u32) -> bool {
+    letters != 0 && u64::from(letters) <= LONGEST_SEQUENCE
+}
+
+/// The left ends and the length of a match.
+pub fn read_operands(operands: &[u8; 12]) -> [u32; 3] {
+    [0, 4, 8].map(|at| number(operands, at))
+}
+
+/// Judges the left ends and the length of a match between p letters and q.
+pub fn judge_match([left_a, left_b, length]: [u32; 3], p: u32, q: u32) -> Result<(), Word> {
     if length == 0 {
         return Err(Word::EmptyMatch);
     }
@@ -167,7 +174,7 @@ fn read_operands(operands: &[u8; 12], p: u32, q: u32) -> Result<[u32; 3], Word> 
     if u64::from(left_b) + u64::from(length) > u64::from(q) {
         return Err(Word::BeyondB);
     }
-    Ok([left_a, left_b, length])
+    Ok(())
 }
 
 fn number(operands: &[u8], at: usize) -> u32 {

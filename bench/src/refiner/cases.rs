@@ -37,7 +37,7 @@ pub struct Case {
 
 impl Case {
     /// What one call of each work takes; a measurement goes through all scripts once.
-    pub fn microseconds<const N: usize>(&self, works: [Work; N]) -> [f64; N] {
+    pub fn microseconds<const N: usize>(&self, works: [Work<Vec<u8>>; N]) -> [f64; N] {
         let timing = Timing {
             calls: self.scripts.len(),
             inputs: &self.scripts,

@@ -27,7 +27,7 @@ fn report(length: &Length) {
         check(name, table);
         let timing = Timing {
             calls: (100_000 / length.rows).max(1),
-            inputs: &[Vec::new()],
+            inputs: &[()],
         };
         let [rattle, rust, first] = timing.medians([
             &mut |_| sum_up(table),

@@ -1,0 +1,152 @@
+//! The proved writing and reading back of lists beside plain Rust.
+
+mod cases;
+mod door;
+mod plain;
+
+use crate::reader::cases::Case;
+use crate::reader::plain::Admitted;
+use crate::reader::NO_NUMBERS;
+use crate::timing::Timing;
+use cases::List;
+use compare::door::{Reading, BUFFER_TOO_SHORT};
+use compare::slow::refusal::Refusal;
+use compare::slow::script::{self, MOST_MATCHES};
+use door::Writing;
+use plain::{script_bytes, Refused};
+use std::hint::black_box;
+
+/// Room for every script, and for every list.
+const MOST_BYTES: usize = script_bytes(MOST_MATCHES);
+const MOST_NUMBERS: usize = 4 * MOST_MATCHES;
+
+pub fn run() {
+    println!(
+        "\n{:<36} {:>10} {:>10} {:>6} {:>10} {:>10} {:>6}",
+        "writing and reading lists", "write ns", "Rust ns", "ratio", "read ns", "Rust ns", "ratio"
+    );
+    for case in cases::all() {
+        check(&case);
+        report(&case);
+    }
+    println!("write: notchergrey_write. read: notchergrey_read_records.");
+    println!("Rust: plain Rust that judges in one pass and fills the lent buffer in another.");
+}
+
+fn report(case: &Case<List>) {
+    let timing = Timing {
+        calls: case.calls,
+        inputs: &case.inputs,
+    };
+    let mut script = vec![0; MOST_BYTES];
+    let mut script_of_plain = script.clone();
+    let mut records = vec![0; MOST_NUMBERS];
+    let mut records_of_plain = records.clone();
+    let mut written = NOT_WRITTEN;
+    let mut numbers = NO_NUMBERS;
+    let [rattle_write, plain_write, rattle_read, plain_read] = timing.medians([
+        &mut |list| {
+            let &List { p, q, .. } = list;
+            black_box(door::write(p, q, &list.records, &mut script, &mut written));
+        },
+        &mut |list| {
+            let &List { p, q, .. } = list;
+            _ = black_box(plain::write(p, q, &list.records, &mut script_of_plain));
+        },
+        &mut |list| {
+            black_box(door::read_records(&list.script, &mut records, &mut numbers));
+        },
+        &mut |list| {
+            _ = black_box(plain::read(&list.script, &mut records_of_plain));
+        },
+    ]);
+    println!(
+        "{:<36} {:>10.1} {:>10.1} {:>6.2} {:>10.1} {:>10.1} {:>6.2}",
+        case.name,
+        rattle_write,
+        plain_write,
+        rattle_write / plain_write,
+        rattle_read,
+        plain_read,
+        rattle_read / plain_read
+    );
+}
+
+const NOT_WRITTEN: Writing = Writing {
+    place: 0,
+    length: 0,
+};
+
+/// Writers and readers that disagree are not worth timing. Each is lent a buffer that is too short
+/// by one, one that is just long enough, and the one that is timed, with rubbish in them.
+fn check(case: &Case<List>) {
+    for list in &case.inputs {
+        let bytes = list.script.len();
+        for room in [bytes - 1, bytes, MOST_BYTES] {
+            check_writing(&case.name, list, room);
+        }
+        let numbers = list.records.len();
+        for room in [numbers.saturating_sub(1), numbers, MOST_NUMBERS] {
+            check_reading(&case.name, list, room);
+        }
+    }
+}
+
+fn check_writing(name: &str, list: &List, room: usize) {
+    let &List { p, q, .. } = list;
+    let mut script = vec![7; room];
+    let mut script_of_plain = script.clone();
+    let mut written = NOT_WRITTEN;
+    let answer = door::write(p, q, &list.records, &mut script, &mut written);
+    let (plain_answer, wanted) = match plain::write(p, q, &list.records, &mut script_of_plain) {
+        Ok(length) => (0, Writing { place: 0, length }),
+        Err(Refused { number, place }) => (number, Writing { place, length: 0 }),
+    };
+    assert_eq!((answer, written), (plain_answer, wanted), "{name}");
+    assert!(script == script_of_plain, "{name}: two scripts");
+    let fits = room >= list.script.len();
+    assert_eq!(answer, wanted_answer(list, fits), "{name}");
+    if answer == 0 {
+        assert!(script.starts_with(&list.script), "{name}: not the script");
+    }
+}
+
+fn check_reading(name: &str, list: &List, room: usize) {
+    let mut records = vec![7; room];
+    let mut records_of_plain = records.clone();
+    let mut numbers = NO_NUMBERS;
+    let answer = door::read_records(&list.script, &mut records, &mut numbers);
+    let (plain_answer, wanted) = match plain::read(&list.script, &mut records_of_plain) {
+        Ok(Admitted { p, q, count }) => (
+            0,
+            Reading {
+                place: 0,
+                p,
+                q,
+                count,
+            },
+        ),
+        Err(Refused { number, place }) => (
+            number,
+            Reading {
+                place,
+                ..NO_NUMBERS
+            },
+        ),
+    };
+    assert_eq!((answer, numbers), (plain_answer, wanted), "{name}");
+    assert!(records == records_of_plain, "{name}: two lists");
+    let fits = room >= list.records.len();
+    assert_eq!(answer, wanted_answer(list, fits), "{name}");
+    if answer == 0 {
+        assert!(records.starts_with(&list.records), "{name}: not the list");
+    }
+}
+
+/// A list is refused for what the slow reader refuses its script for, and else for its buffer.
+fn wanted_answer(list: &List, fits: bool) -> u32 {
+    match Refusal::number_in(&script::read(&list.script)) {
+        0 if !fits => BUFFER_TOO_SHORT,
+        number => number,
+    }
+}
