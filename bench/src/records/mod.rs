@@ -1,7 +1,6 @@
 //! The proved writing and reading back of lists beside plain Rust.
 
 mod cases;
-mod door;
 mod plain;
 
 use crate::reader::cases::Case;
@@ -9,11 +8,10 @@ use crate::reader::plain::Admitted;
 use crate::reader::NO_NUMBERS;
 use crate::timing::Timing;
 use cases::List;
-use compare::door::{Reading, BUFFER_TOO_SHORT};
-use compare::slow::refusal::Refusal;
+use compare::door::{self, Reading, Writing};
+use compare::slow::refusal::{Refusal, Word};
 use compare::slow::script::{self, MOST_MATCHES};
-use door::Writing;
-use plain::{script_bytes, Refused};
+use plain::script_bytes;
 use std::hint::black_box;
 
 /// Room for every script, and for every list.
@@ -100,7 +98,10 @@ fn check_writing(name: &str, list: &List, room: usize) {
     let answer = door::write(p, q, &list.records, &mut script, &mut written);
     let (plain_answer, wanted) = match plain::write(p, q, &list.records, &mut script_of_plain) {
         Ok(length) => (0, Writing { place: 0, length }),
-        Err(Refused { number, place }) => (number, Writing { place, length: 0 }),
+        Err(refusal) => {
+            let place = refusal.place;
+            (refusal.number(), Writing { place, length: 0 })
+        }
     };
     assert_eq!((answer, written), (plain_answer, wanted), "{name}");
     assert!(script == script_of_plain, "{name}: two scripts");
@@ -126,10 +127,10 @@ fn check_reading(name: &str, list: &List, room: usize) {
                 count,
             },
         ),
-        Err(Refused { number, place }) => (
-            number,
+        Err(refusal) => (
+            refusal.number(),
             Reading {
-                place,
+                place: refusal.place,
                 ..NO_NUMBERS
             },
         ),
@@ -146,7 +147,7 @@ fn check_reading(name: &str, list: &List, room: usize) {
 /// A list is refused for what the slow reader refuses its script for, and else for its buffer.
 fn wanted_answer(list: &List, fits: bool) -> u32 {
     match Refusal::number_in(&script::read(&list.script)) {
-        0 if !fits => BUFFER_TOO_SHORT,
+        0 if !fits => Word::BufferTooShort as u32,
         number => number,
     }
 }

@@ -2,30 +2,14 @@
 //! match is judged as the plain reader judges it.
 
 use crate::reader::plain::{in_range, judge, judge_match, read_operands, Admitted};
-use compare::door::BUFFER_TOO_SHORT;
 use compare::slow::refusal::{Refusal, Word};
 use compare::slow::script::{DIRECT, END, LENGTHS, MOST_MATCHES, REVERSED};
 
 /// Left-A, left-B, length and direction.
 type Record = [u32; 4];
 
-const MALFORMED_RECORDS: u32 = 15;
-
-/// Why a list or a script is refused, and where.
-#[derive(Clone, Copy, Debug, PartialEq, Eq)]
-pub struct Refused {
-    pub number: u32,
-    pub place: usize,
-}
-
-impl From<Refusal> for Refused {
-    fn from(refusal: Refusal) -> Refused {
-        refused(refusal.number(), refusal.place)
-    }
-}
-
-fn refused(number: u32, place: usize) -> Refused {
-    Refused { number, place }
+fn refused(word: Word, place: usize) -> Refusal {
+    Refusal { word, place }
 }
 
 /// The bytes of a script with so many matches.
@@ -35,11 +19,11 @@ pub const fn script_bytes(matches: usize) -> usize {
 
 /// Writes the script of a list to the buffer's start, and gives its length.
 #[inline(never)]
-pub fn write(p: u32, q: u32, records: &[u32], script: &mut [u8]) -> Result<usize, Refused> {
+pub fn write(p: u32, q: u32, records: &[u32], script: &mut [u8]) -> Result<usize, Refusal> {
     let records = judge_list(p, q, records)?;
     let length = script_bytes(records.len());
     let Some(script) = script.get_mut(..length) else {
-        return Err(refused(BUFFER_TOO_SHORT, 0));
+        return Err(refused(Word::BufferTooShort, 0));
     };
     script[0] = LENGTHS;
     script[1..5].copy_from_slice(&p.to_le_bytes());
@@ -54,11 +38,11 @@ pub fn write(p: u32, q: u32, records: &[u32], script: &mut [u8]) -> Result<usize
 
 /// Writes the records of a script to the buffer's start.
 #[inline(never)]
-pub fn read(script: &[u8], records: &mut [u32]) -> Result<Admitted, Refused> {
+pub fn read(script: &[u8], records: &mut [u32]) -> Result<Admitted, Refusal> {
     let Admitted { p, q, count } = judge(script)?;
     let (records, _) = records.as_chunks_mut();
     let Some(records) = records.get_mut(..count) else {
-        return Err(refused(BUFFER_TOO_SHORT, 0));
+        return Err(refused(Word::BufferTooShort, 0));
     };
     let (commands, _) = script[9..].as_chunks();
     for (record, command) in records.iter_mut().zip(commands) {
@@ -67,30 +51,30 @@ pub fn read(script: &[u8], records: &mut [u32]) -> Result<Admitted, Refused> {
     Ok(Admitted { p, q, count })
 }
 
-fn judge_list(p: u32, q: u32, records: &[u32]) -> Result<&[Record], Refused> {
+fn judge_list(p: u32, q: u32, records: &[u32]) -> Result<&[Record], Refusal> {
     if !(in_range(p) && in_range(q)) {
-        return Err(refused(Word::LengthOutOfRange as u32, 0));
+        return Err(refused(Word::LengthOutOfRange, 0));
     }
     let (records, rest) = records.as_chunks();
     if !rest.is_empty() {
-        return Err(refused(MALFORMED_RECORDS, 0));
+        return Err(refused(Word::MalformedRecords, 0));
     }
     if records.len() > MOST_MATCHES {
-        return Err(refused(Word::TooManyMatches as u32, 0));
+        return Err(refused(Word::TooManyMatches, 0));
     }
     for (index, &record) in records.iter().enumerate() {
-        if let Err(number) = judge_record(record, p, q) {
-            return Err(refused(number, index + 1));
+        if let Err(word) = judge_record(record, p, q) {
+            return Err(refused(word, index + 1));
         }
     }
     Ok(records)
 }
 
-fn judge_record([left_a, left_b, length, direction]: Record, p: u32, q: u32) -> Result<(), u32> {
+fn judge_record([left_a, left_b, length, direction]: Record, p: u32, q: u32) -> Result<(), Word> {
     if direction > 1 {
-        return Err(MALFORMED_RECORDS);
+        return Err(Word::MalformedRecords);
     }
-    judge_match([left_a, left_b, length], p, q).map_err(|word| word as u32)
+    judge_match([left_a, left_b, length], p, q)
 }
 
 /// The command byte is reckoned, since a branch on the direction has its price.
