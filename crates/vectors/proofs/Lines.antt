@@ -7,6 +7,9 @@ use native.Mathlib.Decide.{decLe, decLt, ℕ-discrete}
 use Rattle.script.specs.Reading.{readFrom, readScript}
 use Rattle.refinement.specs.Order.{insertBy, sortBy}
 use Rattle.refinement.specs.Least as Least
+use Rattle.records.specs.Records.{recordsOf}
+use Rattle.records.specs.Bytes.{bytesOf}
+use Rattle.records.specs.Writing.{judgedFrom}
 use Rattle.rows.specs.Rows.{firstRows, rowsOf, numbersOf}
 use Rattle.table.specs.Distinct.{occurs, firstsAfter}
 use Rattle.table.specs.Summing.{total, classesFrom}
@@ -25,5 +28,5 @@ unfolding readFrom readScript insertBy sortBy flatMap Dec·and decLe decLt ℕ-d
     Least.ends Least.spanning Least.images Least.spannedMarks Least.addNew Least.grow Least.spanCount
     Least.leastCuts Least.cutsWithin Least.pieceOf Least.piecesBetween Least.piecesOf Least.tableFrom
     Least.leastTable total classesFrom placesWithin rowLines classLines reportOf
-    carryingOf leading
+    carryingOf leading recordsOf bytesOf judgedFrom
 lines-hold = refl

@@ -2,6 +2,7 @@
 --     Outcome           all that is there after a call
 --     Line              what the definitions say, beside what must come
 --     refines, reads, refuses, finds, findsNone, carriesA, carriesB     calls on a script, through the doors
+--     writes, writesNone, lists, listsNone     calls on lists, through the doors
 --     marks, sums       calls on a table, through the doors
 --     prints, hands     what the program prints; and the same in a lent buffer, through the door
 -- Every lent number, and every number behind a pointer, is 99 before the call, so that a number that is kept shows.
@@ -11,12 +12,15 @@ use mathlib.Core.Bool.{cond}
 use mathlib.Core.List.{List, [], _∷_, _++_}
 use lib.ListN.{length, take, replicate}
 use lib.Dec.{eqb}
+use Rattle.records.specs.Writing.{writingOf}
+use Rattle.records.specs.Listing.{listingOf}
 use Rattle.table.specs.Summing.{summaryOf}
 use Rattle.refining.specs.Refining.{refiningOf}
 use Rattle.refining.specs.declared.answers.Refined.{Refined}
 use Rattle.reporting.specs.Reporting.{reportOf, reportingOf}
 use Rattle.doors.specs.Doors.{Reply, Read, OneMatch, RowsReply, SummaryReply, ReportReply, readDoor, matchDoor}
 use Rattle.doors.specs.Doors.{refineDoor, carryFromA, carryFromB, rowsDoor, summaryDoor, reportDoor}
+use Rattle.doors.specs.Doors.{writeDoor, recordsDoor}
 
 -- the number returned and all that stands behind the pointers and in the lent buffers after the call; of refining also
 -- the distinct pieces of the rows it counts
@@ -25,6 +29,8 @@ pub data Outcome : Type 0 where
   read : Reply Read → Outcome
   found : Reply OneMatch → Outcome
   carried : Reply ℕ → Outcome
+  written : Reply ℕ → (script : List ℕ) → Outcome
+  listed : Reply Read → (records : List ℕ) → Outcome
   marked : RowsReply → Outcome
   summed : SummaryReply → Outcome
   printed : (text : List ℕ) → Outcome
@@ -132,6 +138,41 @@ carriesA script which position x =
 abbrev pub carriesB : List ℕ → ℕ → ℕ → Reply ℕ → Line
 carriesB script which position x =
     record { comes = carried (carryFromB script which position old old); leaves = carried x }
+
+-- ---- lists
+
+abbrev writesTo : ℕ → ℕ → List ℕ → ℕ → Reply ℕ → List ℕ → Line
+writesTo p q records lent x script =
+    let buffer = replicate lent old in
+    record {
+      comes = written (writeDoor p q records buffer old old) (writingOf p q records buffer .script);
+      leaves = written x script;
+    }
+
+-- p, q and the records in a buffer of so many bytes: the script at its start; or the refusal's number and place
+abbrev pub writes : ℕ → ℕ → List ℕ → ℕ → List ℕ → Line
+writes p q records lent script =
+    writesTo p q records lent (gives (length script)) (script ++ replicate (lent - length script) old)
+
+abbrev pub writesNone : ℕ → ℕ → List ℕ → ℕ → ℕ → ℕ → Line
+writesNone p q records lent number place = writesTo p q records lent (keeps old number place) (replicate lent old)
+
+abbrev listsTo : List ℕ → ℕ → Reply Read → List ℕ → Line
+listsTo script lent x records =
+    let buffer = replicate lent old in
+    record {
+      comes = listed (recordsDoor script buffer old oldRead) (listingOf script buffer .records);
+      leaves = listed x records;
+    }
+
+-- a script in a buffer of so many numbers: p, q, the count, and the records at its start; or number and place
+abbrev pub lists : List ℕ → ℕ → ℕ → ℕ → ℕ → List ℕ → Line
+lists script lent p q count records =
+    listsTo script lent (gives (record { p = p; q = q; count = count }))
+    (records ++ replicate (lent - length records) old)
+
+abbrev pub listsNone : List ℕ → ℕ → ℕ → ℕ → Line
+listsNone script lent number place = listsTo script lent (keeps oldRead number place) (replicate lent old)
 
 -- ---- tables
 

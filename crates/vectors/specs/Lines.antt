@@ -1,5 +1,6 @@
 -- 01's lines marked M as one table, and with them lines for what 01 says with numbers but does not mark: each refusal's
--- number and place, the order of a number's bytes, the limits, which classes are printed, where a position is carried.
+-- number and place, the order of a number's bytes, the limits, which classes are printed, where a position is carried,
+-- and for lists what 02 says of them.
 -- TO READ beside 01, "Small scripts at the edges", "Refused scripts and calls" and "One run, complete". All bytes are
 -- written out: the table says by itself in which order a number's bytes stand and how a number is printed.
 --     lines               the table; `specs/Kinds` has the kinds of lines
@@ -10,6 +11,7 @@ use mathlib.Core.List.{List, [], _∷_, _++_}
 use lib.ListN.{replicate}
 use Rattle.vectors.specs.Kinds.{Line, Expected, refused, pieces, flat, refines, reads, refuses, finds, findsNone}
 use Rattle.vectors.specs.Kinds.{to, stays, carriesA, carriesB, marks, sums, prints, hands}
+use Rattle.vectors.specs.Kinds.{writes, writesNone, lists, listsNone}
 
 -- ---- scripts
 
@@ -55,6 +57,13 @@ fourBytes =
     ∷ (0x09 ∷ 0x0A ∷ 0x0B ∷ 0x0C ∷ [])
     ∷ end
     ∷ [])
+
+-- its matches as records, and those of the run below
+abbrev fourRecords : List ℕ
+fourRecords = 168496141 ∷ 235868177 ∷ 303240213 ∷ 0 ∷ 67305985 ∷ 134678021 ∷ 202050057 ∷ 1 ∷ []
+
+abbrev runRecords : List ℕ
+runRecords = 0 ∷ 0 ∷ 6 ∷ 0 ∷ 2 ∷ 3 ∷ 5 ∷ 1 ∷ []
 
 -- two matches, each with another left-A than left-B
 abbrev pairs : List ℕ
@@ -317,6 +326,39 @@ lines =
     ∷ carriesB pairs 3 99 (stays 13 0)
     ∷ carriesA (lengths 10 10 ++ direct 0 0 6) 2 99 (stays 3 22)
     ∷ carriesB [] 0 99 (stays 1 0)
+    -- a list as a script: the bytes behind it are kept; one byte too few gives 16 at 0 and alters none
+    ∷ writes 10 10 runRecords 36 run
+    ∷ writes 10 10 runRecords 39 run
+    ∷ writesNone 10 10 runRecords 35 16 0
+    ∷ writes 975771399 992614408 fourRecords 36 fourBytes
+    -- an empty one
+    ∷ writes 1 1 [] 10 (lengths 1 1 ++ end)
+    ∷ writesNone 1 1 [] 9 16 0
+    -- 5 before 15 for the count, and that before 6 and before a record's fault
+    ∷ writesNone 0 10 (1 ∷ 2 ∷ 3 ∷ []) 40 5 0
+    ∷ writesNone 10 1000000001 (1 ∷ 2 ∷ 3 ∷ []) 40 5 0
+    ∷ writesNone 10 10 (1 ∷ 2 ∷ 3 ∷ []) 40 15 0
+    ∷ writesNone 10 10 (0 ∷ 0 ∷ 0 ∷ 2 ∷ 7 ∷ []) 40 15 0
+    ∷ writesNone 10 10 (replicate 8197 2) 4 15 0
+    -- 6 before a record's fault
+    ∷ writesNone 10 10 (replicate 8196 2) 4 6 0
+    -- at a record, counted from 1: 15 for its direction, 7, 8, 9
+    ∷ writesNone 10 10 (0 ∷ 0 ∷ 0 ∷ 2 ∷ []) 40 15 1
+    ∷ writesNone 10 10 (runRecords ++ (11 ∷ 11 ∷ 11 ∷ 4294967295 ∷ [])) 60 15 3
+    ∷ writesNone 10 10 (11 ∷ 11 ∷ 0 ∷ 1 ∷ []) 40 7 1
+    ∷ writesNone 10 10 (0 ∷ 0 ∷ 6 ∷ 0 ∷ 1 ∷ 0 ∷ 4294967295 ∷ 0 ∷ []) 40 8 2
+    ∷ writesNone 10 10 (0 ∷ 0 ∷ 6 ∷ 0 ∷ 5 ∷ 5 ∷ 6 ∷ 1 ∷ []) 40 8 2
+    ∷ writesNone 30 10 (0 ∷ 0 ∷ 6 ∷ 0 ∷ 5 ∷ 5 ∷ 6 ∷ 1 ∷ []) 40 9 2
+    -- the first faulty record counts, and 16 comes last of all
+    ∷ writesNone 10 10 (0 ∷ 0 ∷ 0 ∷ 0 ∷ 0 ∷ 0 ∷ 6 ∷ 2 ∷ []) 40 7 1
+    ∷ writesNone 10 10 (0 ∷ 0 ∷ 6 ∷ 0 ∷ 0 ∷ 0 ∷ 0 ∷ 0 ∷ []) 0 7 2
+    -- and back: the numbers behind the records are kept; one number too few gives 16 at 0, the script before it
+    ∷ lists run 8 10 10 2 runRecords
+    ∷ lists run 11 10 10 2 runRecords
+    ∷ listsNone run 7 16 0
+    ∷ lists fourBytes 8 975771399 992614408 2 fourRecords
+    ∷ lists (lengths 1 2 ++ end) 0 1 2 0 []
+    ∷ listsNone (lengths 10 10 ++ direct 0 0 6) 0 3 22
     -- the rows of a match: up to the first break; none; and none by the numbers that form no row
     ∷ marks anything 2 5 15
     ∷ marks anything 9 15 20
