@@ -3,8 +3,7 @@
 
 A place gives rows: a number, a word, or both. Words are compared without case and without what parts them, so that
 TooManyMatches, TOO_MANY_MATCHES, too-many-matches and "too many matches" are one. Each row must be one of the
-definition's, and each of the definition's must be there once. Number 16, which only the door for the program's text
-returns, has its word in the header for C and its number in crates/doors/specs/Doors.antt.
+definition's, and each of the definition's must be there once.
 
 Prints a line for each difference. The last line is 'refusals: N places, 0 differences', and the exit status 0, only if
 there is none.
@@ -17,10 +16,8 @@ from pathlib import Path
 ROOT = Path(__file__).resolve().parent.parent
 DEFINITION = "crates/script/specs/Refusals.antt"
 READING = "crates/script/specs/Outcomes.antt"
-DOORS = "crates/doors/specs/Doors.antt"
 HEADER = "include/notchergrey.h"
 CODE = "crates/refusals/src/lib.rt"
-TEXT_WORD = "buffer too short"
 
 # Files that list every refusal; what lists it there, the part of the file that this is, and a row in it.
 LISTS = [
@@ -45,17 +42,14 @@ ANSWER = re.compile(r"\(refusal (?P<number>\d+) ")
 
 def main():
     definition = dict(listed(DEFINITION, *LISTS[0][2:]))
-    of_the_text = {text_number(): TEXT_WORD}
     of_bytes = {number: definition.get(number, word) for number, word in outcomes(ROOT / READING)}
     stated = {row for path in ROOT.glob("crates/*/specs/**/*.antt") for row in outcomes(path)}
     places = [
-        (f"{file}, {what}", listed(file, part, row), definition | of_the_text if file == HEADER else definition)
-        for file, what, part, row in LISTS
+        (f"{file}, {what}", listed(file, part, row), definition) for file, what, part, row in LISTS
     ]
     places += [
         ("crates/*/specs, the outcomes", sorted(stated), definition),
         ("compare/src, what the run must meet", sorted(set(needs())), definition),
-        ("compare/src/door.rs, the text's", door(), of_the_text),
         ("examples, a script for each fault of the bytes", examples(of_bytes), of_bytes),
     ]
     lines = []
@@ -126,15 +120,6 @@ def needs():
     for path in sorted(ROOT.glob("compare/src/**/*.rs")):
         for found in re.finditer(r"Need::refused\((\d+),", path.read_text(encoding="utf-8")):
             yield int(found[1]), None
-
-
-def text_number():
-    return int(re.search(r"TextTooShort n\) = record \{ number = (\d+);", source(DOORS))[1])
-
-
-def door():
-    found = re.findall(r"^pub const (\w+_TOO_SHORT): u32 = (\d+);$", source("compare/src/door.rs"), re.MULTILINE)
-    return [(int(number), plain(word)) for word, number in found]
 
 
 def example_files():

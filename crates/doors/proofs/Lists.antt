@@ -7,17 +7,15 @@ use mathlib.Core.Path.{_≡_, refl, sym, ap, _∙_}
 use mathlib.Core.List.{List, _++_}
 use native.Mathlib.Omega.{arith}
 use lib.ListN.{length, take, drop}
-use Rattle.script.specs.Answers.{value}
 use Rattle.script.specs.Demands.{counted}
-use Rattle.records.specs.Writing.{Writing, writingOf}
-use Rattle.records.specs.Listing.{Listing, listingOf}
-use Rattle.records.specs.Demands.{writtenAnswer, listedAnswer}
+use Rattle.records.specs.Writing.{writingOf}
+use Rattle.records.specs.Listing.{listingOf}
 use Rattle.records.specs.declared.Written.{Written}
 use Rattle.records.specs.declared.Listed.{Listed}
 use Rattle.records.proofs.Bytes.{Bytes}
 use Rattle.records.proofs.Lists.{list-length}
 use Rattle.records.proofs.Demands.{writing-demand, listing-demand}
-use Rattle.doors.specs.Doors.{Reply, door, Read, ofWritten, writeDoor, ofListed, recordsDoor}
+use Rattle.doors.specs.Doors.{door, Read, ofWritten, writeDoor, ofListed, recordsDoor}
 use Rattle.doors.proofs.Agreement.{number-some}
 
 -- ---- records to bytes to records

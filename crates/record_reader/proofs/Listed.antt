@@ -7,13 +7,13 @@
 --     unread-listed, short-listed, whole-listed     the contract of the call, by its answer
 -- Assumes nothing.
 use Prim.Native.Nat.{ℕ, _+_, _*_, _≤_, _<_}
-use mathlib.Core.Path.{_≡_, refl, sym, ap, _∙_}
+use mathlib.Core.Path.{_≡_, refl, sym, ap}
 use mathlib.Core.Bool.{Bool}
-use mathlib.Core.List.{List, [], _∷_, _++_}
+use mathlib.Core.List.{List}
 use native.Mathlib.Omega.{arith}
 use borrow.Author.Tests.{lt-ltb, le-ltb}
 use lib.Dec.{eqb}
-use lib.ListN.{length, getD, drop, set}
+use lib.ListN.{length, getD, set}
 use Rattle.script.specs.Commands.{lengthsWidth, matchWidth, numberAt, bitOf}
 use Rattle.script.specs.Outcomes.{MatchAt}
 use Rattle.script.specs.Reading.{Reading, admitted, refused, readScript, verdictOf}

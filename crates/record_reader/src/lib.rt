@@ -10,7 +10,6 @@ use script::Verdict;
 use script::command::LENGTHS_WIDTH;
 use script::command::MATCH_WIDTH;
 ghost use mathlib.Core.Path.{_≡_};
-ghost use mathlib.Core.List.{[], _∷_, flatMap};
 ghost use Prim.Native.Nat.{_+_, _*_, _≤_};
 ghost use lib.ListN.{length};
 ghost use Rattle.script.specs.Commands.{matchWidth};

@@ -7,7 +7,7 @@
 --     drop-number      from the offset of a number on stand its bytes, and then what is left
 -- Assumes nothing.
 use Prim.Native.Nat.{ℕ, suc, _+_, _*_, _/_, _%_, _^_, _≤_, _<_}
-use mathlib.Core.Path.{_≡_, refl, sym, ap, _∙_}
+use mathlib.Core.Path.{_≡_, sym, ap, _∙_}
 use mathlib.Core.List.{List, [], _∷_, _++_}
 use native.Mathlib.Omega.{arith}
 use native.Mathlib.Nat.{add-assoc, div-div-eq-div-mul, div-add-mod, mod-eq-of-lt, div-eq-of-lt}

@@ -3,14 +3,14 @@
 --     listing-demand      likewise of `listingOf`, for a string of bytes
 -- Each undoes the other: what is written is admitted and holds the matches of the records (`written-admitted`), and what
 -- is read is written from these matches (`admitted-written`). Assumes nothing.
-use Prim.Native.Nat.{ℕ, suc, _+_, _*_, _%_, _≤_, _<_}
-use mathlib.Core.Path.{_≡_, refl, sym, ap, subst, _∙_}
+use Prim.Native.Nat.{ℕ, _+_, _*_, _%_, _≤_}
+use mathlib.Core.Path.{_≡_, refl, sym, ap, _∙_}
 use mathlib.Core.Bool.{Bool, true, false}
 use mathlib.Core.List.{List, [], _∷_, _++_, flatMap, append-assoc, List·Memᴰ}
 use mathlib.Core.List.{List·Memᴰ·head as here, List·Memᴰ·tail as there}
 use native.Mathlib.Omega.{arith}
 use native.Mathlib.Decide.{decLe}
-use native.Mathlib.Nat.{lt-of-not-le, add-assoc}
+use native.Mathlib.Nat.{lt-of-not-le}
 use borrow.Author.Tests.{eq-eqb, lt-ltb, le-ltb}
 use lib.Dec.{ltb}
 use lib.ListN.{length, getD, take, drop, length-append, length-drop}
@@ -20,27 +20,26 @@ use Rattle.script.specs.Commands.{bitOf}
 use Rattle.script.specs.Steps.{matchJudgement}
 use Rattle.script.specs.Reading.{Reading, admitted, refused, readScript}
 use Rattle.script.specs.Answers.{Answer, value, refusal, contents}
-use Rattle.script.specs.Outcomes.{InRange, Within, Reach, Outcome}
+use Rattle.script.specs.Outcomes.{Within, Outcome}
 use Rattle.script.specs.Demands.{Counted, counted}
 use Rattle.script.specs.declared.command.Match.{Match}
 use Rattle.script.specs.declared.refusal.Refusal.{Refusal}
 use Rattle.script.specs.declared.refusal.Refusal.the-variants.{BufferTooShort}
 use Rattle.script.specs.declared.step.Judgement.{Judgement}
-use Rattle.script.specs.declared.step.Judgement.the-variants.{Sound, Faulty}
+use Rattle.script.specs.declared.step.Judgement.the-variants.{Sound}
 use Rattle.script.proofs.Outcome.{reach-place, reach-range, reach-within, read-outcome, outcome-admitted, outcome-refused}
 use Rattle.script.proofs.Admitted.{admitted-ended}
 use Rattle.script.proofs.Judged.{Weighed, weighed-judgement, Opens, opens-step}
-use Rattle.script.proofs.Laws.{bit-told}
-use Rattle.records.specs.Records.{numbersOf, listOf, recordsOf, matchOf, matchesOf}
+use Rattle.records.specs.Records.{numbersOf, listOf, recordsOf, matchesOf}
 use Rattle.records.specs.Bytes.{bytesOf}
-use Rattle.records.specs.Outcomes.{WayAt, Says, Begun, Passed, WritingOutcome, ListingOutcome}
-use Rattle.records.specs.Writing.{recordJudgement, judgedFrom, judgementOf, Writing, writingOfJudgement, writingOf}
+use Rattle.records.specs.Outcomes.{WayAt, Says, Passed, ListingOutcome}
+use Rattle.records.specs.Writing.{judgedFrom, Writing, writingOfJudgement, writingOf}
 use Rattle.records.specs.Listing.{Listing, listingOfReading, listingOf}
 use Rattle.records.specs.Demands.{writtenAnswer, Back, WritingDemand, listedAnswer, ListingDemand}
 use Rattle.records.specs.declared.Written.{Written}
 use Rattle.records.specs.declared.Listed.{Listed}
 use Rattle.records.proofs.Bytes.{Bytes}
-use Rattle.records.proofs.Scripts.{flat-append, bytes-length, written-admitted, admitted-written}
+use Rattle.records.proofs.Scripts.{flat-append, written-admitted, admitted-written}
 use Rattle.records.proofs.Lists.{list-length, list-back}
 use Rattle.records.proofs.Passed.{passed-begun, passed-within, passed-list}
 use Rattle.records.proofs.WritingOutcome.{Judging, faulty, sound, judging, writing-stated, writing-alone}

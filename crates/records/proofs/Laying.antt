@@ -5,7 +5,7 @@
 --     Laid            what is stored, and what is still to come, make the buffer that is wanted
 --     laid-start, laid-next, laid-ends     at the start, a match later, and behind the last
 -- Assumes nothing.
-use Prim.Native.Nat.{ℕ, suc, _+_, _*_, _≤_, _<_}
+use Prim.Native.Nat.{ℕ, suc, _+_, _≤_, _<_}
 use mathlib.Core.Path.{_≡_, refl, sym, ap, _∙_}
 use mathlib.Core.List.{List, [], _∷_, _++_, flatMap}
 use native.Mathlib.Omega.{arith}

@@ -4,18 +4,16 @@
 --     list-length        four numbers for each match
 --     list-back          a list of matches, written as records, is read back
 -- Assumes nothing.
-use Prim.Native.Nat.{ℕ, zero, suc, _+_, _*_, _/_, _≤_, _<_}
-use mathlib.Core.Path.{_≡_, refl, sym, ap, ap₂, _∙_}
-use mathlib.Core.Bool.{Bool}
-use mathlib.Core.List.{List, [], _∷_, _++_, map, flatMap}
+use Prim.Native.Nat.{ℕ, zero, suc, _+_, _*_, _/_, _≤_}
+use mathlib.Core.Path.{_≡_, refl, sym, ap, _∙_}
+use mathlib.Core.List.{List, [], _∷_, _++_, flatMap}
 use native.Mathlib.Omega.{arith}
 use native.Mathlib.Nat.{add-assoc}
 use lib.ListN.{length, getD}
 use lib.Seq.{getD-append-add}
-use Rattle.script.specs.Commands.{bitOf}
 use Rattle.script.specs.declared.command.Match.{Match}
 use Rattle.script.proofs.Laws.{bit-told}
-use Rattle.records.specs.Records.{recordWidth, numbersOf, listOf, recordsOf, recordAt, matchOf, matchesOf}
+use Rattle.records.specs.Records.{recordWidth, numbersOf, listOf, recordsOf, recordAt, matchesOf}
 use Rattle.records.specs.declared.Record.{Record}
 use Rattle.records.proofs.Scripts.{flat-length}
 

@@ -1,24 +1,22 @@
 -- Records passed without a fault: what they are, and that judging goes on behind them.
 --     says-judged       a record that says a match is judged as the match is
 --     record-says       a record with direction 0 or 1 says the match that they read
---     passed-begun, passed-count, passed-within     the lengths, the numbers taken, the matches' bounds
+--     passed-begun, passed-within     the lengths and the count; the matches' bounds
 --     passed-list       the numbers taken are the records of the matches
 --     judged-here       judging comes to what the next record does
 --     fault-judged, all-judged     behind records passed it comes to the next one's fault, or ends
 -- Assumes nothing.
-use Prim.Native.Nat.{ℕ, zero, suc, _+_, _*_, _/_, _%_, _≤_, _<_}
+use Prim.Native.Nat.{ℕ, _+_, _*_, _%_, _≤_, _<_}
 use mathlib.Core.Path.{_≡_, refl, sym, ap, subst, _∙_}
 use mathlib.Core.Logic.{⊎-elim}
-use mathlib.Core.Bool.{Bool, true, false}
+use mathlib.Core.Bool.{Bool, false}
 use mathlib.Core.List.{List, [], _∷_, _++_, flatMap, append-assoc, append-nil, List·Memᴰ, List·Memᴰ·not-nil}
 use mathlib.Core.List.{List·Memᴰ·append-cases, List·Memᴰ·eq-of-singleton}
 use native.Mathlib.Omega.{arith}
 use native.Mathlib.Decide.{ℕ-discrete}
-use native.Mathlib.Numerals.{add-one}
-use borrow.Author.Tests.{eq-eqb, ne-eqb, lt-ltb, le-ltb}
+use borrow.Author.Tests.{eq-eqb, le-ltb}
 use lib.Dec.{ltb, eqb}
 use lib.ListN.{length, getD, drop, length-append, drop-of-length-le}
-use lib.Seq.{drop-cons}
 use Rattle.script.specs.Commands.{bitOf}
 use Rattle.script.specs.Steps.{matchJudgement}
 use Rattle.script.specs.Outcomes.{Within}
@@ -26,13 +24,13 @@ use Rattle.script.specs.declared.command.Match.{Match}
 use Rattle.script.specs.declared.refusal.Refusal.{Refusal}
 use Rattle.script.specs.declared.step.Judgement.the-variants.{Sound, Faulty}
 use Rattle.script.proofs.Judged.{Weighed, weighed-judgement, Opens, opens-step}
-use Rattle.records.specs.Records.{recordWidth, numbersOf, listOf, recordsOf, noRecord, recordAt, matchOf}
+use Rattle.records.specs.Records.{numbersOf, listOf, recordsOf, noRecord, recordAt, matchOf}
 use Rattle.records.specs.Outcomes.{WayAt, Says, Begun, Passed, begun, passed}
 use Rattle.records.specs.Writing.{recordJudgement, firstFault, judgedFrom, judgementOf}
 use Rattle.records.specs.declared.Record.{Record}
 use Rattle.records.proofs.Bytes.{drop-one, drop-four}
 use Rattle.records.proofs.Scripts.{flat-append}
-use Rattle.records.proofs.Lists.{records-length, fourAt, record-held}
+use Rattle.records.proofs.Lists.{records-length, record-held}
 
 -- ---- one record
 
@@ -86,10 +84,6 @@ module _ {p q : ℕ} {ns : List ℕ} where
   pub passed-begun : {ms : List Match} → Passed p q ns ms → Begun p q ns
   passed-begun (begun b) = b
   passed-begun (passed r _ _) = passed-begun r
-
-  pub passed-count : {ms : List Match} → Passed p q ns ms → 4 * length ms ≤ length ns
-  passed-count (begun b) = omega arith
-  passed-count (passed {ms} {m} r s _) = omega (arith, length-append ms (m ∷ []), s .whole)
 
   pub passed-within : {ms : List Match} → Passed p q ns ms → (m : Match) → List·Memᴰ m ms → Within p q m
   passed-within (begun b) m i = absurd (List·Memᴰ·not-nil i)

@@ -6,20 +6,18 @@
 --     written-admitted  what is written is read
 --     admitted-written  what is read is written, byte for byte
 -- The first goes up the matches with `Reach`, the second down it. Assumes nothing.
-use Prim.Native.Nat.{ℕ, suc, _+_, _*_, _^_, _≤_, _<_}
-use mathlib.Core.Path.{_≡_, refl, sym, ap, subst, _∙_}
+use Prim.Native.Nat.{ℕ, _+_, _*_, _≤_}
+use mathlib.Core.Path.{_≡_, refl, sym, ap, _∙_}
 use mathlib.Core.Bool.{Bool, true, false}
 use mathlib.Core.List.{List, [], _∷_, _++_, flatMap, append-assoc, append-nil, List·Memᴰ}
 use mathlib.Core.List.{List·Memᴰ·head as here, List·Memᴰ·tail as there}
 use native.Mathlib.Omega.{arith}
 use lib.ListN.{length, getD, drop, length-append, drop-of-length-le}
-use lib.Seq.{getD-append-add, getD-append-seam}
+use lib.Seq.{getD-append-seam}
 use Rattle.script.specs.Commands.{numberAt}
-use Rattle.script.specs.Reading.{admitted, readScript}
 use Rattle.script.specs.Answers.{value, contents}
 use Rattle.script.specs.Outcomes.{Byte, MatchByte, MatchAt, LengthsAt, InRange, Within, Reach, opened, taken, Outcome}
 use Rattle.script.specs.declared.command.Match.{Match}
-use Rattle.script.proofs.Outcome.{reach-place, reach-inside, read-outcome}
 use Rattle.records.specs.Bytes.{numberBytes, lengthsBytes, codeOf, matchBytes, bytesOf}
 use Rattle.records.proofs.Bytes.{Bytes, number-append, number-back, drop-one, drop-number}
 

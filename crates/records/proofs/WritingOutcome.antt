@@ -6,7 +6,7 @@
 --     writing-alone     any outcome that applies is the computed reply
 -- Assumes nothing.
 use Prim.Native.Nat.{ℕ, zero, suc, _+_, _*_, _/_, _%_, _≤_, _<_}
-use mathlib.Core.Path.{_≡_, refl, sym, ap, subst, _∙_}
+use mathlib.Core.Path.{_≡_, _∙_}
 use mathlib.Core.List.{List, [], _∷_, _++_}
 use native.Mathlib.Omega.{arith}
 use native.Mathlib.Decide.{decLe, ℕ-discrete}
@@ -15,7 +15,6 @@ use borrow.Author.Tests.{eq-eqb, ne-eqb, lt-ltb, le-ltb}
 use lib.ListN.{length, getD, drop, length-append, drop-of-length-le}
 use Rattle.script.specs.Refusals.{numberOf, placeOf}
 use Rattle.script.specs.Answers.{Answer, refusal}
-use Rattle.script.specs.Steps.{matchJudgement, lengthsStep}
 use Rattle.script.specs.Outcomes.{InRange}
 use Rattle.script.specs.declared.command.Match.{Match}
 use Rattle.script.specs.declared.refusal.Refusal.{Refusal}
@@ -24,16 +23,15 @@ use Rattle.script.specs.declared.step.Opening.{Opening}
 use Rattle.script.specs.declared.step.Judgement.{Judgement}
 use Rattle.script.specs.declared.step.Judgement.the-variants.{Sound, Faulty}
 use Rattle.script.proofs.Judged.{Weighed, weighed, weighed-judgement, Opens, opens, opens-step}
-use Rattle.records.specs.Records.{recordsOf, recordAt, matchOf, listOf, matchesOf}
+use Rattle.records.specs.Records.{recordsOf, recordAt, matchOf, matchesOf}
 use Rattle.records.specs.Bytes.{bytesOf}
 use Rattle.records.specs.Outcomes.{Says, Begun, Passed, begun, passed, Malformed, WritingOutcome}
 use Rattle.records.specs.Writing.{recordJudgement, firstFault, judgedFrom, listJudgement, afterLengths, judgementOf}
 use Rattle.records.specs.Writing.{writingOfJudgement, writingOf}
 use Rattle.records.specs.Demands.{writtenAnswer}
-use Rattle.records.specs.declared.Record.{Record}
 use Rattle.records.proofs.Scripts.{bytes-length}
 use Rattle.records.proofs.Lists.{records-length, record-held, list-back}
-use Rattle.records.proofs.Passed.{says-judged, record-says, judged-here, passed-begun, passed-count, passed-list}
+use Rattle.records.proofs.Passed.{says-judged, record-says, judged-here, passed-begun, passed-list}
 use Rattle.records.proofs.Passed.{fault-judged, all-judged}
 
 -- ---- the judgement

@@ -1,7 +1,6 @@
 -- `judge_each` meets its contract. The loop keeps `Onward`: the records passed have no fault, and judging goes on behind
 -- them. The measure is what is left of them. Assumes nothing.
 use Prim.Native.Nat.{_-_}
-use native.Mathlib.Omega.{arith}
 use borrow.Author.Needs.{needs}
 use Rattle.judging_records.proofs.Each.{Onward, onward-start, onward-next, onward-ends, fault-found}
 use Rattle.judging_records.proofs.judge_each.Statement.{statement}
