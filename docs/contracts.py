@@ -2,8 +2,9 @@
 """Holds the sources to 01's clause b: every public call states something of what it returns.
 
 Each function with a body in crates/*/src that is `pub`, or `extern "C"`, must have an `ensures`; if it returns a value,
-one that speaks of that value. The calls that 01 and 02 name, and each function for C in crates/capi, must take every input:
-they have no `requires`. The last line is 'contracts: N functions, 0 missing', and the exit status 0, only if all do.
+one that speaks of that value. The calls that 01 and 02 name, and each function for C in crates/capi, must take every
+input: they have no `requires`. The last line is 'contracts: N functions, 0 missing', and the exit status 0, only if all
+do.
 """
 
 import re

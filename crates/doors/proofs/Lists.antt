@@ -54,9 +54,10 @@ record WrittenBack (s : List ℕ) (p q : ℕ) (ns lent : List ℕ) (place was : 
   told : writeDoor p q ns lent place was ≡ record { number = 0; place = place; given = length s }
   held : writingOf p q ns lent .script ≡ s ++ drop (length s) lent
 
-read-then-write : (s : List ℕ) → Bytes s → (out : List ℕ) (place : ℕ) (was : Read) → let there = recordsDoor s out place was in
-    there .number ≡ 0 → (lent : List ℕ) (place′ was′ : ℕ) → length s ≤ length lent → let given = there .given in
-    WrittenBack s (given .p) (given .q) (take (4 * given .count) (listingOf s out .records)) lent place′ was′
+read-then-write : (s : List ℕ) → Bytes s → (out : List ℕ) (place : ℕ) (was : Read)
+    → let there = recordsDoor s out place was in let given = there .given in
+    there .number ≡ 0 → (lent : List ℕ) (place′ was′ : ℕ) → length s ≤ length lent
+    → WrittenBack s (given .p) (given .q) (take (4 * given .count) (listingOf s out .records)) lent place′ was′
 read-then-write s bytes out place was z lent place′ was′ room = go (listingOf s out .reply) refl z
   where
     go : (a : Listed) → listingOf s out .reply ≡ a → let there = door (ofListed a) place was in there .number ≡ 0

@@ -66,7 +66,8 @@ module _ (s : List ℕ) {count : ℕ} (counted : count ≡ length (matchesRead (
 
   module _ (before : List ℕ) where
     pub listing-start : Listing s count before before 0
-    listing-start = record { inside = omega arith; laid = laid-start numbersOf 0 (matchesRead (readScript s)) before refl }
+    listing-start =
+        record { inside = omega arith; laid = laid-start numbersOf 0 (matchesRead (readScript s)) before refl }
 
     module _ {out : List ℕ} {k : ℕ} (h : Listing s count before out k) where
       pub listing-next : {out′ : List ℕ} → k < count
@@ -103,7 +104,8 @@ module _ (s : List ℕ) (bytes : Bytes s) (out : List ℕ) where
       (is, (is′, listing-demand s bytes out is is′))
 
   admitted-listed : {p q : ℕ} {ms : List Match} {out′ : List ℕ} → readScript s ≡ admitted p q ms
-      → recordWidth * length ms ≤ length out → Stored out 0 (listOf ms) out′ → Contract (Listed.Records p q (length ms)) out′
+      → recordWidth * length ms ≤ length out → Stored out 0 (listOf ms) out′
+      → Contract (Listed.Records p q (length ms)) out′
   admitted-listed {ms = ms} e room stored =
       let long = list-length ms in
       contract (rw (e, le-ltb (length out) (recordWidth * length ms) room, ← long, stored-front stored (omega arith)))

@@ -41,10 +41,11 @@ module _ {X : Type 0} (l : List X) (blank : X) where
 
 -- ---- a number's bytes
 
--- the two bytes' places further are two times one byte's
+-- what stands above the second byte and above the third, a byte at a time
 further : (n : ℕ) → (n / 65536 ≡ n / 256 / 256) × (n / 16777216 ≡ n / 256 / 256 / 256)
 further n =
-    (sym (div-div-eq-div-mul n 256 256), sym (div-div-eq-div-mul n 65536 256) ∙ ap (λ (k : ℕ). k / 256) (sym (div-div-eq-div-mul n 256 256)))
+    let two = sym (div-div-eq-div-mul n 256 256) in
+    (two, sym (div-div-eq-div-mul n 65536 256) ∙ ap (λ (k : ℕ). k / 256) two)
 
 -- a byte and what stands above it
 low : (n : ℕ) → n % 256 + 256 * (n / 256) ≡ n
@@ -76,4 +77,5 @@ pub drop-number : (s : List ℕ) → Bytes s → (at : ℕ) → at + 4 ≤ lengt
     → drop at s ≡ numberBytes (numberAt s at) ++ drop (at + 4) s
 drop-number s bytes at h =
     drop-four s 0 at h
-    ∙ ap (λ l. l ++ drop (at + 4) s) (sym (bytes-back _ _ _ _ (bytes at) (bytes (at + 1)) (bytes (at + 2)) (bytes (at + 3))))
+    ∙ ap (λ l. l ++ drop (at + 4) s)
+    (sym (bytes-back _ _ _ _ (bytes at) (bytes (at + 1)) (bytes (at + 2)) (bytes (at + 3))))

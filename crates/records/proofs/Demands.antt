@@ -1,8 +1,8 @@
 -- The two calls as `writingOf` and `listingOf` define them meet their demands.
 --     writing-demand      of any reply and buffer that equal `writingOf`'s
 --     listing-demand      likewise of `listingOf`, for a string of bytes
--- Each undoes the other: what is written is admitted and holds the matches of the records (`written-admitted`), and what
--- is read is written from these matches (`admitted-written`). Assumes nothing.
+-- Each undoes the other: what is written is admitted and holds the matches of the records (`written-admitted`), and
+-- what is read is written from these matches (`admitted-written`). Assumes nothing.
 use Prim.Native.Nat.{ℕ, _+_, _*_, _%_, _≤_}
 use mathlib.Core.Path.{_≡_, refl, sym, ap, _∙_}
 use mathlib.Core.Bool.{Bool, true, false}
@@ -27,7 +27,8 @@ use Rattle.script.specs.declared.refusal.Refusal.{Refusal}
 use Rattle.script.specs.declared.refusal.Refusal.the-variants.{BufferTooShort}
 use Rattle.script.specs.declared.step.Judgement.{Judgement}
 use Rattle.script.specs.declared.step.Judgement.the-variants.{Sound}
-use Rattle.script.proofs.Outcome.{reach-place, reach-range, reach-within, read-outcome, outcome-admitted, outcome-refused}
+use Rattle.script.proofs.Outcome.{reach-place, reach-range, reach-within}
+use Rattle.script.proofs.Outcome.{read-outcome, outcome-admitted, outcome-refused}
 use Rattle.script.proofs.Admitted.{admitted-ended}
 use Rattle.script.proofs.Judged.{Weighed, weighed-judgement, Opens, opens-step}
 use Rattle.records.specs.Records.{numbersOf, listOf, recordsOf, matchesOf}
@@ -141,7 +142,8 @@ says-at : (before behind : List ℕ) (m : Match) {n : ℕ} → length before ≡
     → Says (before ++ (numbersOf m ++ behind)) n m
 says-at before behind m {n} e =
     let ns = numbersOf m ++ behind in
-    let at : (i : ℕ) → getD (before ++ ns) (4 * n + i) 0 ≡ getD ns i 0 = λ i. rw (← e) (getD-append-add before ns i 0) in
+    let at : (i : ℕ) → getD (before ++ ns) (4 * n + i) 0 ≡ getD ns i 0 =
+    λ i. rw (← e) (getD-append-add before ns i 0) in
     record {
       whole = omega (arith, length-append before ns, length-append (numbersOf m) behind);
       left-a = rw (← e) (getD-append-seam before (m .«left_a») _ 0);

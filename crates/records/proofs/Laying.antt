@@ -1,4 +1,4 @@
--- Matches laid into a buffer one behind the other, each as a block of elements: bytes of a script, or numbers of a list.
+-- Matches laid into a buffer one behind the other, each as a block: bytes of a script, or numbers of a list.
 --     four-stores     four elements, stored one by one
 --     stored-behind   what is stored behind other values
 --     stored-front    a list that is stored at the buffer's start and fits

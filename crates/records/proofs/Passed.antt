@@ -52,7 +52,8 @@ pub says-judged : (p q number : ℕ) {ns : List ℕ} {n : ℕ} {m : Match} → S
 says-judged p q number {ns} {n} {m} s =
     let held = record-held ns n (s .whole) in
     let good : ltb 1 (recordAt (recordsOf ns) n .direction) ≡ false = rw held (way-good (s .way)) in
-    let is : matchOf (recordAt (recordsOf ns) n) ≡ m = rw (held, s .left-a, s .left-b, s .letters, way-match (s .way)) in
+    let is : matchOf (recordAt (recordsOf ns) n) ≡ m =
+    rw (held, s .left-a, s .left-b, s .letters, way-match (s .way)) in
     rw good (ap (matchJudgement p q number) is)
 
 way-at : (ns : List ℕ) (at : ℕ) → getD ns at 0 ≤ 1 → WayAt ns at (eqb (getD ns at 0) 1)

@@ -82,7 +82,8 @@ Split p q s before after =
     s ≡ (lengthsBytes p q ++ flatMap matchBytes before) ++ (flatMap matchBytes after ++ 0x45 ∷ [])
 
 module _ (s : List ℕ) {p q : ℕ} (a : InRange p) (b : InRange q) where
-  passed-length : (before : List Match) → length (lengthsBytes p q ++ flatMap matchBytes before) ≡ 9 + 13 * length before
+  passed-length : (before : List Match)
+      → length (lengthsBytes p q ++ flatMap matchBytes before) ≡ 9 + 13 * length before
   passed-length before =
       omega (
         arith,

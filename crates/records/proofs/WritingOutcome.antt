@@ -26,8 +26,8 @@ use Rattle.script.proofs.Judged.{Weighed, weighed, weighed-judgement, Opens, op
 use Rattle.records.specs.Records.{recordsOf, recordAt, matchOf, matchesOf}
 use Rattle.records.specs.Bytes.{bytesOf}
 use Rattle.records.specs.Outcomes.{Says, Begun, Passed, begun, passed, Malformed, WritingOutcome}
-use Rattle.records.specs.Writing.{recordJudgement, firstFault, judgedFrom, listJudgement, afterLengths, judgementOf}
-use Rattle.records.specs.Writing.{writingOfJudgement, writingOf}
+use Rattle.records.specs.Writing.{recordJudgement, firstFault, judgedFrom, listJudgement, afterLengths}
+use Rattle.records.specs.Writing.{judgementOf, writingOfJudgement, writingOf}
 use Rattle.records.specs.Demands.{writtenAnswer}
 use Rattle.records.proofs.Scripts.{bytes-length}
 use Rattle.records.proofs.Lists.{records-length, record-held, list-back}
@@ -94,7 +94,13 @@ module _ (p q : ℕ) (ns : List ℕ) where
         | yes e ↦ let whole : length ns ≡ 4 * (length ns / 4) = omega arith in
             rw (eq-eqb (length ns % 4) 0 e) (elim (decLe (length ns) 8192) [
               | yes few ↦ rw (le-ltb 8192 (length ns) few)
-                  (begun-judging (record { p-range = a; q-range = b; count = length ns / 4; whole = whole; few = omega arith }))
+                  (begun-judging (record {
+                    p-range = a;
+                    q-range = b;
+                    count = length ns / 4;
+                    whole = whole;
+                    few = omega arith;
+                  }))
               | no many ↦ let more = lt-of-not-le many in
                   rw (lt-ltb 8192 (length ns) more)
                   (faulty (λ _. WritingOutcome.too-many-matches a b whole (omega (arith, more))))
@@ -147,7 +153,8 @@ module _ (p q : ℕ) (ns : List ℕ) where
     malformed-alone : {place : ℕ} → Malformed p q ns place
         → refusal 15 place ≡ writtenAnswer (writingOf p q ns out .reply)
     malformed-alone (Malformed.broken-off a b n) =
-        refused-alone (MalformedRecords 0) (opened-judged a b ∙ rw (ne-eqb (length ns % 4) 0 (λ e. n (length ns / 4) (omega arith))))
+        refused-alone (MalformedRecords 0)
+        (opened-judged a b ∙ rw (ne-eqb (length ns % 4) 0 (λ e. n (length ns / 4) (omega arith))))
     malformed-alone (Malformed.no-direction {ms} r h over) =
         refused-alone (MalformedRecords (length ms + 1))
         (fault-judged r h (rw (record-held ns (length ms) h, lt-ltb 1 (getD ns (4 * length ms + 3) 0) over)))
@@ -160,7 +167,8 @@ module _ (p q : ℕ) (ns : List ℕ) where
 
     pub writing-alone : {a : Answer ℕ} → WritingOutcome p q ns (length out) a
         → a ≡ writtenAnswer (writingOf p q ns out .reply)
-    writing-alone (WritingOutcome.length-out-of-range n) = refused-alone LengthOutOfRange (rw (opens-step (Opens.out-of-range n)))
+    writing-alone (WritingOutcome.length-out-of-range n) =
+        refused-alone LengthOutOfRange (rw (opens-step (Opens.out-of-range n)))
     writing-alone (WritingOutcome.malformed-records x) = malformed-alone x
     writing-alone (WritingOutcome.too-many-matches a b whole many) =
         refused-alone (TooManyMatches 0) (opened-judged a b

@@ -16,7 +16,7 @@ pub record Listing : Type 0 where
   pub reply : Listed
   pub records : List ℕ
 
--- the script's own refusals, then 16; records that fit stand at the buffer's start, and the numbers behind them are kept
+-- the script's own refusals, then 16; records that fit stand at the buffer's start, and the numbers behind are kept
 abbrev pub listingOfReading : Reading → List ℕ → Listing
 listingOfReading (refused f) out = record { reply = Listed.Refused f; records = out }
 listingOfReading (admitted p q ms) out =

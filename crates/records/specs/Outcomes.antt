@@ -1,6 +1,6 @@
--- What may come of writing a list and of reading one, by its condition: a case for each refusal, with its number and its
--- place, and one for success. All numbers are those of 01 and 02, written out: a slip made in a definition and in the
--- code together is refused here. `proofs/WritingOutcome` and `proofs/Demands` show that exactly one case applies.
+-- What may come of writing a list and of reading one, by its condition: a case for each refusal, with its number and
+-- its place, and one for success. All numbers are those of 01 and 02, written out: a slip made in a definition and in
+-- the code together is refused here. `proofs/WritingOutcome` and `proofs/Demands` show that exactly one case applies.
 -- TO READ beside SCOPE, "Lists" and "Refusals" (02, #101).
 --     Says ns n m          the record behind n others says the match m
 --     Passed p q ns ms     the first records say the matches ms, and have no fault

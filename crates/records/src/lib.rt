@@ -1,5 +1,5 @@
-// Lists of matches, a record of four numbers for each: how a list is written as a script, and a script as a list. specs/
-// has it, proofs/ the laws of it. There is no function here: the calls are `writer`'s and `record_reader`'s.
+// Lists of matches, a record of four numbers for each: how a list is written as a script, and a script as a list.
+// specs/ has it, proofs/ the laws of it. There is no function here: the calls are `writer`'s and `record_reader`'s.
 use script::Refusal;
 
 // The numbers of a record; specs/Records.antt has it for the definitions.

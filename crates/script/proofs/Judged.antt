@@ -1,5 +1,5 @@
--- What a command with its operands comes to, from the computed step and back: views of `matchJudgement`, `matchStep` and
--- `lengthsStep` by their cases.
+-- What a command with its operands comes to, from the computed step and back: views of `matchJudgement`, `matchStep`
+-- and `lengthsStep` by their cases.
 --     Weighed p q place m j       the match m comes to the judgement j, in the words of specs/Outcomes
 --     weighed, weighed-judgement  the computed judgement is weighed so, and what is weighed so is the computed one
 --     Judged p q count at m t     the match m comes to the step t

@@ -39,7 +39,8 @@ use Rattle.script.specs.declared.command.Command.the-variants.{Lengths}
 use Rattle.script.specs.declared.step.Step.{Step}
 use Rattle.script.specs.declared.step.Opening.{Opening}
 use Rattle.script.proofs.Seen.{Seen, whole-match, seen, seen-command}
-use Rattle.script.proofs.Judged.{Weighed, Judged, judged, judged-step, short-room, short-full, Opens, opens, opens-step}
+use Rattle.script.proofs.Judged.{Weighed, Judged, judged, judged-step, short-room, short-full}
+use Rattle.script.proofs.Judged.{Opens, opens, opens-step}
 
 length-snoc : (ms : List Match) (m : Match) → length (ms ++ m ∷ []) ≡ length ms + 1
 length-snoc ms m = length-append ms (m ∷ [])

@@ -30,8 +30,8 @@ numberOf (MalformedRecords at) = 15
 numberOf BufferTooShort = 16
 
 -- SCOPE, "Place": up to 9 where the command stands, or the end of the bytes if they ran out where one was due; for 10
--- the first byte too many; from 11 on 0. 1 and 5 are met at the first command only, which stands at 0. SCOPE, "Place of a
--- record": what is found at a record of a list, 15 among it, has the record's number.
+-- the first byte too many; from 11 on 0. 1 and 5 are met at the first command only, which stands at 0.
+-- SCOPE, "Place of a record": what is found at a record of a list, 15 among it, has the record's number.
 abbrev pub placeOf : Refusal → ℕ
 placeOf Headless = 0
 placeOf (UnknownCommand at) = at

@@ -1,4 +1,5 @@
-// The refusals: one variant for each row of 01's table and of the requests after it, holding its place where that varies.
+// The refusals: one variant for each row of 01's table and of the requests after it, holding its place where that
+// varies.
 pub enum Refusal {
     Headless,
     UnknownCommand(usize),

@@ -70,7 +70,8 @@ module _ (ns : List ℕ) {count : ℕ} (counted : count ≡ length (recordsOf ns
         }
 
     pub putting-ends : count ≤ k → Stored before lengthsWidth (flatMap matchBytes (matchesOf ns)) out
-    putting-ends all = laid-ends matchBytes lengthsWidth (matchesOf ns) before (h .laid) (omega (arith, matches-counted))
+    putting-ends all =
+        laid-ends matchBytes lengthsWidth (matchesOf ns) before (h .laid) (omega (arith, matches-counted))
 
   -- ---- the whole script
 
@@ -111,7 +112,10 @@ module _ (p q : ℕ) (ns out : List ℕ) where
       pub short-written : length out < lengthsWidth + matchWidth * count + 1
           → Contract (Written.Refused BufferTooShort) out
       short-written short =
-          contract (rw (sym judged ∙ is, lt-ltb (length out) (length (bytesOf p q (matchesOf ns))) (omega (arith, script-long))))
+          contract (rw (
+            sym judged ∙ is,
+            lt-ltb (length out) (length (bytesOf p q (matchesOf ns))) (omega (arith, script-long)),
+          ))
 
       pub whole-written : {out′ : List ℕ} → lengthsWidth + matchWidth * count + 1 ≤ length out
           → Stored out 0 (bytesOf p q (matchesOf ns)) out′

@@ -1,5 +1,5 @@
--- `judge_each` meets its contract. The loop keeps `Onward`: the records passed have no fault, and judging goes on behind
--- them. The measure is what is left of them. Assumes nothing.
+-- `judge_each` meets its contract. The loop keeps `Onward`: the records passed have no fault, and judging goes on
+-- behind them. The measure is what is left of them. Assumes nothing.
 use Prim.Native.Nat.{_-_}
 use borrow.Author.Needs.{needs}
 use Rattle.judging_records.proofs.Each.{Onward, onward-start, onward-next, onward-ends, fault-found}

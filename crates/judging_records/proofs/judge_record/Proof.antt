@@ -1,4 +1,5 @@
--- `judge_record` meets its contract: the test is the definition's, and a match is judged by its numbers. Assumes nothing.
+-- `judge_record` meets its contract: the test is the definition's, and a match is judged by its numbers. Assumes
+-- nothing.
 use mathlib.Core.Path.{ap, _∙_}
 use borrow.Author.Tests.{le-ltb}
 use borrow.Author.Needs.{needs}
@@ -19,7 +20,8 @@ judge-numbers-requires c κs = search needs
 returns-2 : tie.Need-returns-2
 returns-2 c =
     let passed : tie.Else1 = search in
-    rw (le-ltb 1 _ (passed .if1 .left)) (c .judge-numbers .ensures ∙ ap (matchJudgement _ _ _) (c .before .match-of .ensures))
+    rw (le-ltb 1 _ (passed .if1 .left))
+    (c .judge-numbers .ensures ∙ ap (matchJudgement _ _ _) (c .before .match-of .ensures))
 
 pub judge-record-spec : {M : Type 1} → statement M
 judge-record-spec = tie.close (tie.spec returns match-of-requires judge-numbers-requires returns-2)

@@ -1,5 +1,5 @@
--- `put_records` meets its contract. The loop keeps `Listing`: the records stored, and those still to come, make the buffer
--- that is wanted. The measure is what is left of the commands. Assumes nothing.
+-- `put_records` meets its contract. The loop keeps `Listing`: the records stored, and those still to come, make the
+-- buffer that is wanted. The measure is what is left of the commands. Assumes nothing.
 use Prim.Native.Nat.{_-_}
 use borrow.Author.Needs.{needs}
 use Rattle.record_reader.proofs.Listed.{Listing, listing-start, listing-next, listing-ends, command-inside}

@@ -1,5 +1,5 @@
--- `put_matches` meets its contract. The loop keeps `Putting`: the commands stored, and those still to come, make the buffer
--- that is wanted. The measure is what is left of the records. Assumes nothing.
+-- `put_matches` meets its contract. The loop keeps `Putting`: the commands stored, and those still to come, make the
+-- buffer that is wanted. The measure is what is left of the records. Assumes nothing.
 use Prim.Native.Nat.{_-_}
 use borrow.Author.Needs.{needs}
 use Rattle.writer.proofs.Stored.{Putting, record-inside, putting-start, putting-next, putting-ends}

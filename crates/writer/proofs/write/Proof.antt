@@ -1,5 +1,5 @@
--- `write` meets its contract: a fault of the list, a buffer that is too short, or the whole script. The demand follows from
--- the equations. Assumes nothing.
+-- `write` meets its contract: a fault of the list, a buffer that is too short, or the whole script. The demand follows
+-- from the equations. Assumes nothing.
 use mathlib.Core.Path.{refl, sym}
 use Rattle.records.proofs.Lists.{records-length}
 use Rattle.writer.proofs.Stored.{faulty-written, short-written, whole-written}
