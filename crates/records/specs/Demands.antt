@@ -23,6 +23,7 @@ use Rattle.records.specs.declared.Listed.{Listed}
 
 -- ---- writing
 
+-- SCOPE, "Enums": the script's length, or the refusal
 abbrev pub writtenAnswer : Written → Answer ℕ
 writtenAnswer (Written.Bytes n) = value n
 writtenAnswer (Written.Refused f) = refusal (numberOf f) (placeOf f)
@@ -55,6 +56,7 @@ pub record WritingDemand (p q : ℕ) (ns out out′ : List ℕ) (answer : Answer
 
 -- ---- reading into a list
 
+-- SCOPE, "Enums": the lengths and the count, or the refusal
 abbrev pub listedAnswer : Listed → Answer Counted
 listedAnswer (Listed.Records p q count) = value (counted p q count)
 listedAnswer (Listed.Refused f) = refusal (numberOf f) (placeOf f)

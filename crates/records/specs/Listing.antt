@@ -25,5 +25,6 @@ listingOfReading (admitted p q ms) out =
     let whole : Listing = record { reply = Listed.Records p q (length ms); records = over } in
     cond (ltb (length out) (recordWidth * length ms)) short whole
 
+-- SCOPE, "Listed": of any string of bytes
 abbrev pub listingOf : List ℕ → List ℕ → Listing
 listingOf script out = listingOfReading (readScript script) out

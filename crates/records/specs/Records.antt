@@ -15,6 +15,7 @@ use Rattle.script.specs.Commands.{bitOf}
 use Rattle.script.specs.declared.command.Match.{Match}
 use Rattle.records.specs.declared.Record.{Record}
 
+-- SCOPE, "Records": four numbers
 abbrev pub recordWidth : ℕ
 recordWidth = 4
 
@@ -22,10 +23,12 @@ recordWidth = 4
 abbrev pub numbersOf : Match → List ℕ
 numbersOf m = m .«left_a» ∷ m .«left_b» ∷ m .length ∷ bitOf (m .reversed) ∷ []
 
+-- SCOPE, "Records": one behind the other, in the order of the matches
 abbrev pub listOf : List Match → List ℕ
 listOf ms = flatMap numbersOf ms
 
--- the same numbers; those at the end that form no record are left out, and a list that has some is refused
+-- the other way, from numbers to records; numbers at the end that form no record are left out, and a list that has
+-- some is refused
 unfoldable pub recordsOf : List ℕ → List Record
 recordsOf [] = []
 recordsOf (a ∷ []) = []
@@ -38,6 +41,7 @@ recordsOf (a ∷ b ∷ d ∷ way ∷ ns) =
 abbrev pub noRecord : Record
 noRecord = record { «left_a» = 0; «left_b» = 0; length = 0; direction = 0 }
 
+-- counted from 0
 abbrev pub recordAt : List Record → ℕ → Record
 recordAt rs k = getD rs k noRecord
 
@@ -51,5 +55,6 @@ matchOf r =
       reversed = eqb (r .direction) 1;
     }
 
+-- the matches that a list says, in its order
 abbrev pub matchesOf : List ℕ → List Match
 matchesOf ns = map matchOf (recordsOf ns)

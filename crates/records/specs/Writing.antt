@@ -33,7 +33,7 @@ abbrev pub firstFault : Judgement → Judgement → Judgement
 firstFault Sound later = later
 firstFault (Faulty f) later = Faulty f
 
--- record by record
+-- SCOPE, "Place of a record": each has the next number
 unfoldable pub judgedFrom : ℕ → ℕ → ℕ → List Record → Judgement
 judgedFrom p q number [] = Sound
 judgedFrom p q number (r ∷ rs) = firstFault (recordJudgement p q number r) (judgedFrom p q (number + 1) rs)
@@ -60,7 +60,8 @@ pub record Writing : Type 0 where
   pub reply : Written
   pub script : List ℕ
 
--- 16 last of all; a script that fits stands at the buffer's start, and the bytes behind it are kept
+-- 16 last of all. SCOPE, "Written" and "Kept on success": a script that fits stands at the buffer's start, and the
+-- bytes behind it are kept
 abbrev pub writingOfBytes : List ℕ → List ℕ → Writing
 writingOfBytes bytes out =
     let short : Writing = record { reply = Written.Refused BufferTooShort; script = out } in
@@ -68,10 +69,11 @@ writingOfBytes bytes out =
     let whole : Writing = record { reply = Written.Bytes (length bytes); script = over } in
     cond (ltb (length out) (length bytes)) short whole
 
--- a list with a fault leaves the buffer as it was
+-- SCOPE, "Kept when refused": a list with a fault leaves the buffer as it was
 abbrev pub writingOfJudgement : Judgement → List ℕ → List ℕ → Writing
 writingOfJudgement (Faulty f) bytes out = record { reply = Written.Refused f; script = out }
 writingOfJudgement Sound bytes out = writingOfBytes bytes out
 
+-- SCOPE, "Written": the script of the list's matches
 abbrev pub writingOf : ℕ → ℕ → List ℕ → List ℕ → Writing
 writingOf p q ns out = writingOfJudgement (judgementOf p q ns) (bytesOf p q (matchesOf ns)) out
