@@ -29,7 +29,7 @@ pub fn record_at(records: &[u32], k: usize) -> Record
 }
 
 // The match that a record says.
-pub fn match_of(item: Record) -> Match
+fn match_of(item: Record) -> Match
     ensures { λ r. ⌜ r ≡ matchOf item ⌝ }
 {
     Match {

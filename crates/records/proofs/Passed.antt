@@ -2,6 +2,7 @@
 --     says-judged       a record that says a match is judged as the match is
 --     record-says       a record with direction 0 or 1 says the match that they read
 --     passed-begun, passed-within     the lengths and the count; the matches' bounds
+--     passed-says, says-few     each says its match, and so has direction 0 or 1
 --     passed-list       the numbers taken are the records of the matches
 --     judged-here       judging comes to what the next record does
 --     fault-judged, all-judged     behind records passed it comes to the next one's fault, or ends
@@ -13,8 +14,8 @@ use mathlib.Core.Bool.{Bool, false}
 use mathlib.Core.List.{List, [], _∷_, _++_, flatMap, append-assoc, append-nil, List·Memᴰ, List·Memᴰ·not-nil}
 use mathlib.Core.List.{List·Memᴰ·append-cases, List·Memᴰ·eq-of-singleton}
 use native.Mathlib.Omega.{arith}
-use native.Mathlib.Decide.{ℕ-discrete}
-use borrow.Author.Tests.{eq-eqb, le-ltb}
+use native.Mathlib.Decide.{ℕ-discrete, decLt}
+use borrow.Author.Tests.{ltb-false, eq-eqb, le-ltb}
 use lib.Dec.{ltb, eqb}
 use lib.ListN.{length, getD, drop, length-append, drop-of-length-le}
 use Rattle.script.specs.Commands.{bitOf}
@@ -45,6 +46,10 @@ way-match (WayAt.backward e) = rw e
 way-good : {ns : List ℕ} {at : ℕ} {way : Bool} → WayAt ns at way → ltb 1 (getD ns at 0) ≡ false
 way-good (WayAt.direct e) = rw e
 way-good (WayAt.backward e) = rw e
+
+-- a record that says a match has direction 0 or 1
+pub says-few : {ns : List ℕ} {n : ℕ} {m : Match} → Says ns n m → recordAt (recordsOf ns) n .direction ≤ 1
+says-few {ns} {n} s = rw (record-held ns n (s .whole)) (ltb-false 1 _ (way-good (s .way)))
 
 -- a record that says a match is judged as the match is
 pub says-judged : (p q number : ℕ) {ns : List ℕ} {n : ℕ} {m : Match} → Says ns n m
@@ -91,6 +96,15 @@ module _ {p q : ℕ} {ns : List ℕ} where
   passed-within (passed {ms} r _ w) m i =
       ⊎-elim (λ j. passed-within r m j) (λ j. subst (Within p q) (sym (List·Memᴰ·eq-of-singleton j)) w)
       (List·Memᴰ·append-cases ms i)
+
+  -- each of them says its match
+  pub passed-says : {ms : List Match} → Passed p q ns ms → (k : ℕ) → k < length ms → (m : Match) × Says ns k m
+  passed-says (begun b) k h = absurd (omega arith)
+  passed-says (passed {ms} {m} r s _) k h =
+      elim (decLt k (length ms)) [
+        | yes below ↦ passed-says r k below
+        | no n ↦ let last : length ms ≡ k = omega (arith, length-append ms (m ∷ [])) in (m, rw last at s)
+      ]
 
   passed-front : {ms : List Match} → Passed p q ns ms → ns ≡ listOf ms ++ drop (4 * length ms) ns
   unfolding flatMap

@@ -2,6 +2,7 @@
 -- directions, so that exactly one case applies.
 --     Judging           the first fault of a list, or its matches, in the words of specs/Outcomes
 --     judging           the computed judgement is of this kind
+--     sound-directed    without a fault each direction is 0 or 1
 --     writing-stated    the computed reply is an outcome that applies
 --     writing-alone     any outcome that applies is the computed reply
 -- Assumes nothing.
@@ -32,7 +33,7 @@ use Rattle.records.specs.Demands.{writtenAnswer}
 use Rattle.records.proofs.Scripts.{bytes-length}
 use Rattle.records.proofs.Lists.{records-length, record-held, list-back}
 use Rattle.records.proofs.Passed.{says-judged, record-says, judged-here, passed-begun, passed-list}
-use Rattle.records.proofs.Passed.{fault-judged, all-judged}
+use Rattle.records.proofs.Passed.{says-few, passed-says, fault-judged, all-judged}
 
 -- ---- the judgement
 
@@ -113,6 +114,15 @@ module _ (p q : ℕ) (ns : List ℕ) where
 
   pub judging : Judging (judgementOf p q ns)
   judging = lengths-judging (opens p q)
+
+  -- of a list without a fault each record has direction 0 or 1
+  pub sound-directed : judgementOf p q ns ≡ Sound → (k : ℕ) → k < length (recordsOf ns)
+      → recordAt (recordsOf ns) k .direction ≤ 1
+  sound-directed is k h = go judging is
+    where
+      go : {j : Judgement} → Judging j → j ≡ Sound → recordAt (recordsOf ns) k .direction ≤ 1
+      go (faulty o) e = let z : _≡_ {A = ℕ} 0 1 = cc in absurd (omega arith)
+      go (sound r e) _ = says-few (passed-says r k (omega (arith, records-length ns)) .1)
 
   -- ---- the computed reply is an outcome that applies
 

@@ -1,18 +1,20 @@
 -- What the writer's stores make of the buffer.
+--     code-reckoned     the command byte of a match, from its direction
 --     match-stored, lengths-stored     a command byte and the numbers behind it are the command
 --     Putting           what the loop over the records keeps
+--     record-inside, record-directed     the record that it comes to
 --     putting-start, putting-next, putting-ends     at the start, a match later, and behind the last
 --     script-stored     lengths, matches and the end are a script
 --     faulty-written, short-written, whole-written     the contract of the call, by its answer
 -- Assumes nothing.
-use Prim.Native.Nat.{ℕ, _+_, _*_, _/_, _≤_, _<_}
+use Prim.Native.Nat.{ℕ, zero, suc, _+_, _*_, _/_, _≤_, _<_}
 use mathlib.Core.Path.{_≡_, refl, sym, ap, _∙_}
 use mathlib.Core.List.{List, [], _∷_, flatMap}
 use native.Mathlib.Omega.{arith}
 use borrow.Author.Tests.{lt-ltb, le-ltb}
+use lib.Dec.{eqb}
 use lib.ListN.{length, getD, length-append, length-map, List·getD-map}
 use Rattle.script.specs.Commands.{lengthsWidth, matchWidth}
-use Rattle.script.specs.declared.command.Match.{Match}
 use Rattle.script.specs.declared.refusal.Refusal.{Refusal}
 use Rattle.script.specs.declared.refusal.Refusal.the-variants.{BufferTooShort}
 use Rattle.script.specs.declared.step.Judgement.{Judgement}
@@ -24,16 +26,23 @@ use Rattle.records.specs.Writing.{judgementOf, Writing, writingOf}
 use Rattle.records.specs.Demands.{writtenAnswer, WritingDemand}
 use Rattle.records.specs.declared.Record.{Record}
 use Rattle.records.specs.declared.Written.{Written}
+use Rattle.writer.specs.Directed.{Directed}
 use Rattle.records.proofs.Scripts.{flat-length, bytes-length}
 use Rattle.records.proofs.Lists.{records-length}
 use Rattle.records.proofs.Laying.{stored-behind, stored-front, Laid, laid-start, laid-next, laid-ends}
 use Rattle.records.proofs.Demands.{writing-demand}
 
-pub match-stored : {out : List ℕ} {at : ℕ} (m : Match) {code : ℕ} {o o′ o″ o‴ : List ℕ} → code ≡ codeOf (m .reversed)
-    → Stored out at (code ∷ []) o → Stored o (at + 1) (numberBytes (m .«left_a»)) o′
-    → Stored o′ (at + 5) (numberBytes (m .«left_b»)) o″ → Stored o″ (at + 9) (numberBytes (m .length)) o‴
-    → Stored out at (matchBytes m) o‴
-match-stored m is byte a b d =
+-- 0x44 and 0x52 are 14 apart
+pub code-reckoned : (direction : ℕ) → direction ≤ 1 → 0x44 + 14 * direction ≡ codeOf (eqb direction 1)
+code-reckoned zero h = refl
+code-reckoned (suc zero) h = refl
+code-reckoned (suc (suc n)) h = absurd (omega arith)
+
+pub match-stored : {out : List ℕ} {at : ℕ} (r : Record) {code : ℕ} {o o′ o″ o‴ : List ℕ}
+    → code ≡ codeOf (eqb (r .direction) 1) → Stored out at (code ∷ []) o
+    → Stored o (at + 1) (numberBytes (r .«left_a»)) o′ → Stored o′ (at + 5) (numberBytes (r .«left_b»)) o″
+    → Stored o″ (at + 9) (numberBytes (r .length)) o‴ → Stored out at (matchBytes (matchOf r)) o‴
+match-stored r is byte a b d =
     stored-behind (stored-behind (stored-behind (rw is at byte) refl a) (omega arith) b) (omega arith) d
 
 pub lengths-stored : (p q : ℕ) {out o o′ o″ : List ℕ} → Stored out 0 (0x4C ∷ []) o → Stored o 1 (numberBytes p) o′
@@ -50,6 +59,10 @@ module _ (ns : List ℕ) {count : ℕ} (counted : count ≡ length (recordsOf ns
   pub record-inside : {k : ℕ} → k < count → recordWidth * k + recordWidth ≤ length ns
   record-inside below = omega (arith, records-length ns)
 
+  pub record-directed : {k : ℕ} {r : Record} → Directed ns → k < count → r ≡ recordAt (recordsOf ns) k
+      → r .direction ≤ 1
+  record-directed {k} all below read = rw read (all .few k (omega arith))
+
   pub putting-start : Putting ns count before before 0
   putting-start = record { inside = omega arith; laid = laid-start matchBytes lengthsWidth (matchesOf ns) before refl }
 
@@ -57,12 +70,12 @@ module _ (ns : List ℕ) {count : ℕ} (counted : count ≡ length (recordsOf ns
   matches-counted = length-map (recordsOf ns) matchOf ∙ sym counted
 
   module _ {out : List ℕ} {k : ℕ} (h : Putting ns count before out k) where
-    pub putting-next : {r : Record} {m : Match} {out′ : List ℕ} → k < count → r ≡ recordAt (recordsOf ns) k
-        → m ≡ matchOf r → Stored out (lengthsWidth + matchWidth * k) (matchBytes m) out′
+    pub putting-next : {r : Record} {out′ : List ℕ} → k < count → r ≡ recordAt (recordsOf ns) k
+        → Stored out (lengthsWidth + matchWidth * k) (matchBytes (matchOf r)) out′
         → Putting ns count before out′ (k + 1)
-    putting-next {r} {m} below read is stored =
-        let held : m ≡ getD (matchesOf ns) k (matchOf noRecord) =
-        is ∙ ap matchOf read ∙ sym (List·getD-map matchOf (recordsOf ns) k noRecord) in
+    putting-next {r} below read stored =
+        let held : matchOf r ≡ getD (matchesOf ns) k (matchOf noRecord) =
+        ap matchOf read ∙ sym (List·getD-map matchOf (recordsOf ns) k noRecord) in
         record {
           inside = omega arith;
           laid = laid-next matchBytes lengthsWidth (matchesOf ns) before (h .laid) (matchOf noRecord)

@@ -1,10 +1,9 @@
 // The writer of scripts: from a list of records to the bytes of a script in a lent buffer.
 use judging_records::judge_records;
-use judging_records::match_of;
 use judging_records::record_at;
 use records::RECORD_WIDTH;
+use records::Record;
 use records::Written;
-use script::Match;
 use script::Refusal;
 use script::command::LENGTHS_WIDTH;
 use script::command::MATCH_WIDTH;
@@ -12,13 +11,15 @@ use script::step::Judgement;
 ghost use mathlib.Core.Path.{_≡_};
 ghost use mathlib.Core.List.{[], _∷_, flatMap};
 ghost use Prim.Native.Nat.{_+_, _*_, _≤_, _<_};
+ghost use lib.Dec.{eqb};
 ghost use lib.ListN.{length};
 ghost use Rattle.script.specs.Commands.{lengthsWidth, matchWidth};
-ghost use Rattle.records.specs.Records.{recordsOf, matchesOf};
+ghost use Rattle.records.specs.Records.{recordsOf, matchOf, matchesOf};
 ghost use Rattle.records.specs.Bytes.{numberBytes, lengthsBytes, codeOf, matchBytes, bytesOf};
 ghost use Rattle.records.specs.Storing.{Stored};
 ghost use Rattle.records.specs.Writing.{writingOf};
 ghost use Rattle.records.specs.Demands.{writtenAnswer, WritingDemand};
+ghost use Rattle.writer.specs.Directed.{Directed};
 
 fn put_byte(out: &mut [u8], at: usize, byte: u8)
     requires { ⌜ at < length (now out) ⌝ }
@@ -48,39 +49,39 @@ fn put_lengths(out: &mut [u8], p: u32, q: u32)
     put_number(out, 5, q);
 }
 
-// The byte that begins a match command.
-fn code_of(reversed: bool) -> u8
-    ensures { λ r. ⌜ r ≡ codeOf reversed ⌝ }
+// The byte that begins a match command: reckoned, since lists mix the directions in no order, and a branch would be
+// guessed wrong at every other match.
+fn code_of(direction: u32) -> u8
+    requires { ⌜ direction ≤ 1 ⌝ }
+    ensures { λ r. ⌜ r ≡ codeOf (eqb direction 1) ⌝ }
 {
-    if reversed { 0x52 } else { 0x44 }
+    (0x44 + 14 * direction) as u8
 }
 
-// Puts a match command.
-fn put_match(out: &mut [u8], at: usize, found: Match)
+// Puts the match command of a record.
+fn put_match(out: &mut [u8], at: usize, item: Record)
     requires { ⌜ at + matchWidth ≤ length (now out) ⌝ }
-    ensures { λ _. ⌜ Stored (now (out .entry)) at (matchBytes found) (now (out .exit)) ⌝ }
+    requires { ⌜ item .direction ≤ 1 ⌝ }
+    ensures { λ _. ⌜ Stored (now (out .entry)) at (matchBytes (matchOf item)) (now (out .exit)) ⌝ }
 {
-    put_byte(out, at, code_of(found.reversed));
-    put_number(out, at + 1, found.left_a);
-    put_number(out, at + 5, found.left_b);
-    put_number(out, at + 9, found.length);
+    put_byte(out, at, code_of(item.direction));
+    put_number(out, at + 1, item.left_a);
+    put_number(out, at + 5, item.left_b);
+    put_number(out, at + 9, item.length);
 }
 
 // Puts the commands of all records behind the lengths.
 fn put_matches(out: &mut [u8], records: &[u32], count: usize)
     requires { ⌜
         (count ≡ length (recordsOf (now records))) × (lengthsWidth + matchWidth * count ≤ length (now out)) ⌝ }
+    requires { ⌜ Directed (now records) ⌝ }
     ensures { λ _. ⌜
         Stored (now (out .entry)) lengthsWidth (flatMap matchBytes (matchesOf (now (records .entry))))
         (now (out .exit)) ⌝ }
 {
     let mut k = 0;
     while k < count {
-        put_match(
-            out,
-            LENGTHS_WIDTH + MATCH_WIDTH * k,
-            match_of(record_at(records, k)),
-        );
+        put_match(out, LENGTHS_WIDTH + MATCH_WIDTH * k, record_at(records, k));
         k += 1;
     }
 }
@@ -89,6 +90,7 @@ fn put_matches(out: &mut [u8], records: &[u32], count: usize)
 fn put_script(out: &mut [u8], p: u32, q: u32, records: &[u32], count: usize)
     requires { ⌜
         (count ≡ length (recordsOf (now records))) × (lengthsWidth + matchWidth * count + 1 ≤ length (now out)) ⌝ }
+    requires { ⌜ Directed (now records) ⌝ }
     ensures { λ _. ⌜ Stored (now (out .entry)) 0 (bytesOf p q (matchesOf (now (records .entry)))) (now (out .exit)) ⌝ }
 {
     put_lengths(out, p, q);

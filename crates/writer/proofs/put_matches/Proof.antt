@@ -2,7 +2,7 @@
 -- buffer that is wanted. The measure is what is left of the records. Assumes nothing.
 use Prim.Native.Nat.{_-_}
 use borrow.Author.Needs.{needs}
-use Rattle.writer.proofs.Stored.{Putting, record-inside, putting-start, putting-next, putting-ends}
+use Rattle.writer.proofs.Stored.{Putting, record-inside, record-directed, putting-start, putting-next, putting-ends}
 use Rattle.writer.proofs.put_matches.Statement.{statement}
 use Rattle.writer.proofs.put_matches.Tie as tie
 
@@ -24,11 +24,8 @@ add-put-match c = search needs
 record-at-requires : tie.Need-record-at-requires Inv-loop μ-loop
 record-at-requires c κs = search (needs, record-inside)
 
-match-of-requires : tie.Need-match-of-requires Inv-loop μ-loop
-match-of-requires c κs = search needs
-
 put-match-requires : tie.Need-put-match-requires Inv-loop μ-loop
-put-match-requires c κs = search needs
+put-match-requires c κs = search (needs, record-directed)
 
 add-k : tie.Need-add-k Inv-loop μ-loop
 add-k c = search needs
@@ -55,7 +52,6 @@ put-matches-spec =
     mul-put-match
     add-put-match
     record-at-requires
-    match-of-requires
     put-match-requires
     add-k
     loop-less

@@ -1,7 +1,8 @@
 -- `write` meets its contract: a fault of the list, a buffer that is too short, or the whole script. The demand follows
 -- from the equations. Assumes nothing.
-use mathlib.Core.Path.{refl, sym}
+use mathlib.Core.Path.{refl, sym, _∙_}
 use Rattle.records.proofs.Lists.{records-length}
+use Rattle.records.proofs.WritingOutcome.{sound-directed}
 use Rattle.writer.proofs.Stored.{faulty-written, short-written, whole-written}
 use borrow.Author.Needs.{needs}
 use Rattle.writer.proofs.write.Statement.{statement}
@@ -34,7 +35,13 @@ returns c =
     (c .before .enum-told .given .1) refl (c .if1 .taken)
 
 put-script-requires : tie.Need-put-script-requires
-put-script-requires c κs = (sym (records-length _), search needs)
+put-script-requires c κs =
+    let start : tie.Start = search in
+    let judged : tie.After-judge-records = search in
+    let room : tie.Else1 = search in
+    let sound = sym (judged .judge-records .ensures) ∙ room .before .enum-told .given .1 in
+    let a = start .args in
+    ((sym (records-length _), search needs), record { few = sound-directed (a .p) (a .q) (a .records .now) sound })
 
 returns-2 : tie.Need-returns-2
 returns-2 c =

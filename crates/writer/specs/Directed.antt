@@ -1,0 +1,10 @@
+-- Records that were judged have a direction; for functions that no user calls.
+--     Directed ns     the direction of each record is 0 or 1
+-- Assumes nothing.
+use Prim.Native.Nat.{ℕ, _≤_, _<_}
+use mathlib.Core.List.{List}
+use lib.ListN.{length}
+use Rattle.records.specs.Records.{recordsOf, recordAt}
+
+pub record Directed (ns : List ℕ) : Type 0 where
+  pub few : (k : ℕ) → k < length (recordsOf ns) → recordAt (recordsOf ns) k .direction ≤ 1
