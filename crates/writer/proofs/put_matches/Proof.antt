@@ -2,7 +2,8 @@
 -- buffer that is wanted. The measure is what is left of the records. Assumes nothing.
 use Prim.Native.Nat.{_-_}
 use borrow.Author.Needs.{needs}
-use Rattle.writer.proofs.Stored.{Putting, record-inside, record-directed, putting-start, putting-next, putting-ends}
+use Rattle.writer.proofs.Stored.{Putting, record-inside, record-directed}
+use Rattle.writer.proofs.Stored.{putting-start, putting-next, putting-ends}
 use Rattle.writer.proofs.put_matches.Statement.{statement}
 use Rattle.writer.proofs.put_matches.Tie as tie
 
