@@ -4,6 +4,10 @@ use crate::reader::cases::{case, good_match, Case, BOTH, P, Q};
 use compare::draft::{Draft, DraftMatch};
 use compare::random::Random;
 use compare::slow::script::MOST_MATCHES;
+use std::iter;
+
+/// So many lists that the processor cannot learn the directions of their matches.
+const UNLEARNED: usize = 256;
 
 /// A list, and its script.
 pub struct List {
@@ -19,6 +23,14 @@ pub fn all() -> Vec<Case<List>> {
         let name = format!("{count} records");
         case(name, count, || list(&good_matches(&mut random, count)))
     });
+    let unlearned = Case {
+        name: format!("{MOST_MATCHES} records, {UNLEARNED} lists in turn"),
+        matches: MOST_MATCHES,
+        inputs: iter::repeat_with(|| list(&good_matches(&mut random, MOST_MATCHES)))
+            .take(UNLEARNED)
+            .collect(),
+        calls: UNLEARNED,
+    };
     let refused = case(
         format!("{MOST_MATCHES} records, the last beyond B"),
         MOST_MATCHES,
@@ -28,7 +40,7 @@ pub fn all() -> Vec<Case<List>> {
             list(&matches)
         },
     );
-    admitted.into_iter().chain([refused]).collect()
+    admitted.into_iter().chain([unlearned, refused]).collect()
 }
 
 fn good_matches(random: &mut Random, count: usize) -> Vec<DraftMatch> {
