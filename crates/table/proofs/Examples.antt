@@ -1,5 +1,5 @@
 -- Worked tables, computed from the definitions.
---     run-summary        01's run: 8 pieces, 7 distinct, 11 letters, class 0 5, class 1 3
+--     run-summary        01's run: 8 pieces, 7 distinct, 7 and 8 letters covered, class 0 5, class 1 3
 --     lengths-apart      pieces of the same left ends and two lengths are two
 --     class-ends         lengths 0, 1, 2^30 - 1 and 2^30: the first and the last are in no class
 --     first-run          of two runs of one match the first, up to the break, with numbers behind that form no row
@@ -8,10 +8,13 @@
 use Prim.Native.Nat.{ℕ}
 use mathlib.Core.Path.{_≡_, refl}
 use mathlib.Core.List.{List, [], _∷_, _++_}
+use native.Mathlib.Decide.{decLe}
 use lib.ListN.{replicate}
+use Rattle.refinement.specs.Order.{insertBy, sortBy}
 use Rattle.rows.specs.Rows.{firstRows, rowsOf}
 use Rattle.table.specs.Finding.{leading, startOf, partOf}
 use Rattle.table.specs.Distinct.{occurs, firstsAfter}
+use Rattle.table.specs.Covering.{lettersFrom}
 use Rattle.table.specs.Summing.{total, classesFrom, summaryOf}
 
 five : ℕ → ℕ → ℕ → ℕ → ℕ → List ℕ
@@ -20,8 +23,8 @@ five number left-a left-b letters direction = number ∷ left-a ∷ left-b ∷ l
 run-summary : summaryOf (
     five 1 0 0 2 0 ++ five 1 2 2 1 0 ++ five 1 3 3 1 0 ++ five 1 4 4 2 0
     ++ five 2 2 7 1 1 ++ five 2 3 6 1 1 ++ five 2 4 4 2 1 ++ five 2 6 3 1 1)
-    ≡ record { pieces = 8; distinct = 7; letters = 11; classes = 5 ∷ 3 ∷ replicate 28 0 }
-unfolding five rowsOf firstRows occurs firstsAfter total classesFrom
+    ≡ record { pieces = 8; distinct = 7; covers = 7 ∷ 8 ∷ []; classes = 5 ∷ 3 ∷ replicate 28 0 }
+unfolding five rowsOf firstRows occurs firstsAfter total classesFrom lettersFrom sortBy insertBy decLe
 run-summary = refl
 
 lengths-apart : summaryOf (five 1 4 4 2 0 ++ five 2 4 4 3 1) .distinct ≡ 2

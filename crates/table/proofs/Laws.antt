@@ -4,29 +4,35 @@
 --     classes-inside         and so to no more than the pieces
 --     firsts-order           what the first rows of all pieces add up to is the same in every order of the rows
 --     summary-order          and so is the summary
---     letters-exact          of under 2^32 rows of 32-bit numbers, letters is the sum of the lengths itself
+--     table-ends             in a table of 32-bit numbers no stretch ends at 2^33 or behind ..
+--     covers-fit             .. and so neither number of letters reaches it
 -- Assumes nothing.
-use Prim.Native.Nat.{ℕ, zero, suc, _+_, _*_, _/_, _^_, _≤_, _<_}
+use Prim.Native.Nat.{ℕ, zero, suc, _+_, _-_, _/_, _^_, _≤_, _<_}
 use mathlib.Core.Bool.{Bool, true, false, cond, _&&_, _||_}
 use mathlib.Core.Path.{_≡_, refl, sym, ap, _∙_}
-use mathlib.Core.List.{List, [], _∷_, map, List·Permᴰ}
+use mathlib.Core.Logic.{⊎-elim}
+use mathlib.Core.List.{List, [], _∷_, List·Permᴰ, List·Memᴰ·cases-cons, List·Memᴰ·not-nil}
 use native.Mathlib.Omega.{arith}
 use native.Mathlib.Decide.{decLt}
-use native.Mathlib.Nat.{add-zero, mod-eq-of-lt}
+use native.Mathlib.Nat.{add-zero}
 use native.Mathlib.Numerals.{add-one}
 use borrow.Author.Tests.{lt-ltb, le-ltb, le-leb, lt-leb}
 use lib.ListN.{length, getD, drop}
 use lib.Dec.{leb, ltb}
 use lib.Pow.{pow-mono}
 use lib.Seq.{getD-drop}
-use Rattle.rows.specs.Rows.{rowWidth, firstRows, rowsOf}
+use Rattle.refinement.specs.declared.Side.{Side}
+use Rattle.refinement.specs.declared.Side.the-variants.{A, B}
+use Rattle.refinement.specs.Order.{_∈_}
+use Rattle.rows.specs.Rows.{rowWidth, rowOf, firstRows, rowsOf}
 use Rattle.table.specs.Distinct.{same, occurs, firstsAfter, firstOfEach}
-use Rattle.table.specs.Summing.{total, count, lettersOf, classCount, inClass, classesFrom}
+use Rattle.table.specs.Covering.{rightOf, coverOf}
+use Rattle.table.specs.Summing.{total, count, classCount, inClass, classesFrom}
 use Rattle.table.specs.Summing.{summaryOfRows, summaryOf}
 use Rattle.rows.specs.declared.Row.{Row}
 use Rattle.table.proofs.Counting.{count-inside, count-agrees, count-every, count-no-one, count-joined}
-use Rattle.rows.proofs.TableRows.{rows-length}
-use Rattle.table.proofs.Pieces.{bool-same, same-sym, occurs-same, firsts-inside}
+use Rattle.table.proofs.Pieces.{bool-same, or-turned, same-sym, occurs-same, firsts-inside}
+use Rattle.table.proofs.Covers.{cover-order, cover-at-most}
 
 -- ---- no more than the pieces
 
@@ -99,13 +105,7 @@ firsts-seen s s′ h (r ∷ rs) =
 
 turned : (seen : List Row) (r s q : Row) → occurs q (s ∷ r ∷ seen) ≡ occurs q (r ∷ s ∷ seen)
 unfolding occurs
-turned seen r s q = go (same s q) (same r q)
-  where
-    go : (a b : Bool) → (a || (b || occurs q seen)) ≡ (b || (a || occurs q seen))
-    go true true = refl
-    go true false = refl
-    go false true = refl
-    go false false = refl
+turned seen r s q = or-turned (same s q) (same r q) (occurs q seen)
 
 -- f gives the same for rows of the same piece
 module _ (f : Row → ℕ) (alike : (r s : Row) → same r s ≡ true → f r ≡ f s) where
@@ -168,27 +168,32 @@ rows-order {rs} {ss} p =
     let firsts = firsts-order (λ r. 1) (λ r s e. refl) p [] in
     let distinct : length (firstOfEach rs) ≡ length (firstOfEach ss)
     = sym (count-every (firstOfEach rs)) ∙ firsts ∙ count-every (firstOfEach ss) in
-    rw (pieces, distinct, total-order (λ r. r .length) p, classes-order classCount 0 p)
+    rw (pieces, distinct, cover-order A p, cover-order B p, classes-order classCount 0 p)
 
 pub summary-order : (t t′ : List ℕ) → List·Permᴰ (rowsOf t) (rowsOf t′) → summaryOf t ≡ summaryOf t′
 summary-order t t′ p = rows-order p
 
--- ---- letters
+-- ---- no sum wraps
 
-letters-sum : (rs : List Row) → lettersOf rs ≡ sumOf (map (λ r. r .length) rs)
-unfolding total sumOf
-letters-sum [] = refl
-letters-sum (r ∷ rs) = ap (λ (k : ℕ). r .length + k) (letters-sum rs)
+-- a right end is at most twice the largest number
+rows-end : (s : Side) (n : ℕ) (t : List ℕ) → ((k : ℕ) → getD t k 0 < 2 ^ 32) → (r : Row) → r ∈ firstRows n t
+    → rightOf s r < 2 ^ 33
+unfolding firstRows
+rows-end s zero t fits r m = absurd (List·Memᴰ·not-nil m)
+rows-end s (suc n) t fits r m =
+    ⊎-elim (λ e. rw e (first s))
+    (rows-end s n (drop rowWidth t) (λ k. rw getD-drop (fits (rowWidth + k))) r) (List·Memᴰ·cases-cons m)
+  where
+    first : (s : Side) → rightOf s (rowOf t) < 2 ^ 33
+    first A = omega (arith, fits 1, fits 3)
+    first B = omega (arith, fits 2, fits 3)
 
-letters-few : (n : ℕ) (t : List ℕ) → ((k : ℕ) → getD t k 0 < 2 ^ 32) → lettersOf (firstRows n t) ≤ n * 4294967295
-unfolding total firstRows
-letters-few zero t fits = omega arith
-letters-few (suc n) t fits =
-    let later = letters-few n (drop rowWidth t) (λ k. rw getD-drop (fits (rowWidth + k))) in
-    omega (arith, fits 3)
-
-pub letters-exact : (t : List ℕ) → ((k : ℕ) → getD t k 0 < 2 ^ 32) → length (rowsOf t) < 2 ^ 32
-    → summaryOf t .letters ≡ sumOf (map (λ r. r .length) (rowsOf t))
+pub table-ends : (s : Side) (t : List ℕ) → ((k : ℕ) → getD t k 0 < 2 ^ 32) → (r : Row) → r ∈ rowsOf t
+    → rightOf s r < 2 ^ 33
 unfolding rowsOf
-letters-exact t fits rows =
-    mod-eq-of-lt (omega (arith, letters-few (length t / rowWidth) t fits, rows-length t)) ∙ letters-sum (rowsOf t)
+table-ends s t fits r m = rows-end s (length t / rowWidth) t fits r m
+
+pub covers-fit : (s : Side) (t : List ℕ) → ((k : ℕ) → getD t k 0 < 2 ^ 32) → coverOf s (rowsOf t) < 2 ^ 33
+covers-fit s t fits =
+    let most = cover-at-most s (rowsOf t) (2 ^ 33 - 1) (λ r m. omega (arith, table-ends s t fits r m)) in
+    omega arith

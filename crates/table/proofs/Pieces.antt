@@ -1,5 +1,6 @@
 -- Rows of the same piece, and the first row of each piece.
 --     false-of, never-both, bool-same         a test is false where it cannot be true, and never both; equal tests
+--     and-left, and-right, or-right, or-cases, or-turned     two tests, or three, joined
 --     SamePiece, same-fields, fields-same     the test for the same piece is equality of its three numbers
 --     same-sym, same-trans                    whichever comes first, and through a third row
 --     occurs-at, occurs-where                 a piece occurs in a list where some row is that piece
@@ -30,24 +31,30 @@ use Rattle.rows.proofs.TableRows.{take-more}
 pub never-both : {b : Bool} → b ≡ true → b ≡ false → ⊥
 never-both e e′ = let never : _≡_ {A = ℕ} 0 1 = cc in omega arith
 
-and-left : (a b : Bool) → (a && b) ≡ true → a ≡ true
+pub and-left : (a b : Bool) → (a && b) ≡ true → a ≡ true
 and-left true b e = refl
 and-left false b e = e
 
-and-right : (a b : Bool) → (a && b) ≡ true → b ≡ true
+pub and-right : (a b : Bool) → (a && b) ≡ true → b ≡ true
 and-right true b e = e
 and-right false b e = absurd (never-both e refl)
 
 or-left : (a b : Bool) → a ≡ true → (a || b) ≡ true
 or-left a b e = rw e
 
-or-right : (a b : Bool) → b ≡ true → (a || b) ≡ true
+pub or-right : (a b : Bool) → b ≡ true → (a || b) ≡ true
 or-right true b e = refl
 or-right false b e = e
 
-or-cases : (a b : Bool) → (a || b) ≡ true → (a ≡ true) ⊎ (b ≡ true)
+pub or-cases : (a b : Bool) → (a || b) ≡ true → (a ≡ true) ⊎ (b ≡ true)
 or-cases true b e = inl refl
 or-cases false b e = inr e
+
+pub or-turned : (a b c : Bool) → (a || (b || c)) ≡ (b || (a || c))
+or-turned true true c = refl
+or-turned true false c = refl
+or-turned false true c = refl
+or-turned false false c = refl
 
 pub false-of : (b : Bool) → (b ≡ true → ⊥) → b ≡ false
 false-of true h = absurd (h refl)

@@ -1,5 +1,4 @@
--- Lengths added up and counted by class, row by row.
---     letters-more                    the sum with one more row, modulo 2^64
+-- Lengths counted by class, row by row.
 --     class-only, class-of-none       which class a length is in: one, or none
 --     top-place, top-class            and by its leading zeros
 --     classes-length, classes-at      what stands where in the class counts
@@ -20,17 +19,10 @@ use lib.Dec.{eqb, leb}
 use lib.Pow.{pow-mono, pow-pos}
 use lib.Seq.{ext-getD, getD-set-same, getD-set-other}
 use Rattle.rows.specs.Rows.{rowAt}
-use Rattle.table.specs.Summing.{count, lettersOf, classCount, lengthInClass, inClass, classesFrom, classesOf}
+use Rattle.table.specs.Summing.{count, classCount, lengthInClass, inClass, classesFrom, classesOf}
 use Rattle.rows.specs.declared.Row.{Row}
 use Rattle.rows.proofs.TableRows.{take-more}
 use Rattle.table.proofs.Counting.{total-snoc}
-
--- ---- letters
-
-pub letters-more : (rs : List Row) (k : ℕ) {r : Row} {sum : ℕ} → k < length rs → r ≡ rowAt rs k
-    → sum ≡ lettersOf (take k rs) % 2 ^ 64 → (sum + r .length) % 2 ^ 64 ≡ lettersOf (take (k + 1) rs) % 2 ^ 64
-letters-more rs k {r} {sum} inside held e =
-    rw (take-more rs k inside, total-snoc (λ r. r .length) (take k rs) (rowAt rs k), ← held) (omega arith)
 
 -- ---- the class of a length
 

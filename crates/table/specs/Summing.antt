@@ -1,19 +1,20 @@
 -- The summary of a table. TO READ: contracts mean what stands here.
 --     total f rs       the sum of what f gives for each row of rs
 --     count p rs       how many rows of rs pass the test p
---     lettersOf rs     the sum of all lengths
 --     classCount       the number of classes
 --     inClass c r      r is in class c, by its length
 --     classesOf rs     how many rows of rs each class has
 --     summaryOf t      the summary of the table t
 -- 01, "The table and its buffers". Assumes nothing.
-use Prim.Native.Nat.{ℕ, zero, suc, _+_, _%_, _^_}
+use Prim.Native.Nat.{ℕ, zero, suc, _+_, _^_}
 use mathlib.Core.Bool.{Bool, cond, _&&_}
 use mathlib.Core.List.{List, [], _∷_}
 use lib.ListN.{length}
 use lib.Dec.{leb, ltb}
+use Rattle.refinement.specs.declared.Side.the-variants.{A, B}
 use Rattle.rows.specs.Rows.{rowsOf}
 use Rattle.table.specs.Distinct.{firstOfEach}
+use Rattle.table.specs.Covering.{coverOf}
 use Rattle.rows.specs.declared.Row.{Row}
 use Rattle.table.specs.declared.summing.Summary.{Summary}
 
@@ -25,10 +26,6 @@ total f (r ∷ rs) = f r + total f rs
 -- how many rows pass the test
 abbrev pub count : (Row → Bool) → List Row → ℕ
 count p rs = total (λ r. cond (p r) 1 0) rs
-
--- SCOPE, "Letters": the sum of all lengths, not yet modulo 2^64
-abbrev pub lettersOf : List Row → ℕ
-lettersOf rs = total (λ r. r .length) rs
 
 -- SCOPE, "Summary": as many class counts
 abbrev pub classCount : ℕ
@@ -50,13 +47,13 @@ classesFrom (suc n) c rs = count (inClass c) rs ∷ classesFrom n (suc c) rs
 abbrev pub classesOf : List Row → List ℕ
 classesOf rs = classesFrom classCount 0 rs
 
--- SCOPE, "Summary": pieces, distinct pieces, letters, and the pieces of each class
+-- SCOPE, "Summary": pieces, distinct pieces, the letters covered on A and on B, and the pieces of each class
 abbrev pub summaryOfRows : List Row → Summary
 summaryOfRows rs =
     record {
       pieces = length rs;
       distinct = length (firstOfEach rs);
-      letters = lettersOf rs % 2 ^ 64;
+      covers = coverOf A rs ∷ coverOf B rs ∷ [];
       classes = classesOf rs;
     }
 
