@@ -1,14 +1,19 @@
-// The summary of a table: pieces, distinct pieces, letters and classes.
+// The summary of a table: pieces, distinct pieces, the letters covered on A and on B, and classes.
+use covered_letters::cover_of;
 use distinct_pieces::count_distinct;
+use refinement::Side;
 use rows::row_at;
 use rows::row_count;
 use table::CLASSES;
 use table::Summary;
 ghost use mathlib.Core.Path.{_≡_};
-ghost use Prim.Native.Nat.{ℕ, _%_, _^_, _<_};
+ghost use mathlib.Core.List.{[], _∷_};
+ghost use Prim.Native.Nat.{ℕ, _<_};
 ghost use lib.Dec.{eqb};
+ghost use Rattle.refinement.specs.declared.Side.{Side};
 ghost use Rattle.rows.specs.Rows.{rowsOf};
-ghost use Rattle.table.specs.Summing.{lettersOf, classCount, lengthInClass, classesOf, summaryOf};
+ghost use Rattle.table.specs.Covering.{coverOf, LettersOnce};
+ghost use Rattle.table.specs.Summing.{classCount, lengthInClass, classesOf, summaryOf};
 
 // The class of a length; CLASSES where it fits none.
 fn class_of(length: u32) -> usize
@@ -42,28 +47,22 @@ fn count_classes(table: &[u32]) -> [usize; CLASSES]
     classes
 }
 
-fn add_lengths(table: &[u32]) -> u64
-    ensures { λ r. ⌜ r ≡ lettersOf (rowsOf (now (table .entry))) % 2 ^ 64 ⌝ }
+// The letters covered on A, and those on B.
+fn count_covers(table: &[u32]) -> [u64; 2]
+    ensures { λ r. ⌜ r ≡ coverOf Side.A (rowsOf (now (table .entry))) ∷ coverOf Side.B (rowsOf (now (table .entry))) ∷ [] ⌝ }
 {
-    let rows = row_count(table);
-    let mut sum: u64 = 0;
-    let mut k: usize = 0;
-    while k < rows {
-        let row = row_at(table, k);
-        sum = std::num::wrapping_add_u64(sum, row.length as u64);
-        k += 1;
-    }
-    sum
+    [cover_of(table, Side::A), cover_of(table, Side::B)]
 }
 
 // The summary of a table.
 pub fn sum_up(table: &[u32]) -> Summary
     ensures { λ r. ⌜ r ≡ summaryOf (now (table .entry)) ⌝ }
+    ensures { λ r. ⌜ LettersOnce (rowsOf (now (table .entry))) (r .covers) ⌝ }
 {
     Summary {
         pieces: row_count(table),
         distinct: count_distinct(table),
-        letters: add_lengths(table),
+        covers: count_covers(table),
         classes: count_classes(table),
     }
 }

@@ -1,5 +1,6 @@
 -- The letters that rows cover: what is worked out by hand is the number of them, each counted once.
 --     covered-iff                  the test says whether a letter is in at least one row's stretch
+--     covered-more                 the test with one more row
 --     cover-tally                  what is worked out by hand, as a tally of the test
 --     cover-counted, letters-once  so it is the number of letters in at least one row's stretch, on each side
 --     covers-same                  rows that cover the same letters cover as many ..
@@ -7,22 +8,24 @@
 --     cover-at-most                no more letters than lie before the furthest right end
 -- Assumes nothing.
 use Prim.Native.Nat.{ℕ, _+_, _-_, _≤_, _<_, max}
-use mathlib.Core.Bool.{Bool, true, false, cond, and-false, _&&_, _||_}
+use mathlib.Core.Bool.{Bool, true, false, cond, and-false, or-false, or-assoc, _&&_, _||_}
 use mathlib.Core.Logic.{_↔_, _⊎_, inl, inr, ⊎-elim}
 use mathlib.Core.Path.{_≡_, refl, sym, ap, _∙_}
-use mathlib.Core.List.{List, [], _∷_, List·Permᴰ, List·Memᴰ·cases-cons, List·Memᴰ·not-nil}
+use mathlib.Core.List.{List, [], _∷_, _++_, List·Permᴰ, List·Memᴰ·cases-cons, List·Memᴰ·not-nil}
 use mathlib.Core.List.{List·Memᴰ·head as here, List·Memᴰ·tail as there}
 use native.Mathlib.Omega.{arith}
 use native.Mathlib.Decide.{decLt}
 use native.Mathlib.Nat.{le-trans, le-max-left, le-max-right, max-le}
 use borrow.Author.Tests.{ltb-true, leb-true, le-leb, lt-leb}
-use lib.ListN.{length}
+use lib.ListN.{length, take}
 use lib.Dec.{leb}
 use Rattle.refinement.specs.declared.Side.{Side}
 use Rattle.refinement.specs.declared.Side.the-variants.{A, B}
 use Rattle.refinement.specs.Order.{_∈_, Rising, sortBy}
 use Rattle.refinement.proofs.Lists.{∈-sort, ∈-unsort, rising-sort}
+use Rattle.rows.specs.Rows.{rowAt}
 use Rattle.rows.specs.declared.Row.{Row}
+use Rattle.rows.proofs.TableRows.{take-more}
 use Rattle.table.specs.Covering.{leftOf, rightOf, notPast?, lettersFrom, coverOf}
 use Rattle.table.specs.Covering.{CountedOnce, InStretch, Covered, LettersOnce}
 use Rattle.table.specs.Tally.{within, isCovered, tally}
@@ -99,6 +102,19 @@ module _ (s : Side) where
 
   pub covered-iff : (rs : List Row) (h : ℕ) → (isCovered s rs h ≡ true) ↔ Covered s rs h
   covered-iff rs h = (covered-of rs h, λ c. covered-by rs h (c .among) (c .inside))
+
+  covered-append : (rs : List Row) (r : Row) (h : ℕ)
+      → isCovered s (rs ++ r ∷ []) h ≡ (isCovered s rs h || within (leftOf s r) (rightOf s r) h)
+  unfolding isCovered
+  covered-append [] r h = or-false (within (leftOf s r) (rightOf s r) h)
+  covered-append (q ∷ rs) r h =
+      ap (λ (b : Bool). within (leftOf s q) (rightOf s q) h || b) (covered-append rs r h)
+      ∙ sym (or-assoc (within (leftOf s q) (rightOf s q) h) (isCovered s rs h) (within (leftOf s r) (rightOf s r) h))
+
+  pub covered-more : (rs : List Row) (k h : ℕ) → k < length rs
+      → isCovered s (take (k + 1) rs) h
+      ≡ (isCovered s (take k rs) h || within (leftOf s (rowAt rs k)) (rightOf s (rowAt rs k)) h)
+  covered-more rs k h inside = rw (take-more rs k inside) (covered-append (take k rs) (rowAt rs k) h)
 
   covered-alike : (rs ss : List Row) (h : ℕ) → (Covered s rs h → Covered s ss h) → (Covered s ss h → Covered s rs h)
       → isCovered s rs h ≡ isCovered s ss h

@@ -1,6 +1,7 @@
 -- Rows of the same piece, and the first row of each piece.
 --     false-of, never-both, bool-same         a test is false where it cannot be true, and never both; equal tests
---     and-left, and-right, or-right, or-cases, or-turned     two tests, or three, joined
+--     and-left, and-right, or-right, or-cases     two tests joined
+--     or-turned                               three, in another order
 --     SamePiece, same-fields, fields-same     the test for the same piece is equality of its three numbers
 --     same-sym, same-trans                    whichever comes first, and through a third row
 --     occurs-at, occurs-where                 a piece occurs in a list where some row is that piece

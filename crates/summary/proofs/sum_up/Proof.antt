@@ -1,5 +1,7 @@
--- `sum_up` meets its contract: each field is what its call counts. Assumes nothing.
+-- `sum_up` meets its contract: each field is what its call counts, and what is worked out by hand counts each letter
+-- once. Assumes nothing.
 use borrow.Author.Needs.{needs}
+use Rattle.table.proofs.Covers.{letters-once}
 use Rattle.summary.proofs.sum_up.Statement.{statement}
 use Rattle.summary.proofs.sum_up.Tie as tie
 
@@ -9,14 +11,16 @@ row-count-requires c κs = search needs
 count-distinct-requires : tie.Need-count-distinct-requires
 count-distinct-requires c κs = search needs
 
-add-lengths-requires : tie.Need-add-lengths-requires
-add-lengths-requires c κs = search needs
+count-covers-requires : tie.Need-count-covers-requires
+count-covers-requires c κs = search needs
 
 count-classes-requires : tie.Need-count-classes-requires
 count-classes-requires c κs = search needs
 
 returns : tie.Need-returns
-returns c = cc
+returns c =
+    let covered : tie.After-count-covers = search in
+    (cc, rw (covered .count-covers .ensures) (letters-once _))
 
 pub sum-up-spec : {M : Type 1} → statement M
 sum-up-spec =
@@ -24,6 +28,6 @@ sum-up-spec =
     (tie.spec
     row-count-requires
     count-distinct-requires
-    add-lengths-requires
+    count-covers-requires
     count-classes-requires
     returns)

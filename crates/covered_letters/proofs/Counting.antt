@@ -1,0 +1,87 @@
+-- Windows counted one after the other.
+--     held-nested, held-room     what is gathered can be sorted and summed up
+--     sorted-summed      sorted, it has the same sum
+--     window-counted     which is the letters covered in the window
+--     counted-first, counted-next     the letters before the end of a window
+--     counted-fits       their sum fits
+--     cover-counted      behind the last window, all letters covered
+-- Assumes nothing.
+use Prim.Native.Nat.{ℕ, _+_, _^_, _≤_, _<_}
+use mathlib.Core.Bool.{true, false}
+use mathlib.Core.Path.{_≡_, refl, sym, _∙_}
+use mathlib.Core.List.{List}
+use native.Mathlib.Omega.{arith}
+use borrow.Author.Tests.{le-ltb}
+use lib.ListN.{length, getD, take}
+use lib.Seq.{length-take-le}
+use Rattle.refinement.specs.declared.Side.{Side}
+use Rattle.refinement.specs.Order.{_∈_}
+use Rattle.rows.specs.Rows.{rowsOf}
+use Rattle.rows.specs.declared.Row.{Row}
+use Rattle.table.specs.Covering.{rightOf, coverOf}
+use Rattle.table.specs.Tally.{isCovered, tally}
+use Rattle.table.proofs.Pieces.{false-of}
+use Rattle.table.proofs.Tally.{tally-agrees, tally-between, tally-empty, tally-at-most}
+use Rattle.table.proofs.Covers.{covered-iff, cover-tally}
+use Rattle.table.proofs.Laws.{table-ends}
+use Rattle.sorted_numbers.specs.Ranks.{rank, Sorted}
+use Rattle.covered_letters.specs.Windows.{end, under, Nested, Held, Gathered, Summed, Counted}
+use Rattle.covered_letters.specs.declared.Store.{Store}
+use Rattle.covered_letters.specs.declared.Window.{Window}
+
+pub held-nested : {from : ℕ} {lows highs : List ℕ} {store : Store} → Held from lows highs store
+    → Nested (take (store .used) lows) (take (store .used) highs)
+held-nested {lows = lows} {highs = highs} {store = store} held =
+    let low = length-take-le (store .used) lows (held .room) in
+    let high = length-take-le (store .used) highs (omega (arith, held .room, held .as-many)) in
+    record { as-many = omega arith; nested = held .stored .nested }
+
+pub held-room : {from n : ℕ} {lows highs : List ℕ} {store : Store} → Held from lows highs store → length lows ≤ n
+    → length (take (store .used) lows) ≤ n
+held-room {lows = lows} {store = store} held room =
+    omega (arith, held .room, length-take-le (store .used) lows (held .room))
+
+pub sorted-summed : {L H xs ys : List ℕ} {letters : ℕ} → Sorted L xs → Sorted H ys → Summed xs ys letters
+    → Summed L H letters
+sorted-summed {L} {H} {xs} {ys} low high sum =
+    record {
+      summed = λ last none.
+          sum .summed last (λ h l. alike h ∙ none h l)
+          ∙ tally-agrees (under xs ys) (under L H) last (λ h l. alike h);
+    }
+  where
+    alike : (h : ℕ) → under xs ys h ≡ under L H h
+    alike h = rw (low .ranks h, high .ranks h)
+
+pub window-counted : {s : Side} {rs : List Row} {from letters : ℕ} {lows highs : List ℕ} {store : Store}
+    → Gathered s rs from lows highs store → Summed (take (store .used) lows) (take (store .used) highs) letters
+    → Counted s rs from (record { letters = letters; to = store .to })
+window-counted {s} {rs} {from} {lows = lows} {highs = highs} {store = store} g sum =
+    let xs = take (store .used) lows in
+    let ys = take (store .used) highs in
+    let stored = g .held .stored in
+    let all = sum .summed (store .to) (stored .none-behind) in
+    let none = tally-empty (under xs ys) from (λ h l.
+    le-ltb (rank h ys) (rank h xs) (omega (arith, stored .none-before h l))) in
+    let onward : from ≤ store .to = omega (arith, g .held .onward) in
+    let between = tally-between (isCovered s rs) (under xs ys) from (store .to) onward
+    (λ h l l′. sym (g .all h l l′)) in
+    record { onward = g .held .onward; shorter = g .shorter; counted = omega (arith, all, none, between) }
+
+-- the first window, and one more
+pub counted-first : {s : Side} {rs : List Row} {w : Window} → Counted s rs 0 w → w .letters ≡ tally (isCovered s rs) (w .to)
+unfolding tally
+counted-first c = omega (arith, c .counted)
+
+module _ {s : Side} {rs : List Row} {from letters : ℕ} {w : Window} (c : Counted s rs from w)
+    (sum : letters ≡ tally (isCovered s rs) from) where
+  pub counted-next : letters + w .letters ≡ tally (isCovered s rs) (w .to)
+  counted-next = omega (arith, c .counted)
+
+  pub counted-fits : letters + w .letters ≤ end
+  counted-fits = omega (arith, counted-next, tally-at-most (isCovered s rs) (w .to), c .shorter)
+
+pub cover-counted : (s : Side) (t : List ℕ) {from letters : ℕ} → ((k : ℕ) → getD t k 0 < 2 ^ 32) → end ≤ from
+    → letters ≡ tally (isCovered s (rowsOf t)) from → letters ≡ coverOf s (rowsOf t)
+cover-counted s t {from} fits ended sum =
+    sum ∙ sym (cover-tally s (rowsOf t) from (λ r m. omega (arith, table-ends s t fits r m)))

@@ -1,0 +1,7 @@
+pub mod Under
+pub mod Uniting
+pub mod Summing
+pub mod Adding
+pub mod Room
+pub mod Gathering
+pub mod Counting

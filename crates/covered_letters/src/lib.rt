@@ -1,0 +1,392 @@
+// The letters that the rows of a table cover on a side, each counted once, without a lent buffer. A pass over the table
+// joins a row's stretch with the next ones while they touch, and gathers the left ends and the right ends of what is
+// joined in two local arrays. Sorted, each array by itself, they tell what is covered: a letter is, if more left ends
+// than right ends lie before it. Where they fill the arrays, stretches that touch become one. Where that does not make
+// room enough, the window of letters that the pass counts is cut short, and the letters behind it are for a later pass.
+// A table that refining made has at most 2,048 stretches to gather, one for each match.
+use refinement::Side;
+use refinement::on_side;
+use rows::row_at;
+use rows::row_count;
+use sorted_numbers::sort;
+ghost use Prim.Native.Nat.{_≤_, _<_, min, max};
+ghost use mathlib.Core.Path.{_≡_};
+ghost use mathlib.Core.Bool.{_&&_};
+ghost use lib.ListN.{length};
+ghost use lib.Dec.{leb};
+ghost use Rattle.rows.specs.Rows.{rowsOf, rowAt};
+ghost use Rattle.table.specs.Covering.{coverOf};
+ghost use Rattle.covered_letters.specs.Windows.{end, StretchOf, Paired, Nested, Rooms, Stored, Held};
+ghost use Rattle.covered_letters.specs.Windows.{United, Roomier, Added, Running, TakenIn, Passed, Gathered};
+ghost use Rattle.covered_letters.specs.Windows.{Summed, Counted};
+
+// No stretch ends there or behind.
+const END: u64 = 0x2_0000_0000;
+
+// The stretches that there is room for: of a short table, of a table of the program's length, in a window of a long one.
+const FEW: usize = 256;
+
+const SOME: usize = 3072;
+
+const MANY: usize = 6144;
+
+// From `low` up to, not including, `high`.
+pub struct Stretch {
+    pub low: u64,
+    pub high: u64,
+}
+
+// How many stretches are gathered, and where the window of letters ends that they are gathered for.
+pub struct Store {
+    pub used: usize,
+    pub to: u64,
+}
+
+// A pass over the rows: the store, and the run of touching stretches that is not stored yet.
+pub struct Pass {
+    pub used: usize,
+    pub to: u64,
+    pub low: u64,
+    pub high: u64,
+}
+
+// The letters counted, and where their window ends.
+pub struct Window {
+    pub letters: u64,
+    pub to: u64,
+}
+
+fn lesser(a: u64, b: u64) -> u64
+    ensures { λ r. ⌜ r ≡ min a b ⌝ }
+{
+    if a < b {
+        return a;
+    }
+    b
+}
+
+fn greater(a: u64, b: u64) -> u64
+    ensures { λ r. ⌜ r ≡ max a b ⌝ }
+{
+    if a < b {
+        return b;
+    }
+    a
+}
+
+// The stretch of row k.
+fn stretch_at(table: &[u32], k: usize, side: Side) -> Stretch
+    requires { ⌜ k < length (rowsOf (now table)) ⌝ }
+    ensures { λ r. ⌜ StretchOf side (rowAt (rowsOf (now (table .entry))) k) r ⌝ }
+{
+    let row = row_at(table, k);
+    let low = on_side(side, row.left_a, row.left_b) as u64;
+    Stretch {
+        low,
+        high: low + row.length as u64,
+    }
+}
+
+// Whether two stretches touch, or share letters.
+fn touch(a: Stretch, b: Stretch) -> bool
+    ensures { λ r. ⌜ r ≡ leb (a .low) (b .high) && leb (b .low) (a .high) ⌝ }
+{
+    a.low <= b.high && b.low <= a.high
+}
+
+// Makes one of stretches that touch, of left ends and right ends that rise; says how many are left, at the front.
+fn unite(lows: &mut [u64], highs: &mut [u64]) -> usize
+    requires { ⌜ Paired (now lows) (now highs) ⌝ }
+    requires { ⌜ 0 < length (now lows) ⌝ }
+    ensures { λ r. ⌜ United (now (lows .entry)) (now (highs .entry)) (now (lows .exit)) (now (highs .exit)) r ⌝ }
+{
+    let count = lows.len();
+    let mut used: usize = 1;
+    let mut k: usize = 1;
+    while k < count {
+        let low = lows[k];
+        let high = highs[k];
+        k += 1;
+        if low <= highs[used - 1] {
+            highs[used - 1] = high;
+            continue;
+        }
+        lows[used] = low;
+        highs[used] = high;
+        used += 1;
+    }
+    used
+}
+
+// Makes room in full arrays: unites what touches and, where more than two thirds are left, cuts the window.
+fn make_room(
+    lows: &mut [u64],
+    highs: &mut [u64],
+    spare: &mut [u64],
+    from: u64,
+    to: u64,
+) -> Store
+    requires { ⌜ Rooms (now lows) (now highs) (now spare) ⌝ }
+    requires { ⌜ (from < to) × Stored from to (now lows) (now highs) ⌝ }
+    ensures { λ r. ⌜
+        Roomier from to (now (lows .entry)) (now (highs .entry)) (now (lows .exit)) (now (highs .exit)) r ⌝ }
+{
+    sort(lows, spare);
+    sort(highs, spare);
+    let kept = unite(lows, highs);
+    let most = lows.len() - lows.len() / 3;
+    if kept <= most {
+        return Store { used: kept, to };
+    }
+    Store {
+        used: most,
+        to: lesser(to, lows[most]),
+    }
+}
+
+// Adds what of the stretch lies in the window.
+fn add(lows: &mut [u64], highs: &mut [u64], store: Store, from: u64, stretch: Stretch) -> Store
+    requires { ⌜ Held from (now lows) (now highs) store ⌝ }
+    requires { ⌜ store .used < length (now lows) ⌝ }
+    ensures { λ r. ⌜ Added from stretch (now (lows .entry)) (now (highs .entry)) store (now (lows .exit))
+        (now (highs .exit)) r ⌝ }
+{
+    let used = store.used;
+    let low = greater(stretch.low, from);
+    let high = lesser(stretch.high, store.to);
+    if high <= low {
+        return store;
+    }
+    lows[used] = low;
+    highs[used] = high;
+    Store {
+        used: used + 1,
+        to: store.to,
+    }
+}
+
+// The same, where the arrays may be full.
+fn put(
+    lows: &mut [u64],
+    highs: &mut [u64],
+    spare: &mut [u64],
+    store: Store,
+    from: u64,
+    stretch: Stretch,
+) -> Store
+    requires { ⌜ Rooms (now lows) (now highs) (now spare) ⌝ }
+    requires { ⌜ Held from (now lows) (now highs) store ⌝ }
+    ensures { λ r. ⌜ Added from stretch (now (lows .entry)) (now (highs .entry)) store (now (lows .exit))
+        (now (highs .exit)) r ⌝ }
+{
+    if store.used < lows.len() {
+        return add(lows, highs, store, from, stretch);
+    }
+    let roomier = make_room(lows, highs, spare, from, store.to);
+    add(lows, highs, roomier, from, stretch)
+}
+
+// Takes one more stretch in: one that touches the run makes it longer, and another begins the next run.
+fn take_in(
+    lows: &mut [u64],
+    highs: &mut [u64],
+    spare: &mut [u64],
+    pass: Pass,
+    from: u64,
+    next: Stretch,
+) -> Pass
+    requires { ⌜ Rooms (now lows) (now highs) (now spare) ⌝ }
+    requires { ⌜ Running from (now lows) (now highs) pass ⌝ }
+    requires { ⌜ next .low ≤ next .high ⌝ }
+    ensures { λ r. ⌜ TakenIn from next (now (lows .entry)) (now (highs .entry)) pass (now (lows .exit))
+        (now (highs .exit)) r ⌝ }
+{
+    if next.high <= from {
+        return pass;
+    }
+    if pass.to <= next.low {
+        return pass;
+    }
+    let run = Stretch {
+        low: pass.low,
+        high: pass.high,
+    };
+    if touch(run, next) {
+        return Pass {
+            used: pass.used,
+            to: pass.to,
+            low: lesser(run.low, next.low),
+            high: greater(run.high, next.high),
+        };
+    }
+    let store = Store {
+        used: pass.used,
+        to: pass.to,
+    };
+    let more = put(lows, highs, spare, store, from, run);
+    Pass {
+        used: more.used,
+        to: more.to,
+        low: next.low,
+        high: next.high,
+    }
+}
+
+// Takes the stretches of all rows in, in a window from `from` on.
+fn pass_over(
+    table: &[u32],
+    side: Side,
+    from: u64,
+    lows: &mut [u64],
+    highs: &mut [u64],
+    spare: &mut [u64],
+) -> Pass
+    requires { ⌜ Rooms (now lows) (now highs) (now spare) ⌝ }
+    requires { ⌜ from < end ⌝ }
+    ensures { λ r. ⌜ Passed side (rowsOf (now (table .entry))) from (now (lows .exit)) (now (highs .exit)) r ⌝ }
+{
+    let rows = row_count(table);
+    let mut pass = Pass {
+        used: 0,
+        to: END,
+        low: from,
+        high: from,
+    };
+    let mut k: usize = 0;
+    while k < rows {
+        let next = stretch_at(table, k, side);
+        pass = take_in(lows, highs, spare, pass, from, next);
+        k += 1;
+    }
+    pass
+}
+
+// Gathers the stretches of all rows in a window from `from` on, as far as there is room.
+fn gather(
+    table: &[u32],
+    side: Side,
+    from: u64,
+    lows: &mut [u64],
+    highs: &mut [u64],
+    spare: &mut [u64],
+) -> Store
+    requires { ⌜ Rooms (now lows) (now highs) (now spare) ⌝ }
+    requires { ⌜ from < end ⌝ }
+    ensures { λ r. ⌜ Gathered side (rowsOf (now (table .entry))) from (now (lows .exit)) (now (highs .exit)) r ⌝ }
+{
+    let pass = pass_over(table, side, from, lows, highs, spare);
+    let store = Store {
+        used: pass.used,
+        to: pass.to,
+    };
+    let run = Stretch {
+        low: pass.low,
+        high: pass.high,
+    };
+    put(lows, highs, spare, store, from, run)
+}
+
+// The letters under stretches whose left ends and right ends rise.
+fn count(lows: &[u64], highs: &[u64]) -> u64
+    requires { ⌜ Paired (now lows) (now highs) ⌝ }
+    ensures { λ r. ⌜ Summed (now (lows .entry)) (now (highs .entry)) r ⌝ }
+{
+    let mut letters: u64 = 0;
+    let mut reach: u64 = 0;
+    let mut k: usize = 0;
+    while k < lows.len() {
+        let high = highs[k];
+        letters += high - greater(lows[k], reach);
+        reach = high;
+        k += 1;
+    }
+    letters
+}
+
+// The letters under stretches in any order.
+fn count_sorted(lows: &mut [u64], highs: &mut [u64], spare: &mut [u64]) -> u64
+    requires { ⌜ Nested (now lows) (now highs) ⌝ }
+    requires { ⌜ length (now lows) ≤ length (now spare) ⌝ }
+    ensures { λ r. ⌜ Summed (now (lows .entry)) (now (highs .entry)) r ⌝ }
+{
+    sort(lows, spare);
+    sort(highs, spare);
+    count(lows, highs)
+}
+
+// Counts the letters of a window from `from` on.
+fn count_window(
+    table: &[u32],
+    side: Side,
+    from: u64,
+    lows: &mut [u64],
+    highs: &mut [u64],
+    spare: &mut [u64],
+) -> Window
+    requires { ⌜ Rooms (now lows) (now highs) (now spare) ⌝ }
+    requires { ⌜ from < end ⌝ }
+    ensures { λ r. ⌜ Counted side (rowsOf (now (table .entry))) from r ⌝ }
+{
+    let store = gather(table, side, from, lows, highs, spare);
+    let used = store.used;
+    let letters = count_sorted(&mut lows[..used], &mut highs[..used], spare);
+    Window {
+        letters,
+        to: store.to,
+    }
+}
+
+fn count_with_few(table: &[u32], side: Side, from: u64) -> Window
+    requires { ⌜ from < end ⌝ }
+    ensures { λ r. ⌜ Counted side (rowsOf (now (table .entry))) from r ⌝ }
+{
+    let mut lows = [0u64; FEW];
+    let mut highs = [0u64; FEW];
+    let mut spare = [0u64; FEW];
+    count_window(table, side, from, &mut lows[..], &mut highs[..], &mut spare[..])
+}
+
+fn count_with_some(table: &[u32], side: Side, from: u64) -> Window
+    requires { ⌜ from < end ⌝ }
+    ensures { λ r. ⌜ Counted side (rowsOf (now (table .entry))) from r ⌝ }
+{
+    let mut lows = [0u64; SOME];
+    let mut highs = [0u64; SOME];
+    let mut spare = [0u64; SOME];
+    count_window(table, side, from, &mut lows[..], &mut highs[..], &mut spare[..])
+}
+
+fn count_with_many(table: &[u32], side: Side, from: u64) -> Window
+    requires { ⌜ from < end ⌝ }
+    ensures { λ r. ⌜ Counted side (rowsOf (now (table .entry))) from r ⌝ }
+{
+    let mut lows = [0u64; MANY];
+    let mut highs = [0u64; MANY];
+    let mut spare = [0u64; MANY];
+    count_window(table, side, from, &mut lows[..], &mut highs[..], &mut spare[..])
+}
+
+// A short table is not worth large arrays, and what refining made is one window of the next size.
+fn count_first(table: &[u32], side: Side) -> Window
+    ensures { λ r. ⌜ Counted side (rowsOf (now (table .entry))) 0 r ⌝ }
+{
+    if row_count(table) <= FEW {
+        return count_with_few(table, side, 0);
+    }
+    count_with_some(table, side, 0)
+}
+
+// Counts window by window.
+pub fn cover_of(table: &[u32], side: Side) -> u64
+    ensures { λ r. ⌜ r ≡ coverOf side (rowsOf (now (table .entry))) ⌝ }
+{
+    let first = count_first(table, side);
+    let mut letters = first.letters;
+    let mut from = first.to;
+    while from < END {
+        let next = count_with_many(table, side, from);
+        letters += next.letters;
+        from = next.to;
+    }
+    letters
+}
