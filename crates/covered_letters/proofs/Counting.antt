@@ -1,7 +1,6 @@
 -- Windows counted one after the other.
 --     held-nested, held-room     what is gathered can be sorted and summed up
---     sorted-summed      sorted, it has the same sum
---     window-counted     which is the letters covered in the window
+--     window-counted     and the sum is the letters covered in the window
 --     counted-first, counted-next     the letters before the end of a window
 --     counted-fits       their sum fits
 --     cover-counted      behind the last window, all letters covered
@@ -11,7 +10,6 @@ use mathlib.Core.Bool.{true, false}
 use mathlib.Core.Path.{_≡_, refl, sym, _∙_}
 use mathlib.Core.List.{List}
 use native.Mathlib.Omega.{arith}
-use borrow.Author.Tests.{le-ltb}
 use lib.ListN.{length, getD, take}
 use lib.Seq.{length-take-le}
 use Rattle.refinement.specs.declared.Side.{Side}
@@ -21,12 +19,13 @@ use Rattle.rows.specs.declared.Row.{Row}
 use Rattle.table.specs.Covering.{rightOf, coverOf}
 use Rattle.table.specs.Tally.{isCovered, tally}
 use Rattle.table.proofs.Pieces.{false-of}
-use Rattle.table.proofs.Tally.{tally-agrees, tally-between, tally-empty, tally-at-most}
+use Rattle.table.proofs.Tally.{tally-between, tally-empty, tally-at-most}
 use Rattle.table.proofs.Covers.{covered-iff, cover-tally}
 use Rattle.table.proofs.Laws.{table-ends}
-use Rattle.sorted_numbers.specs.Ranks.{rank, Sorted}
-use Rattle.covered_letters.specs.Windows.{end, under, Nested, Held, Gathered, Summed, Counted}
-use Rattle.covered_letters.specs.declared.Store.{Store}
+use Rattle.stretches.specs.Stores.{under, Nested, Held, Summed}
+use Rattle.covered_letters.specs.Windows.{end, Gathered, Counted}
+use Rattle.stretches.specs.declared.Store.{Store}
+use Rattle.stretches.proofs.Adding.{stored-before}
 use Rattle.covered_letters.specs.declared.Window.{Window}
 
 pub held-nested : {from : ℕ} {lows highs : List ℕ} {store : Store} → Held from lows highs store
@@ -41,18 +40,6 @@ pub held-room : {from n : ℕ} {lows highs : List ℕ} {store : Store} → Held 
 held-room {lows = lows} {store = store} held room =
     omega (arith, held .room, length-take-le (store .used) lows (held .room))
 
-pub sorted-summed : {L H xs ys : List ℕ} {letters : ℕ} → Sorted L xs → Sorted H ys → Summed xs ys letters
-    → Summed L H letters
-sorted-summed {L} {H} {xs} {ys} low high sum =
-    record {
-      summed = λ last none.
-          sum .summed last (λ h l. alike h ∙ none h l)
-          ∙ tally-agrees (under xs ys) (under L H) last (λ h l. alike h);
-    }
-  where
-    alike : (h : ℕ) → under xs ys h ≡ under L H h
-    alike h = rw (low .ranks h, high .ranks h)
-
 pub window-counted : {s : Side} {rs : List Row} {from letters : ℕ} {lows highs : List ℕ} {store : Store}
     → Gathered s rs from lows highs store → Summed (take (store .used) lows) (take (store .used) highs) letters
     → Counted s rs from (record { letters = letters; to = store .to })
@@ -61,8 +48,7 @@ window-counted {s} {rs} {from} {lows = lows} {highs = highs} {store = store} g s
     let ys = take (store .used) highs in
     let stored = g .held .stored in
     let all = sum .summed (store .to) (stored .none-behind) in
-    let none = tally-empty (under xs ys) from (λ h l.
-    le-ltb (rank h ys) (rank h xs) (omega (arith, stored .none-before h l))) in
+    let none = tally-empty (under xs ys) from (stored-before stored) in
     let onward : from ≤ store .to = omega (arith, g .held .onward) in
     let between = tally-between (isCovered s rs) (under xs ys) from (store .to) onward
     (λ h l l′. sym (g .all h l l′)) in

@@ -26,13 +26,12 @@ use Rattle.table.specs.Tally.{within, isCovered}
 use Rattle.table.proofs.Pieces.{and-left, and-right}
 use Rattle.table.proofs.Covers.{covered-more}
 use Rattle.table.proofs.Tally.{within-true, within-before, within-behind}
-use Rattle.sorted_numbers.specs.Ranks.{rank}
-use Rattle.covered_letters.specs.Windows.{end, StretchOf, Rooms, underStore, Added, storeOf, runOf, underPass}
-use Rattle.covered_letters.specs.Windows.{Running, TakenIn, Passed, Gathered}
-use Rattle.covered_letters.specs.declared.Stretch.{Stretch}
-use Rattle.covered_letters.specs.declared.Store.{Store}
+use Rattle.stretches.specs.Stores.{Rooms, underStore, Added}
+use Rattle.covered_letters.specs.Windows.{end, StretchOf, storeOf, runOf, underPass, Running, TakenIn, Passed, Gathered}
+use Rattle.stretches.specs.declared.Stretch.{Stretch}
+use Rattle.stretches.specs.declared.Store.{Store}
 use Rattle.covered_letters.specs.declared.Pass.{Pass}
-use Rattle.covered_letters.proofs.Adding.{stored-none}
+use Rattle.stretches.proofs.Adding.{stored-none, under-none}
 
 -- two stretches that touch have the letters of one
 joined : (a b l r h : ℕ) → a ≤ b → l ≤ r → l ≤ b → a ≤ r
@@ -152,7 +151,7 @@ pub record Passing (s : Side) (rs : List Row) (from : ℕ) (lows highs : List �
 
 pub passing-starts : (s : Side) (rs : List Row) {from : ℕ} (lows highs : List ℕ) → length highs ≡ length lows
     → from < end → Passing s rs from lows highs (record { used = 0; to = end; low = from; high = from }) 0
-unfolding isCovered rank
+unfolding isCovered
 passing-starts s rs {from} lows highs as-many onward =
     record {
       rows = omega arith;
@@ -161,7 +160,7 @@ passing-starts s rs {from} lows highs as-many onward =
         order = omega arith;
       };
       shorter = omega arith;
-      all = λ h l l′. rw (within-behind from from h l);
+      all = λ h l l′. rw (within-behind from from h l) (under-none h);
     }
 
 pub passing-more : {s : Side} {rs : List Row} {from : ℕ} {lows highs lows′ highs′ : List ℕ} {p p′ : Pass} {k : ℕ}

@@ -1,7 +1,2 @@
-pub mod Under
-pub mod Uniting
-pub mod Summing
-pub mod Adding
-pub mod Room
 pub mod Gathering
 pub mod Counting

@@ -1,24 +1,26 @@
 // The letters that the rows of a table cover on a side, each counted once, without a lent buffer. A pass over the table
-// joins a row's stretch with the next ones while they touch, and gathers the left ends and the right ends of what is
-// joined in two local arrays. Sorted, each array by itself, they tell what is covered: a letter is, if more left ends
-// than right ends lie before it. Where they fill the arrays, stretches that touch become one. Where that does not make
-// room enough, the window of letters that the pass counts is cut short, and the letters behind it are for a later pass.
-// A table that refining made has at most 2,048 stretches to gather, one for each match.
+// joins a row's stretch with the next ones while they touch, and stores what is joined in local arrays. Where there is
+// not room for all, the store has cut the window of letters that the pass counts, and the letters behind it are for a
+// later pass. A table that refining made has at most 2,048 stretches to store, one for each match.
 use refinement::Side;
 use refinement::on_side;
 use rows::row_at;
 use rows::row_count;
-use sorted_numbers::sort;
-ghost use Prim.Native.Nat.{_≤_, _<_, min, max};
+use stretches::Store;
+use stretches::Stretch;
+use stretches::count_sorted;
+use stretches::greater;
+use stretches::lesser;
+use stretches::put;
+ghost use Prim.Native.Nat.{_≤_, _<_};
 ghost use mathlib.Core.Path.{_≡_};
 ghost use mathlib.Core.Bool.{_&&_};
 ghost use lib.ListN.{length};
 ghost use lib.Dec.{leb};
 ghost use Rattle.rows.specs.Rows.{rowsOf, rowAt};
 ghost use Rattle.table.specs.Covering.{coverOf};
-ghost use Rattle.covered_letters.specs.Windows.{end, StretchOf, Paired, Nested, Rooms, Stored, Held};
-ghost use Rattle.covered_letters.specs.Windows.{United, Roomier, Added, Running, TakenIn, Passed, Gathered};
-ghost use Rattle.covered_letters.specs.Windows.{Summed, Counted};
+ghost use Rattle.stretches.specs.Stores.{Rooms};
+ghost use Rattle.covered_letters.specs.Windows.{end, StretchOf, Running, TakenIn, Passed, Gathered, Counted};
 
 // No stretch ends there or behind.
 const END: u64 = 0x2_0000_0000;
@@ -29,18 +31,6 @@ const FEW: usize = 256;
 const SOME: usize = 3072;
 
 const MANY: usize = 6144;
-
-// From `low` up to, not including, `high`.
-pub struct Stretch {
-    pub low: u64,
-    pub high: u64,
-}
-
-// How many stretches are gathered, and where the window of letters ends that they are gathered for.
-pub struct Store {
-    pub used: usize,
-    pub to: u64,
-}
 
 // A pass over the rows: the store, and the run of touching stretches that is not stored yet.
 pub struct Pass {
@@ -54,24 +44,6 @@ pub struct Pass {
 pub struct Window {
     pub letters: u64,
     pub to: u64,
-}
-
-fn lesser(a: u64, b: u64) -> u64
-    ensures { λ r. ⌜ r ≡ min a b ⌝ }
-{
-    if a < b {
-        return a;
-    }
-    b
-}
-
-fn greater(a: u64, b: u64) -> u64
-    ensures { λ r. ⌜ r ≡ max a b ⌝ }
-{
-    if a < b {
-        return b;
-    }
-    a
 }
 
 // The stretch of row k.
@@ -92,98 +64,6 @@ fn touch(a: Stretch, b: Stretch) -> bool
     ensures { λ r. ⌜ r ≡ leb (a .low) (b .high) && leb (b .low) (a .high) ⌝ }
 {
     a.low <= b.high && b.low <= a.high
-}
-
-// Makes one of stretches that touch, of left ends and right ends that rise; says how many are left, at the front.
-fn unite(lows: &mut [u64], highs: &mut [u64]) -> usize
-    requires { ⌜ Paired (now lows) (now highs) ⌝ }
-    requires { ⌜ 0 < length (now lows) ⌝ }
-    ensures { λ r. ⌜ United (now (lows .entry)) (now (highs .entry)) (now (lows .exit)) (now (highs .exit)) r ⌝ }
-{
-    let count = lows.len();
-    let mut used: usize = 1;
-    let mut k: usize = 1;
-    while k < count {
-        let low = lows[k];
-        let high = highs[k];
-        k += 1;
-        if low <= highs[used - 1] {
-            highs[used - 1] = high;
-            continue;
-        }
-        lows[used] = low;
-        highs[used] = high;
-        used += 1;
-    }
-    used
-}
-
-// Makes room in full arrays: unites what touches and, where more than two thirds are left, cuts the window.
-fn make_room(
-    lows: &mut [u64],
-    highs: &mut [u64],
-    spare: &mut [u64],
-    from: u64,
-    to: u64,
-) -> Store
-    requires { ⌜ Rooms (now lows) (now highs) (now spare) ⌝ }
-    requires { ⌜ (from < to) × Stored from to (now lows) (now highs) ⌝ }
-    ensures { λ r. ⌜
-        Roomier from to (now (lows .entry)) (now (highs .entry)) (now (lows .exit)) (now (highs .exit)) r ⌝ }
-{
-    sort(lows, spare);
-    sort(highs, spare);
-    let kept = unite(lows, highs);
-    let most = lows.len() - lows.len() / 3;
-    if kept <= most {
-        return Store { used: kept, to };
-    }
-    Store {
-        used: most,
-        to: lesser(to, lows[most]),
-    }
-}
-
-// Adds what of the stretch lies in the window.
-fn add(lows: &mut [u64], highs: &mut [u64], store: Store, from: u64, stretch: Stretch) -> Store
-    requires { ⌜ Held from (now lows) (now highs) store ⌝ }
-    requires { ⌜ store .used < length (now lows) ⌝ }
-    ensures { λ r. ⌜ Added from stretch (now (lows .entry)) (now (highs .entry)) store (now (lows .exit))
-        (now (highs .exit)) r ⌝ }
-{
-    let used = store.used;
-    let low = greater(stretch.low, from);
-    let high = lesser(stretch.high, store.to);
-    if high <= low {
-        return store;
-    }
-    lows[used] = low;
-    highs[used] = high;
-    Store {
-        used: used + 1,
-        to: store.to,
-    }
-}
-
-// The same, where the arrays may be full.
-fn put(
-    lows: &mut [u64],
-    highs: &mut [u64],
-    spare: &mut [u64],
-    store: Store,
-    from: u64,
-    stretch: Stretch,
-) -> Store
-    requires { ⌜ Rooms (now lows) (now highs) (now spare) ⌝ }
-    requires { ⌜ Held from (now lows) (now highs) store ⌝ }
-    ensures { λ r. ⌜ Added from stretch (now (lows .entry)) (now (highs .entry)) store (now (lows .exit))
-        (now (highs .exit)) r ⌝ }
-{
-    if store.used < lows.len() {
-        return add(lows, highs, store, from, stretch);
-    }
-    let roomier = make_room(lows, highs, spare, from, store.to);
-    add(lows, highs, roomier, from, stretch)
 }
 
 // Takes one more stretch in: one that touches the run makes it longer, and another begins the next run.
@@ -284,34 +164,6 @@ fn gather(
         high: pass.high,
     };
     put(lows, highs, spare, store, from, run)
-}
-
-// The letters under stretches whose left ends and right ends rise.
-fn count(lows: &[u64], highs: &[u64]) -> u64
-    requires { ⌜ Paired (now lows) (now highs) ⌝ }
-    ensures { λ r. ⌜ Summed (now (lows .entry)) (now (highs .entry)) r ⌝ }
-{
-    let mut letters: u64 = 0;
-    let mut reach: u64 = 0;
-    let mut k: usize = 0;
-    while k < lows.len() {
-        let high = highs[k];
-        letters += high - greater(lows[k], reach);
-        reach = high;
-        k += 1;
-    }
-    letters
-}
-
-// The letters under stretches in any order.
-fn count_sorted(lows: &mut [u64], highs: &mut [u64], spare: &mut [u64]) -> u64
-    requires { ⌜ Nested (now lows) (now highs) ⌝ }
-    requires { ⌜ length (now lows) ≤ length (now spare) ⌝ }
-    ensures { λ r. ⌜ Summed (now (lows .entry)) (now (highs .entry)) r ⌝ }
-{
-    sort(lows, spare);
-    sort(highs, spare);
-    count(lows, highs)
 }
 
 // Counts the letters of a window from `from` on.

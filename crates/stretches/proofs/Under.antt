@@ -21,7 +21,7 @@ use Rattle.table.specs.Tally.{within}
 use Rattle.table.proofs.Tally.{within-true, within-before, within-behind}
 use Rattle.sorted_numbers.specs.Ranks.{rank, Rises}
 use Rattle.sorted_numbers.proofs.Ranks.{rank-append, rank-all, rank-none, rank-at-most}
-use Rattle.covered_letters.specs.Windows.{under, Paired, Nested}
+use Rattle.stretches.specs.Stores.{under, Paired, Nested}
 
 -- ---- ranks
 

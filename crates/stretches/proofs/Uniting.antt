@@ -19,8 +19,8 @@ use lib.ListN.{length, getD, take, set, length-set}
 use lib.Dec.{ltb}
 use lib.Seq.{length-take-le, take-all, take-suc, take-suc-set, take-set-le, getD-take, getD-set-same, getD-set-other}
 use Rattle.sorted_numbers.specs.Ranks.{rank}
-use Rattle.covered_letters.specs.Windows.{under, Paired, Apart, United}
-use Rattle.covered_letters.proofs.Under.{rank-last, under-last}
+use Rattle.stretches.specs.Stores.{under, Paired, Apart, United}
+use Rattle.stretches.proofs.Under.{rank-last, under-last}
 
 pub record Uniting (L H lows highs : List ℕ) (used k : ℕ) : Type 0 where
   pub some : 0 < used

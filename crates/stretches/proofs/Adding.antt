@@ -1,5 +1,6 @@
 -- A stretch added to a store, clipped to the window.
---     stored-none                   a store of nothing
+--     stored-none, under-none       a store of nothing
+--     stored-before                 nothing is under it before its window
 --     added-none, added-one         no letter of it lies in the window; some do
 --     full-stored                   what full arrays hold
 --     roomier-held, added-roomier   the same after room was made
@@ -11,17 +12,17 @@ use mathlib.Core.List.{List, [], _∷_, _++_}
 use native.Mathlib.Omega.{arith}
 use native.Mathlib.Decide.{decLt, decLe}
 use native.Mathlib.Nat.{le-max-left, le-max-right, max-le, min-le-left, min-le-right, le-min}
-use borrow.Author.Tests.{lt-leb, le-leb}
+use borrow.Author.Tests.{lt-leb, le-leb, le-ltb}
 use lib.ListN.{length, take, set, length-set}
 use lib.Seq.{take-all}
 use Rattle.table.specs.Tally.{within}
 use Rattle.table.proofs.Tally.{within-true, within-before, within-behind}
 use Rattle.sorted_numbers.specs.Ranks.{rank}
-use Rattle.covered_letters.specs.Windows.{under, Stored, Held, Roomier, Added}
-use Rattle.covered_letters.specs.declared.Stretch.{Stretch}
-use Rattle.covered_letters.specs.declared.Store.{Store}
-use Rattle.covered_letters.proofs.Under.{rank-last, under-more}
-use Rattle.covered_letters.proofs.Uniting.{take-set-next}
+use Rattle.stretches.specs.Stores.{under, Stored, Held, Roomier, Added}
+use Rattle.stretches.specs.declared.Stretch.{Stretch}
+use Rattle.stretches.specs.declared.Store.{Store}
+use Rattle.stretches.proofs.Under.{rank-last, under-more}
+use Rattle.stretches.proofs.Uniting.{take-set-next}
 
 -- in the window a stretch and what is left of it have the same letters
 clipped : (a b from to h : ℕ) → from ≤ h → h < to → within (max a from) (min b to) h ≡ within a b h
@@ -45,6 +46,13 @@ pub stored-none : (from to : ℕ) → Stored from to [] []
 unfolding rank
 stored-none from to =
     record { nested = λ h. omega arith; none-before = λ h l. refl; none-behind = λ h l. refl }
+
+pub under-none : (h : ℕ) → under [] [] h ≡ false
+unfolding rank
+under-none h = refl
+
+pub stored-before : {from to : ℕ} {xs ys : List ℕ} → Stored from to xs ys → (h : ℕ) → h < from → under xs ys h ≡ false
+stored-before {xs = xs} {ys = ys} s h l = le-ltb (rank h ys) (rank h xs) (omega (arith, s .none-before h l))
 
 stored-more : {from to : ℕ} {xs ys : List ℕ} → Stored from to xs ys → (a b : ℕ) → from ≤ a → a < b → b ≤ to
     → Stored from to (xs ++ a ∷ []) (ys ++ b ∷ [])

@@ -1,9 +1,9 @@
 -- `count_sorted` meets its contract: sorted, the stretches have the same letters. Assumes nothing.
 use borrow.Author.Needs.{needs}
-use Rattle.covered_letters.proofs.Room.{sorted-pairs}
-use Rattle.covered_letters.proofs.Counting.{sorted-summed}
-use Rattle.covered_letters.proofs.count_sorted.Statement.{statement}
-use Rattle.covered_letters.proofs.count_sorted.Tie as tie
+use Rattle.stretches.proofs.Room.{sorted-pairs}
+use Rattle.stretches.proofs.Summing.{sorted-summed}
+use Rattle.stretches.proofs.count_sorted.Statement.{statement}
+use Rattle.stretches.proofs.count_sorted.Tie as tie
 
 sort-requires : tie.Need-sort-requires
 sort-requires c κs = search needs

@@ -2,10 +2,10 @@
 -- cut. Assumes nothing.
 use borrow.Author.Needs.{needs}
 use native.Mathlib.Omega.{arith}
-use Rattle.covered_letters.proofs.Room.{stored-nested, sorted-pairs, sorted-stored, sorted-roomier}
-use Rattle.covered_letters.proofs.Room.{room-enough, room-cut}
-use Rattle.covered_letters.proofs.make_room.Statement.{statement}
-use Rattle.covered_letters.proofs.make_room.Tie as tie
+use Rattle.stretches.proofs.Room.{stored-nested, sorted-pairs, sorted-stored, sorted-roomier}
+use Rattle.stretches.proofs.Room.{room-enough, room-cut}
+use Rattle.stretches.proofs.make_room.Statement.{statement}
+use Rattle.stretches.proofs.make_room.Tie as tie
 
 sort-requires : tie.Need-sort-requires
 sort-requires c κs = search needs

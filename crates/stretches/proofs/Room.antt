@@ -17,10 +17,10 @@ use lib.ListN.{length, getD, take, drop, length-drop}
 use lib.Seq.{length-take-le, getD-take, getD-drop, take-take}
 use Rattle.sorted_numbers.specs.Ranks.{rank, Sorted}
 use Rattle.sorted_numbers.proofs.Ranks.{rank-all, rank-none, rank-at-most}
-use Rattle.covered_letters.specs.Windows.{under, Paired, Nested, Stored, United, Roomier}
-use Rattle.covered_letters.specs.declared.Store.{Store}
-use Rattle.covered_letters.proofs.Under.{rank-parts, pairs-nested, nested-pairs}
-use Rattle.covered_letters.proofs.Uniting.{all-apart}
+use Rattle.stretches.specs.Stores.{under, Paired, Nested, Stored, United, Roomier}
+use Rattle.stretches.specs.declared.Store.{Store}
+use Rattle.stretches.proofs.Under.{rank-parts, pairs-nested, nested-pairs}
+use Rattle.stretches.proofs.Uniting.{all-apart}
 
 -- ---- sorted
 

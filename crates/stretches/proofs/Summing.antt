@@ -4,6 +4,7 @@
 --     summing-order, summing-fits   what of one more lies behind `reach` can be worked out
 --     summing-more                  and is added
 --     summing-all                   behind the last
+--     sorted-summed                 sorted or not, the stretches have the same letters
 -- Assumes nothing.
 use Prim.Native.Nat.{ℕ, _+_, _-_, _≤_, _<_, max}
 use mathlib.Core.Bool.{true, false}
@@ -17,10 +18,10 @@ use lib.ListN.{length, getD, take}
 use lib.Seq.{length-take-le, take-all, getD-take}
 use Rattle.table.specs.Tally.{tally}
 use Rattle.table.proofs.Tally.{tally-agrees, tally-none, tally-all, tally-at-most}
-use Rattle.sorted_numbers.specs.Ranks.{rank}
+use Rattle.sorted_numbers.specs.Ranks.{rank, Sorted}
 use Rattle.sorted_numbers.proofs.Ranks.{rank-all, rank-at-most}
-use Rattle.covered_letters.specs.Windows.{under, Paired, Summed}
-use Rattle.covered_letters.proofs.Uniting.{under-next}
+use Rattle.stretches.specs.Stores.{under, Paired, Summed}
+use Rattle.stretches.proofs.Uniting.{under-next}
 
 pub record Summing (L H : List ℕ) (letters reach k : ℕ) : Type 0 where
   pub within : k ≤ length L
@@ -134,3 +135,17 @@ module _ {L H : List ℕ} (p : Paired L H) {letters reach k : ℕ} (s : Summing 
 
       whole-sum : letters ≡ tally (under L H) reach
       whole-sum = rw (whole, whole′) at (s .sum)
+
+-- ---- in any order
+
+pub sorted-summed : {L H xs ys : List ℕ} {letters : ℕ} → Sorted L xs → Sorted H ys → Summed xs ys letters
+    → Summed L H letters
+sorted-summed {L} {H} {xs} {ys} low high sum =
+    record {
+      summed = λ last none.
+          sum .summed last (λ h l. alike h ∙ none h l)
+          ∙ tally-agrees (under xs ys) (under L H) last (λ h l. alike h);
+    }
+  where
+    alike : (h : ℕ) → under xs ys h ≡ under L H h
+    alike h = rw (low .ranks h, high .ranks h)

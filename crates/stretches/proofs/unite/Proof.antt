@@ -3,9 +3,9 @@ use Prim.Native.Nat.{_-_}
 use mathlib.Core.Path.{refl}
 use native.Mathlib.Omega.{arith}
 use borrow.Author.Needs.{needs}
-use Rattle.covered_letters.proofs.Uniting.{Uniting, uniting-starts, uniting-joined, uniting-apart, uniting-all}
-use Rattle.covered_letters.proofs.unite.Statement.{statement}
-use Rattle.covered_letters.proofs.unite.Tie as tie
+use Rattle.stretches.proofs.Uniting.{Uniting, uniting-starts, uniting-joined, uniting-apart, uniting-all}
+use Rattle.stretches.proofs.unite.Statement.{statement}
+use Rattle.stretches.proofs.unite.Tie as tie
 
 abbrev Inv-loop : tie.InvT-loop
 Inv-loop lows₀ highs₀ count used₀ k₀ lows highs used k = Uniting lows₀ highs₀ lows highs used k

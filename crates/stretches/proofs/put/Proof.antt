@@ -2,10 +2,10 @@
 use Prim.Native.Nat.{_≤_}
 use native.Mathlib.Omega.{arith}
 use lib.ListN.{length}
-use Rattle.covered_letters.proofs.Adding.{full-stored, roomier-held, added-roomier}
+use Rattle.stretches.proofs.Adding.{full-stored, roomier-held, added-roomier}
 use borrow.Author.Needs.{needs}
-use Rattle.covered_letters.proofs.put.Statement.{statement}
-use Rattle.covered_letters.proofs.put.Tie as tie
+use Rattle.stretches.proofs.put.Statement.{statement}
+use Rattle.stretches.proofs.put.Tie as tie
 
 add-requires : tie.Need-add-requires
 add-requires c κs = search needs

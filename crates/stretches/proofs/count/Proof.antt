@@ -3,10 +3,10 @@ use Prim.Native.Nat.{_-_}
 use native.Mathlib.Omega.{arith}
 use borrow.Author.Needs.{needs}
 use lib.ListN.{length}
-use Rattle.covered_letters.proofs.Summing.{Summing, summing-starts, summing-order, summing-fits}
-use Rattle.covered_letters.proofs.Summing.{summing-more, summing-all}
-use Rattle.covered_letters.proofs.count.Statement.{statement}
-use Rattle.covered_letters.proofs.count.Tie as tie
+use Rattle.stretches.proofs.Summing.{Summing, summing-starts, summing-order, summing-fits}
+use Rattle.stretches.proofs.Summing.{summing-more, summing-all}
+use Rattle.stretches.proofs.count.Statement.{statement}
+use Rattle.stretches.proofs.count.Tie as tie
 
 abbrev Inv-loop : tie.InvT-loop
 Inv-loop lows highs letters₀ reach₀ k₀ letters reach k = Summing lows highs letters reach k

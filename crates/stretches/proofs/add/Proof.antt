@@ -1,9 +1,9 @@
 -- `add` meets its contract: what is left of the stretch has letters, or none. Assumes nothing.
 use borrow.Author.Needs.{needs}
 use native.Mathlib.Omega.{arith}
-use Rattle.covered_letters.proofs.Adding.{added-none, added-one}
-use Rattle.covered_letters.proofs.add.Statement.{statement}
-use Rattle.covered_letters.proofs.add.Tie as tie
+use Rattle.stretches.proofs.Adding.{added-none, added-one}
+use Rattle.stretches.proofs.add.Statement.{statement}
+use Rattle.stretches.proofs.add.Tie as tie
 
 greater-requires : tie.Need-greater-requires
 greater-requires c κs = search needs

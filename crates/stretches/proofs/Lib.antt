@@ -1,0 +1,5 @@
+pub mod Under
+pub mod Uniting
+pub mod Summing
+pub mod Adding
+pub mod Room
