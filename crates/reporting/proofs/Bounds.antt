@@ -14,7 +14,7 @@ use lib.Dec.{eqb}
 use lib.ListN.{length, length-append}
 use Rattle.script.specs.declared.refusal.Refusal.{Refusal}
 use Rattle.script.specs.Refusals.{numberOf, placeOf}
-use Rattle.table.specs.Summing.{classCount, summaryOfRows}
+use Rattle.table.specs.Summing.{classCount, coveredA, coveredB, summaryOfRows}
 use Rattle.rows.specs.declared.Row.{Row}
 use Rattle.table.specs.declared.summing.Summary.{Summary}
 use Rattle.table.proofs.Sums.{classes-length}
@@ -29,7 +29,7 @@ refusal-text-short r = simp length-append (omega (arith, decimal-short (numberOf
 pub lengths-line-short : (p q : ℕ) → length (lengthsLine p q) ≤ 50
 lengths-line-short p q = simp length-append (omega (arith, decimal-short p, decimal-short q))
 
-pub summary-line-short : (count : ℕ) (s : Summary) → length (summaryLine count s) ≤ 116
+pub summary-line-short : (count : ℕ) (s : Summary) → length (summaryLine count s) ≤ 136
 summary-line-short count s =
     simp length-append
     (omega (
@@ -37,7 +37,8 @@ summary-line-short count s =
       decimal-short count,
       decimal-short (s .pieces),
       decimal-short (s .distinct),
-      decimal-short (s .letters),
+      decimal-short (coveredA s),
+      decimal-short (coveredB s),
     ))
 
 pub row-line-short : (r : Row) → length (rowLine r) ≤ 86
@@ -73,7 +74,7 @@ class-lines-short c (n ∷ ns) =
 length-parts : (a b c d : List ℕ) → length (a ++ b ++ c ++ d) ≡ length a + length b + length c + length d
 length-parts a b c d = simp length-append
 
-pub table-text-short : (p q count : ℕ) (rs : List Row) → length (tableText p q count rs) ≤ 1606 + 86 * length rs
+pub table-text-short : (p q count : ℕ) (rs : List Row) → length (tableText p q count rs) ≤ 1626 + 86 * length rs
 table-text-short p q count rs =
     let s = summaryOfRows rs in
     omega (

@@ -1,9 +1,9 @@
 pub mod Examples
 pub mod Bounds
 pub mod LeastRows
-pub mod Letters
 pub mod Fits
 pub mod Lent
+pub mod Own
 pub mod Prefix
 pub mod Room
 pub mod ReadBack

@@ -15,11 +15,12 @@ use lib.Seq.{getD-drop}
 use lib.Dec.{eqb}
 use Rattle.script.specs.Refusals.{numberOf, placeOf}
 use Rattle.script.specs.declared.refusal.Refusal.{Refusal}
+use Rattle.refinement.specs.declared.Side.the-variants.{A, B}
 use Rattle.rows.specs.Rows.{rowWidth, rowOf, firstRows, rowsOf}
-use Rattle.table.specs.Summing.{classCount, summaryOf}
+use Rattle.table.specs.Summing.{classCount, coveredA, coveredB, summaryOf}
 use Rattle.rows.specs.declared.Row.{Row}
 use Rattle.table.specs.declared.summing.Summary.{Summary}
-use Rattle.table.proofs.Laws.{sumOf, distinct-inside, classes-inside}
+use Rattle.table.proofs.Laws.{sumOf, distinct-inside, classes-inside, covers-fit}
 use Rattle.table.proofs.Sums.{classes-length}
 use Rattle.rows.proofs.TableRows.{rows-length}
 use Rattle.text.specs.Decimal.{decimal}
@@ -50,9 +51,9 @@ module _ (rest : List ℕ) {ns : List ℕ} (later : shown rest ≡ ns) where
       ∙ ap (λ (l : List ℕ). p ∷ l) (shown-decimal q _ 10 hq (omega arith) ∙ ap (λ (l : List ℕ). q ∷ l) later))
 
   summary-shown : (count : ℕ) (s : Summary) → count < 2 ^ 64 → s .pieces < 2 ^ 64 → s .distinct < 2 ^ 64
-      → s .letters < 2 ^ 64
-      → shown (summaryLine count s ++ rest) ≡ count ∷ s .pieces ∷ s .distinct ∷ s .letters ∷ ns
-  summary-shown count s a b c d =
+      → coveredA s < 2 ^ 64 → coveredB s < 2 ^ 64
+      → shown (summaryLine count s ++ rest) ≡ count ∷ s .pieces ∷ s .distinct ∷ coveredA s ∷ coveredB s ∷ ns
+  summary-shown count s a b c d e =
       simp append-assoc
       (shown-decimal count _ 32 a (omega arith)
       ∙ ap (λ (l : List ℕ). count ∷ l)
@@ -60,7 +61,9 @@ module _ (rest : List ℕ) {ns : List ℕ} (later : shown rest ≡ ns) where
       ∙ ap (λ (l : List ℕ). s .pieces ∷ l)
       (shown-decimal (s .distinct) _ 32 c (omega arith)
       ∙ ap (λ (l : List ℕ). s .distinct ∷ l)
-      (shown-decimal (s .letters) _ 10 d (omega arith) ∙ ap (λ (l : List ℕ). s .letters ∷ l) later))))
+      (shown-decimal (coveredA s) _ 32 d (omega arith)
+      ∙ ap (λ (l : List ℕ). coveredA s ∷ l)
+      (shown-decimal (coveredB s) _ 10 e (omega arith) ∙ ap (λ (l : List ℕ). coveredB s ∷ l) later)))))
 
   sign-shown : (plus : Bool) → shown (cond plus 43 45 ∷ 10 ∷ rest) ≡ ns
   sign-shown true = later
@@ -118,9 +121,9 @@ parts a b c d = simp append-assoc
 
 pub table-shown :
     (p q count : ℕ) (t : List ℕ) → p < 2 ^ 64 → q < 2 ^ 64 → count < 2 ^ 64 → length t < 2 ^ 64
-    → ((k : ℕ) → getD t k 0 < 2 ^ 64)
+    → ((k : ℕ) → getD t k 0 < 2 ^ 32)
     → shown (tableText p q count (rowsOf t))
-    ≡ p ∷ q ∷ count ∷ summaryOf t .pieces ∷ summaryOf t .distinct ∷ summaryOf t .letters
+    ≡ p ∷ q ∷ count ∷ summaryOf t .pieces ∷ summaryOf t .distinct ∷ coveredA (summaryOf t) ∷ coveredB (summaryOf t)
     ∷ firstFours (length t / 5) t ++ classesShown 0 (summaryOf t .classes)
 table-shown p q count t hp hq hcount small fits =
     let s = summaryOf t in
@@ -128,10 +131,11 @@ table-shown p q count t hp hq hcount small fits =
     let classes = classes-shown 0 (s .classes) (omega (arith, classes-length classCount 0 (rowsOf t)))
     (omega (arith, classes-inside t)) in
     let below = classLines 0 (s .classes) in
-    let rows = all-rows-shown t below fits classes in
+    let rows = all-rows-shown t below (λ k. omega (arith, fits k)) classes in
     let middle = rowLines (rowsOf t) ++ below in
     let counts =
-    summary-shown middle rows count s hcount (omega arith) (omega (arith, distinct-inside t)) (omega arith) in
+    summary-shown middle rows count s hcount (omega arith) (omega (arith, distinct-inside t))
+    (omega (arith, covers-fit A t fits)) (omega (arith, covers-fit B t fits)) in
     ap shown (parts (lengthsLine p q) (summaryLine count s) (rowLines (rowsOf t)) below)
     ∙ lengths-shown (summaryLine count s ++ middle) counts p q hp hq
 

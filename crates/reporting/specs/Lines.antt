@@ -11,7 +11,7 @@ use mathlib.Core.List.{List, [], _∷_, _++_}
 use lib.Dec.{eqb}
 use Rattle.script.specs.Refusals.{numberOf, placeOf}
 use Rattle.script.specs.declared.refusal.Refusal.{Refusal}
-use Rattle.table.specs.Summing.{summaryOfRows}
+use Rattle.table.specs.Summing.{coveredA, coveredB, summaryOfRows}
 use Rattle.rows.specs.declared.Row.{Row}
 use Rattle.table.specs.declared.summing.Summary.{Summary}
 use Rattle.text.specs.Decimal.{decimal}
@@ -34,9 +34,9 @@ pieces = 112 ∷ 105 ∷ 101 ∷ 99 ∷ 101 ∷ 115 ∷ []
 abbrev pub distinct : List ℕ
 distinct = 100 ∷ 105 ∷ 115 ∷ 116 ∷ 105 ∷ 110 ∷ 99 ∷ 116 ∷ []
 
--- "letters"
-abbrev pub letters : List ℕ
-letters = 108 ∷ 101 ∷ 116 ∷ 116 ∷ 101 ∷ 114 ∷ 115 ∷ []
+-- "covers"
+abbrev pub covers : List ℕ
+covers = 99 ∷ 111 ∷ 118 ∷ 101 ∷ 114 ∷ 115 ∷ []
 
 -- "class"
 abbrev pub class : List ℕ
@@ -76,8 +76,9 @@ summaryLine count s =
     ∷ decimal (s .pieces)
     ∷ distinct
     ∷ decimal (s .distinct)
-    ∷ letters
-    ∷ decimal (s .letters)
+    ∷ covers
+    ∷ decimal (coveredA s)
+    ∷ decimal (coveredB s)
     ∷ [])
 
 -- SCOPE, "Text": the line of a row

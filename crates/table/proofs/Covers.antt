@@ -3,6 +3,7 @@
 --     covered-more                 the test with one more row
 --     cover-tally                  what is worked out by hand, as a tally of the test
 --     cover-counted, letters-once  so it is the number of letters in at least one row's stretch, on each side
+--     counted-alike                letters that are told by another test as well are as many
 --     covers-same                  rows that cover the same letters cover as many ..
 --     cover-order                  .. and so do the same rows in every order
 --     cover-at-most                no more letters than lie before the furthest right end
@@ -75,6 +76,17 @@ parted-numbers h₀ l e h b before =
                 ]
           ]
     ]
+
+-- letters such that P are letters such that Q, and the other way round
+pub counted-alike : {P Q : ℕ → Type 0} {n : ℕ} → ((h : ℕ) → P h ↔ Q h) → CountedOnce P n → CountedOnce Q n
+counted-alike same c =
+    record {
+      letters = c .letters;
+      once = c .once;
+      just = λ h. (λ i. same h .0 (c .just h .0 i), λ o. c .just h .1 (same h .1 o));
+      many = c .many;
+      every = λ hs once just. c .every hs once (λ h. (λ i. same h .1 (just h .0 i), λ o. just h .1 (same h .0 o)));
+    }
 
 module _ (s : Side) where
   -- ---- the test
@@ -208,11 +220,8 @@ module _ (s : Side) where
 
   pub covers-same : (rs ss : List Row) → ((h : ℕ) → Covered s rs h ↔ Covered s ss h) → coverOf s rs ≡ coverOf s ss
   covers-same rs ss same =
-      let c = cover-counted rs in
-      let just : (h : ℕ) → (h ∈ c .letters) ↔ Covered s ss h =
-      λ h. (λ i. same h .0 (c .just h .0 i), λ o. c .just h .1 (same h .1 o))
-      in
-      sym (c .many) ∙ cover-counted ss .every (c .letters) (c .once) just
+      let c = counted-alike same (cover-counted rs) in
+      sym (c .many) ∙ cover-counted ss .every (c .letters) (c .once) (c .just)
 
   covered-order : {rs ss : List Row} → List·Permᴰ rs ss → (h : ℕ) → isCovered s rs h ≡ isCovered s ss h
   unfolding isCovered
