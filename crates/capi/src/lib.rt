@@ -287,7 +287,7 @@ pub extern "C" fn notchergrey_summary(
     table: &[u32],
     pieces: &mut usize,
     distinct: &mut usize,
-    letters: &mut u64,
+    covers: &mut [u64; 2],
     classes: &mut [usize; CLASSES],
 ) -> u32
     ensures { λ r. ⌜
@@ -295,7 +295,7 @@ pub extern "C" fn notchergrey_summary(
           number = r;
           pieces = now (pieces .exit);
           distinct = now (distinct .exit);
-          letters = now (letters .exit);
+          covers = now (covers .exit);
           classes = now (classes .exit);
         }
         ≡ summaryDoor (now (table .entry)) ⌝ }
@@ -303,7 +303,8 @@ pub extern "C" fn notchergrey_summary(
     let summary = sum_up(table);
     *pieces = summary.pieces;
     *distinct = summary.distinct;
-    *letters = summary.letters;
+    let letters = summary.covers;
+    *covers = letters;
     let counts = summary.classes;
     *classes = counts;
     0

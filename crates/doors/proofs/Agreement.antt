@@ -204,7 +204,7 @@ rows-heard t n =
     rw size refl
 
 summary-heard : (t : List ℕ) → let x = summaryDoor t in
-    record { pieces = x .pieces; distinct = x .distinct; letters = x .letters; classes = x .classes } ≡ summaryOf t
+    record { pieces = x .pieces; distinct = x .distinct; covers = x .covers; classes = x .classes } ≡ summaryOf t
 summary-heard t = refl
 
 -- ---- the door for the text

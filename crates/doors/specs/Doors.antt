@@ -161,13 +161,13 @@ pub record SummaryReply : Type 0 where
   pub number : ℕ
   pub pieces : ℕ
   pub distinct : ℕ
-  pub letters : ℕ
+  pub covers : List ℕ
   pub classes : List ℕ
 
 -- always 0, and every number of the summary
 abbrev pub ofSummary : Summary → SummaryReply
 ofSummary s =
-    record { number = 0; pieces = s .pieces; distinct = s .distinct; letters = s .letters; classes = s .classes }
+    record { number = 0; pieces = s .pieces; distinct = s .distinct; covers = s .covers; classes = s .classes }
 
 -- notchergrey_summary
 abbrev pub summaryDoor : List ℕ → SummaryReply

@@ -1,5 +1,5 @@
 -- What is put is a text, if its words and lines are put one behind the other.
---     put-three, put-eight     lines of so many words
+--     put-three, put-nine     lines of so many words
 --     put-refused          the line of a refusal
 --     put-parts            the text of a table
 --     classes-put-more, classes-put-all     the lines of the first classes with one more, and of all
@@ -38,14 +38,14 @@ pub put-refused :
 put-refused r {n} {p} number place x y =
     rw (← number, ← place) (put-three refused (decimal n) (decimal p) _ _ _ _ _ _ x y)
 
-pub put-eight :
-    (v w x y a b c d t₀ t₁ t₂ t₃ t₄ : List ℕ) (k₀ k₁ k₂ k₃ k₄ : ℕ)
+pub put-nine :
+    (v w x y a b c d e t₀ t₁ t₂ t₃ t₄ : List ℕ) (k₀ k₁ k₂ k₃ k₄ : ℕ)
     → Put ((v ++ 32 ∷ []) ++ (a ++ 32 ∷ [])) t₀ k₀ t₁ k₁
     → Put ((w ++ 32 ∷ []) ++ (b ++ 32 ∷ [])) t₁ k₁ t₂ k₂
     → Put ((x ++ 32 ∷ []) ++ (c ++ 32 ∷ [])) t₂ k₂ t₃ k₃
-    → Put ((y ++ 32 ∷ []) ++ (d ++ 10 ∷ [])) t₃ k₃ t₄ k₄
-    → Put (line (v ∷ a ∷ w ∷ b ∷ x ∷ c ∷ y ∷ d ∷ [])) t₀ k₀ t₄ k₄
-put-eight v w x y a b c d t₀ t₁ t₂ t₃ t₄ k₀ k₁ k₂ k₃ k₄ p q r s =
+    → Put (line (y ∷ d ∷ e ∷ [])) t₃ k₃ t₄ k₄
+    → Put (line (v ∷ a ∷ w ∷ b ∷ x ∷ c ∷ y ∷ d ∷ e ∷ [])) t₀ k₀ t₄ k₄
+put-nine v w x y a b c d e t₀ t₁ t₂ t₃ t₄ k₀ k₁ k₂ k₃ k₄ p q r s =
     put-same (simp append-assoc) (put-then (put-then (put-then p q) r) s)
 
 pub put-parts :

@@ -15,7 +15,8 @@ ghost use Rattle.rows.specs.Rows.{rowsOf};
 ghost use Rattle.table.specs.Summing.{summaryOf};
 ghost use Rattle.text.specs.Decimal.{decimal};
 ghost use Rattle.text.specs.Putting.{Put};
-ghost use Rattle.reporting.specs.Lines.{refusalText, lengthsLine, summaryLine, classLine, classLines, tableText};
+ghost use Rattle.reporting.specs.Lines.{refusalText, lengthsLine, coversEnd, summaryLine, classLine, classLines};
+ghost use Rattle.reporting.specs.Lines.{tableText};
 ghost use Rattle.reporting.specs.Reporting.{lentRows, longestText};
 
 // A word, a number in decimal, and a byte behind it.
@@ -46,16 +47,27 @@ fn put_lengths(text: &mut [u8], p: u32, q: u32) -> usize
     put_field(text, next, q as u64, b'\n')
 }
 
+// The end of the second line.
+fn put_covers(text: &mut [u8], at: usize, covers: [u64; 2]) -> usize
+    requires { ⌜ at + 49 ≤ longestText ⌝ }
+    ensures { λ r. ⌜ Put (coversEnd covers) (now (text .entry)) at (now (text .exit)) r ⌝ }
+    ensures { λ r. ⌜ r ≤ at + 49 ⌝ }
+{
+    let next = put_entry(text, at, b"covers ", covers[0], b' ');
+    put_field(text, next, covers[1], b'\n')
+}
+
 // The second line.
 fn put_summary(text: &mut [u8], at: usize, count: usize, summary: Summary) -> usize
-    requires { ⌜ at + 116 ≤ longestText ⌝ }
+    requires { ⌜ at + 136 ≤ longestText ⌝ }
     ensures { λ r. ⌜ Put (summaryLine count summary) (now (text .entry)) at (now (text .exit)) r ⌝ }
-    ensures { λ r. ⌜ r ≤ at + 116 ⌝ }
+    ensures { λ r. ⌜ r ≤ at + 136 ⌝ }
 {
     let matches = put_entry(text, at, b"matches ", count as u64, b' ');
     let pieces = put_entry(text, matches, b"pieces ", summary.pieces as u64, b' ');
     let distinct = put_entry(text, pieces, b"distinct ", summary.distinct as u64, b' ');
-    put_entry(text, distinct, b"letters ", summary.letters, b'\n')
+    let covers = summary.covers;
+    put_covers(text, distinct, covers)
 }
 
 // The line of a class, if it has pieces.

@@ -1,6 +1,6 @@
 -- What refining in the lent buffers brings to the report.
 --     report-refined    the report by the reply of refining and the table after it
---     brief-reported    the reply of a try with a small table
+--     brief-reported    the reply of a try with a small table, and what line two ends in
 --     brief-admits      without one the script is admitted ..
 --     large-reported    .. and the reply is that of the large table
 -- Assumes nothing.
@@ -14,7 +14,9 @@ use Rattle.refining.specs.Refining.{refiningOf}
 use Rattle.refining.specs.declared.answers.Refined.{Refined}
 use Rattle.reporting.specs.Reporting.{lentTable, lentWork, reportOf, reportOfReply, reportOfRefining}
 use Rattle.reporting.specs.Reporting.{Reporting, reportingOfText, reportingOf, Briefly}
+use Rattle.reporting.specs.Covers.{CoversPrinted}
 use Rattle.reporting.specs.declared.Reported.{Reported}
+use Rattle.reporting.proofs.Own.{covers-printed}
 use Rattle.reporting.specs.declared.Brief.{Brief}
 
 report-admits :
@@ -40,16 +42,19 @@ report-refined script text p q count admits t w replied wrote e printed =
     let told = ap₂ (reportOfReply p q count) wrote (sym e ∙ replied) in
     ap (λ (b : List ℕ). reportingOfText b text) (report-admits script admits ∙ sym (told ∙ lent)) ∙ printed
 
--- the reply and the text, by what they are together
-reported : {x : Reporting} {r : Reported} {text : List ℕ} → x ≡ record { reply = r; text = text }
-    → (r ≡ x .reply) × (text ≡ x .text)
-reported e = (sym (ap (λ (y : Reporting). y .reply) e), sym (ap (λ (y : Reporting). y .text) e))
+-- the reply and the text, by what they are together, and what line two then ends in
+reported : (script text : List ℕ) {r : Reported} {text′ : List ℕ} → reportingOf script text ≡ record { reply = r; text = text′ }
+    → (r ≡ reportingOf script text .reply) × ((text′ ≡ reportingOf script text .text) × CoversPrinted script r text′)
+reported script text e =
+    let replied = ap (λ (y : Reporting). y .reply) e in
+    let wrote = ap (λ (y : Reporting). y .text) e in
+    (sym replied, (sym wrote, rw (← replied, ← wrote) (covers-printed script text)))
 
 pub brief-reported :
     (script text text′ : List ℕ) {answer : Brief} {r : Reported} → answer ≡ Brief.Answered r
     → Briefly script text text′ answer
-    → (r ≡ reportingOf script text .reply) × (text′ ≡ reportingOf script text .text)
-brief-reported script text text′ e tried = reported (subst (Briefly script text text′) e tried)
+    → (r ≡ reportingOf script text .reply) × ((text′ ≡ reportingOf script text .text) × CoversPrinted script r text′)
+brief-reported script text text′ e tried = reported script text (subst (Briefly script text text′) e tried)
 
 pub brief-admits :
     (script text text′ : List ℕ) {answer : Brief} {p q count : ℕ} → answer ≡ Brief.Larger p q count
@@ -62,7 +67,7 @@ pub large-reported :
     → answer ≡ Brief.Larger p q count
     → Briefly script text text′ answer
     → reportingOf script text′ ≡ record { reply = r; text = text″ }
-    → (r ≡ reportingOf script text .reply) × (text″ ≡ reportingOf script text .text)
+    → (r ≡ reportingOf script text .reply) × ((text″ ≡ reportingOf script text .text) × CoversPrinted script r text″)
 large-reported script text text′ e tried printed =
     let kept = subst (Briefly script text text′) e tried .1 in
-    reported (ap (reportingOf script) (sym kept) ∙ printed)
+    reported script text (ap (reportingOf script) (sym kept) ∙ printed)

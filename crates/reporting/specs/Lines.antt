@@ -8,6 +8,7 @@
 use Prim.Native.Nat.{ℕ, suc}
 use mathlib.Core.Bool.{cond}
 use mathlib.Core.List.{List, [], _∷_, _++_}
+use lib.ListN.{getD}
 use lib.Dec.{eqb}
 use Rattle.script.specs.Refusals.{numberOf, placeOf}
 use Rattle.script.specs.declared.refusal.Refusal.{Refusal}
@@ -65,6 +66,10 @@ refusalText r = line (refused ∷ decimal (numberOf r) ∷ decimal (placeOf r) �
 -- SCOPE, "Text": line one, with p and q
 abbrev pub lengthsLine : ℕ → ℕ → List ℕ
 lengthsLine p q = line (lengths ∷ decimal p ∷ decimal q ∷ [])
+
+-- SCOPE, "Text": what line two ends in, with the letters covered on A and on B
+abbrev pub coversEnd : List ℕ → List ℕ
+coversEnd ns = line (covers ∷ decimal (getD ns 0 0) ∷ decimal (getD ns 1 0) ∷ [])
 
 -- SCOPE, "Text": line two, with the count of matches and the numbers of the summary
 abbrev pub summaryLine : ℕ → Summary → List ℕ

@@ -9,7 +9,9 @@ sum-up-requires : tie.Need-sum-up-requires
 sum-up-requires c κs = search needs
 
 returns : tie.Need-returns
-returns c = ap ofSummary (c .before .sum-up .ensures)
+returns c =
+    let summed : tie.After-sum-up = search in
+    ap ofSummary (summed .sum-up .ensures .0)
 
 pub notchergrey-summary-spec : {M : Type 1} → statement M
 notchergrey-summary-spec = tie.close (tie.spec sum-up-requires returns)

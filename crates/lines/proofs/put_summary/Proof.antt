@@ -1,7 +1,7 @@
--- `put_summary` meets its contract: a line of eight words. Assumes nothing.
+-- `put_summary` meets its contract: a line of nine words. Assumes nothing.
 use borrow.Author.Needs.{needs}
-use Rattle.reporting.specs.Lines.{matches, pieces, distinct, letters}
-use Rattle.lines.proofs.Putting.{put-eight}
+use Rattle.reporting.specs.Lines.{matches, pieces, distinct, covers}
+use Rattle.lines.proofs.Putting.{put-nine}
 use Rattle.lines.proofs.put_summary.Statement.{statement}
 use Rattle.lines.proofs.put_summary.Tie as tie
 
@@ -23,17 +23,14 @@ slice-aggregate-put-entry-3 c = search needs
 put-entry-requires-3 : tie.Need-put-entry-requires-3
 put-entry-requires-3 c κs = search needs
 
-slice-aggregate-put-entry-4 : tie.Need-slice-aggregate-put-entry-4
-slice-aggregate-put-entry-4 c = search needs
-
-put-entry-requires-4 : tie.Need-put-entry-requires-4
-put-entry-requires-4 c κs = search needs
+put-covers-requires : tie.Need-put-covers-requires
+put-covers-requires c κs = search needs
 
 same-length : tie.Need-same-length
 same-length c = search needs
 
 returns : tie.Need-returns
-returns c = search (needs, put-eight matches pieces distinct letters)
+returns c = search (needs, put-nine matches pieces distinct covers)
 
 pub put-summary-spec : {M : Type 1} → statement M
 put-summary-spec =
@@ -45,7 +42,6 @@ put-summary-spec =
     put-entry-requires-2
     slice-aggregate-put-entry-3
     put-entry-requires-3
-    slice-aggregate-put-entry-4
-    put-entry-requires-4
+    put-covers-requires
     same-length
     returns)

@@ -43,7 +43,7 @@ returns c =
     let printed = reportOf (start .args .script .now) in
     let whole = report-printed (start .args .script .now) text (start .pre) in
     let told = sym (c .before .length .given .1) ∙ called .report .ensures .0 ∙ ap (λ x. x .reply) whole in
-    rw (ap lengthOf told, called .report .ensures .1 ∙ ap (λ x. x .text) whole) (
+    rw (ap lengthOf told, called .report .ensures .1 .0 ∙ ap (λ x. x .text) whole) (
       (
         omega (arith, length-append printed (drop (length printed) text)),
         sym (ap length (take-append-seam printed (drop (length printed) text))),
