@@ -62,7 +62,8 @@ pub struct RowsOf {
 pub struct Summary {
     pub pieces: usize,
     pub distinct: usize,
-    pub letters: u64,
+    /// For A and for B.
+    pub covers: [u64; 2],
     pub classes: [usize; 30],
 }
 
@@ -179,7 +180,7 @@ pub fn summary(table: &[u32], lent: &mut Summary) -> u32 {
             table.len(),
             &mut lent.pieces,
             &mut lent.distinct,
-            &mut lent.letters,
+            ptr::from_mut(&mut lent.covers).cast(),
             &mut lent.classes,
         )
     }

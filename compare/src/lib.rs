@@ -5,6 +5,7 @@ pub mod calls;
 pub mod door;
 pub mod draft;
 pub mod groups;
+pub mod kinds;
 pub mod part;
 pub mod random;
 pub mod slow;

@@ -64,6 +64,7 @@ fn all_parts(options: &Options) -> Result<usize, String> {
     calls += one_part(&calls::carry::PART, options)?;
     calls += one_part(&calls::rows_of::PART, options)?;
     calls += one_part(&calls::summary::PART, options)?;
+    calls += one_part(&calls::summary::PART_OF_OWN_TABLES, options)?;
     calls += one_part(&calls::report::PART, options)?;
     Ok(calls)
 }

@@ -11,6 +11,14 @@ pub enum Outcome {
     Refused(u32),
     /// From what a success gave, the door that undoes it gave back the input.
     Undone,
+    /// No call: the input of a call, which is counted by its answer, was of this kind.
+    Kind(&'static str),
+}
+
+impl Outcome {
+    fn is_a_call(self) -> bool {
+        !matches!(self, Outcome::Kind(_))
+    }
 }
 
 /// What must be met of one outcome at least, so that a generator's fault cannot hide.
@@ -48,6 +56,10 @@ impl Need {
 
     pub const fn undone(times: usize, values: usize) -> Need {
         Need::of(Outcome::Undone, times, values)
+    }
+
+    pub const fn kind(name: &'static str, times: usize, values: usize) -> Need {
+        Need::of(Outcome::Kind(name), times, values)
     }
 
     const fn of(outcome: Outcome, times: usize, values: usize) -> Need {
@@ -128,7 +140,8 @@ impl Tally {
     }
 
     pub fn calls(&self) -> usize {
-        self.outcomes.values().map(|met| met.times).sum()
+        let calls = self.outcomes.iter().filter(|(met, _)| met.is_a_call());
+        calls.map(|(_, met)| met.times).sum()
     }
 
     /// An outcome that was met too seldom to say anything of it.
@@ -156,6 +169,7 @@ impl fmt::Display for Outcome {
             Outcome::Success => f.write_str("success"),
             Outcome::Refused(number) => write!(f, "refusal {number}"),
             Outcome::Undone => f.write_str("undone by the other door"),
+            Outcome::Kind(name) => f.write_str(name),
         }
     }
 }

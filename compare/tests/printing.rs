@@ -7,7 +7,7 @@ use compare::slow::report::report;
 fn the_run_of_01() {
     let script = Draft::lengths(10, 10).direct(0, 0, 6).reversed(2, 3, 5);
     let text = "lengths 10 10
-matches 2 pieces 8 distinct 7 letters 11
+matches 2 pieces 8 distinct 7 covers 7 8
 1 0 0 2 +
 1 2 2 1 +
 1 3 3 1 +
@@ -39,9 +39,9 @@ fn refusals() {
 
 #[test]
 fn no_pieces() {
-    let text = "lengths 1 1\nmatches 0 pieces 0 distinct 0 letters 0\n";
+    let text = "lengths 1 1\nmatches 0 pieces 0 distinct 0 covers 0 0\n";
     assert_eq!(report(&Draft::lengths(1, 1).end()), text);
-    let text = "lengths 1000000000 1\nmatches 0 pieces 0 distinct 0 letters 0\n";
+    let text = "lengths 1000000000 1\nmatches 0 pieces 0 distinct 0 covers 0 0\n";
     assert_eq!(report(&Draft::lengths(1_000_000_000, 1).end()), text);
 }
 
@@ -50,23 +50,23 @@ fn small_scripts() {
     for (script, lines) in [
         (
             Draft::lengths(10, 10).direct(0, 0, 10),
-            "matches 1 pieces 1 distinct 1 letters 10",
+            "matches 1 pieces 1 distinct 1 covers 10 10",
         ),
         (
             Draft::lengths(4, 4).direct(0, 0, 4).direct(0, 0, 4),
-            "matches 2 pieces 2 distinct 1 letters 8",
+            "matches 2 pieces 2 distinct 1 covers 4 4",
         ),
         (
             Draft::lengths(4, 4).direct(0, 0, 4).reversed(0, 0, 4),
-            "matches 2 pieces 2 distinct 1 letters 8",
+            "matches 2 pieces 2 distinct 1 covers 4 4",
         ),
         (
             Draft::lengths(5, 5).direct(0, 0, 4).direct(0, 1, 4),
-            "matches 2 pieces 8 distinct 8 letters 8",
+            "matches 2 pieces 8 distinct 8 covers 4 5",
         ),
         (
             Draft::lengths(8, 8).direct(0, 0, 4).direct(4, 4, 4),
-            "matches 2 pieces 2 distinct 2 letters 8",
+            "matches 2 pieces 2 distinct 2 covers 8 8",
         ),
     ] {
         let text = report(&script.end());
@@ -95,7 +95,7 @@ fn the_most_matches() {
     let text = report(&matches(2_048).end());
     assert_eq!(
         text.lines().nth(1),
-        Some("matches 2048 pieces 2048 distinct 1 letters 20480")
+        Some("matches 2048 pieces 2048 distinct 1 covers 10 10")
     );
     assert_eq!(report(&matches(2_049).end()), "refused 6 26633\n");
     let long = [matches(2_048).end(), vec![0x45; 100]].concat();

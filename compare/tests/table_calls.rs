@@ -50,10 +50,8 @@ fn numbers_that_form_no_row() {
 fn nothing_to_sum_up() {
     for table in [&[][..], &[1, 2, 3, 4]] {
         let summary = summary(table);
-        assert_eq!(
-            (summary.pieces, summary.distinct, summary.letters),
-            (0, 0, 0)
-        );
+        assert_eq!((summary.pieces, summary.distinct), (0, 0));
+        assert_eq!(summary.covers, [0, 0]);
         assert_eq!(summary.classes, [0; CLASSES]);
     }
 }
@@ -69,10 +67,7 @@ fn distinct_pieces_differ_in_left_a_left_b_or_length() {
         [1, 10, 20, 30, 0],
     ];
     let summary = summary(rows.as_flattened());
-    assert_eq!(
-        (summary.pieces, summary.distinct, summary.letters),
-        (6, 4, 181)
-    );
+    assert_eq!((summary.pieces, summary.distinct), (6, 4));
 }
 
 #[test]
@@ -92,12 +87,6 @@ fn lengths_of_no_class() {
     for length in [0, 1 << 30, 1 << 31, u32::MAX] {
         let summary = summary(&[1, 0, 0, length, 7]);
         assert_eq!(summary.classes, [0; CLASSES]);
-        assert_eq!((summary.pieces, summary.letters), (1, length.into()));
+        assert_eq!((summary.pieces, summary.covers), (1, [length.into(); 2]));
     }
-}
-
-#[test]
-fn letters_pass_32_bits() {
-    let table = [[0, 0, 0, u32::MAX, 0]; 3];
-    assert_eq!(summary(table.as_flattened()).letters, 3 * 0xFFFF_FFFF);
 }

@@ -1,7 +1,9 @@
 //! Scripts of many rows, most of them within the 3,000 of the program's table.
 
 use super::good::LONGEST;
+use super::patterned;
 use super::shapes::{cutter, match_up_to, script, staircase, zigzag};
+use super::stretches::chain;
 use crate::draft::DraftMatch;
 use crate::random::Random;
 use crate::slow::report::ROWS;
@@ -78,6 +80,31 @@ pub fn few_overlaps(random: &mut Random) -> Vec<Vec<u8>> {
     };
     let counts = [50, 100, 200, 400, 800, 1_200, MOST];
     counts.map(few_overlaps).to_vec()
+}
+
+/// On each side a chain in an order of its own, whose matches touch or leave a few letters between.
+pub fn no_overlaps(random: &mut Random) -> Vec<Vec<u8>> {
+    let mut scripts = Vec::new();
+    for most_apart in [0, 1, 3, 1_000] {
+        let next = |random: &mut Random, end| end + random.between(0, most_apart);
+        let lengths: Vec<u32> = (0..MOST).map(|_| random.between(1, 20)).collect();
+        let [on_a, on_b] = [(); 2].map(|()| chain(random, &lengths, next));
+        let nth = |n: usize| DraftMatch {
+            reversed: random.any_bool(),
+            ..DraftMatch::direct(on_a[n], on_b[n], lengths[n])
+        };
+        let matches: Vec<DraftMatch> = (0..lengths.len()).map(nth).collect();
+        scripts.push(script(&matches));
+    }
+    scripts
+}
+
+/// Every letter of every match is a piece.
+pub fn single_letters(_: &mut Random) -> Vec<Vec<u8>> {
+    let zigzags = [(true, 2_048), (false, 5_000)]
+        .map(|(on_a, length)| script(&zigzag(on_a, length, 1, false)));
+    let many = [13, 30, 90].map(|count| script(&patterned::matches(count)));
+    [zigzags.as_slice(), &many].concat()
 }
 
 /// Matches that all overlap, with few cuts and a great many pieces.

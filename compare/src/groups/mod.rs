@@ -6,10 +6,12 @@ mod faults;
 mod good;
 mod large;
 mod many;
+mod many_stretches;
 mod noise;
 pub mod patterned;
 mod records;
 pub mod shapes;
+mod stretches;
 mod tables;
 mod tiny;
 
@@ -124,6 +126,7 @@ pub const LARGE: Groups<u8> = &[
     group("staircases of up to 2,048 matches", large::staircases),
     group("1,000 to 3,001 rows in blocks", large::blocks),
     group("many matches, few overlaps", large::few_overlaps),
+    group("2,048 matches that share no letter", large::no_overlaps),
     group("more pieces than any table holds", large::too_many_pieces),
 ];
 
@@ -157,4 +160,40 @@ pub const TABLES: Groups<u32> = &[
 pub const LONG_TABLES: Groups<u32> = &[
     group("3,000 rows and more", tables::long),
     group("rows of a pattern", tables::patterned),
+];
+
+pub const STRETCHES: Groups<u32> = &[
+    group("rows that overlap", stretches::overlaps),
+    group("rows that touch", stretches::touching),
+    group("rows within others", stretches::nested),
+    group("few rows many times", stretches::equal),
+    group("rows of no letter", stretches::empty),
+    group("numbers around 2^31 and 2^32", stretches::around_32_bits),
+    group("A and B far from alike", stretches::columns_that_differ),
+];
+
+pub const MANY_STRETCHES: Groups<u32> = &[
+    group(
+        "3,000 to 40,000 rows apart, in five orders",
+        many_stretches::in_some_orders,
+    ),
+    group("one row over many", many_stretches::one_over_all),
+    group(
+        "some rows of many reach over others",
+        many_stretches::reaching_on,
+    ),
+    group(
+        "many rows that touch, with holes",
+        many_stretches::touching_with_holes,
+    ),
+    group("many rows that overlap", many_stretches::overlaps),
+    group("many rows near the beginning", many_stretches::skewed),
+    group("many rows many times", many_stretches::duplicates),
+    group("many rows of one left end", many_stretches::one_left_end),
+];
+
+/// Scripts whose tables are worth summing up, beside others.
+pub const OWN_TABLES: Groups<u8> = &[
+    group("the lines of 01", edges::lines_of_01),
+    group("up to 29,970 rows of one letter", large::single_letters),
 ];

@@ -64,14 +64,15 @@ fn lines_of(refined: &Refined) -> Vec<String> {
     lines
 }
 
+/// 02, #102: "Line two ends in "covers" and two numbers instead, for A and for B".
 fn second_line(matches: usize, summary: &Summary) -> String {
     let Summary {
         pieces,
         distinct,
-        letters,
+        covers: [on_a, on_b],
         ..
     } = summary;
-    format!("matches {matches} pieces {pieces} distinct {distinct} letters {letters}")
+    format!("matches {matches} pieces {pieces} distinct {distinct} covers {on_a} {on_b}")
 }
 
 /// "number, left-A, left-B, length, + direct or - reversed"

@@ -1,5 +1,8 @@
-//! 01, "The table and its buffers": the refining call, the pieces of one match, the summary.
+//! 01, "The table and its buffers": the refining call, the pieces of one match, the summary, whose
+//! letters are those of 02, #102.
 
+use super::carrying::Side;
+use super::covers::{letters_in_some_row, Stretch};
 use super::refinement::{self, Piece};
 use super::refusal::{Refusal, Word};
 use super::script;
@@ -69,13 +72,14 @@ fn rows(table: &[u32]) -> impl Iterator<Item = &[u32]> {
 pub struct Summary {
     pub pieces: usize,
     pub distinct: usize,
-    pub letters: u64,
+    /// For A and for B.
+    pub covers: [u64; 2],
     pub classes: [usize; CLASSES],
 }
 
-/// "The summary counts pieces, distinct pieces (same left-A, left-B and length), letters (the sum
-/// of all lengths, modulo 2^64), and, as thirty class counts beside them, the pieces whose length
-/// is at least 2^c and below 2^(c+1)".
+/// "The summary counts pieces, distinct pieces (same left-A, left-B and length), letters [..], and,
+/// as thirty class counts beside them, the pieces whose length is at least 2^c and below 2^(c+1)".
+/// "Letters counted once."
 pub fn summary(table: &[u32]) -> Summary {
     let lengths = || rows(table).map(|row| u64::from(row[3]));
     let distinct: BTreeSet<&[u32]> = rows(table).map(|row| &row[1..4]).collect();
@@ -87,7 +91,19 @@ pub fn summary(table: &[u32]) -> Summary {
     Summary {
         pieces: rows(table).count(),
         distinct: distinct.len(),
-        letters: lengths().fold(0, u64::wrapping_add),
+        covers: [Side::A, Side::B].map(|side| letters_in_some_row(&stretches(table, side))),
         classes,
     }
+}
+
+/// The letters of each row, whatever its direction.
+pub fn stretches(table: &[u32], side: Side) -> Vec<Stretch> {
+    let stretch = |row: &[u32]| {
+        let left = u64::from(match side {
+            Side::A => row[1],
+            Side::B => row[2],
+        });
+        left..left + u64::from(row[3])
+    };
+    rows(table).map(stretch).collect()
 }
