@@ -136,14 +136,17 @@ uint32_t notchergrey_carry_from_b(const uint8_t *script, size_t script_len, uint
 uint32_t notchergrey_rows_of(const uint32_t *table, size_t table_len, uint32_t number, size_t *start, size_t *end);
 
 /*
- * Sums a table up: its pieces, the distinct ones among them (by left-A, left-B and length), the sum of their lengths
- * modulo 2^64, and in classes[c] the pieces whose length is at least 2^c and below 2^(c+1). `classes` must point to
- * thirty numbers; all are set. Always returns 0. Hand over the finished rows alone, as for notchergrey_rows_of. It
- * took 0.003 s for 100,000 rows and 0.13 s for 1,000,000 where it was measured, whatever the rows were; from some
- * 100,000 rows on its time grows with their square.
+ * Sums a table up: its pieces, the distinct ones among them (by left-A, left-B and length), the letters that they cover
+ * on A in covers[0] and on B in covers[1], and in classes[c] the pieces whose length is at least 2^c and below 2^(c+1).
+ * A letter is covered if it lies in at least one row's stretch; in how many makes no difference. The stretch of a row
+ * is `length` letters from left-A on of A and from left-B on of B, whatever its direction. The sum of left end and
+ * length does not wrap at 2^32, and a row of length 0 covers nothing. `covers` must point to two numbers and `classes`
+ * to thirty; all are set. Always returns 0. Hand over the finished rows alone, as for notchergrey_rows_of. It took
+ * 0.003 s for 100,000 rows and 0.13 s for 1,000,000 where it was measured, whatever the rows were; from some 100,000
+ * rows on its time grows with their square.
  */
 uint32_t notchergrey_summary(const uint32_t *table, size_t table_len, size_t *pieces, size_t *distinct,
-                             uint64_t *letters, size_t classes[NOTCHERGREY_CLASSES]);
+                             uint64_t covers[2], size_t classes[NOTCHERGREY_CLASSES]);
 
 /*
  * The text that the program notchergrey prints for this script, with its table of 3,000 rows; a refused script has a

@@ -358,19 +358,29 @@ static void hold_reporting(void)
     HELD(NOTCHERGREY_BUFFER_TOO_SHORT);
 }
 
-/* Lengths from 2^29 on, below 2^30, are in the last class, and none is written behind it. */
+/*
+ * Lengths from 2^29 on, below 2^30, are in the last class, and none is written behind it. The covers of A, where the
+ * last row goes beyond 2^32, are apart from those of B, and none is written behind them.
+ */
 static void hold_classes(void)
 {
-    const uint32_t rows[] = {1, 0, 0, 536870912, 0, 2, 0, 0, 1073741823, 0, 3, 0, 0, 1073741824, 0};
-    enum { BEHIND = 64 };
+    const uint32_t rows[] = {1, 0, 0, 536870912, 0, 2, 0, 0, 1073741823, 0, 3, UINT32_MAX, 0, 1073741824, 0};
+    enum { SIDES = 2, BEHIND = 64 };
+    const uint64_t wanted_covers[SIDES] = {2147483647, 1073741824};
     size_t pieces, distinct, classes[NOTCHERGREY_CLASSES + BEHIND];
-    uint64_t letters;
+    uint64_t covers[SIDES + BEHIND];
     for (size_t at = 0; at < NOTCHERGREY_CLASSES + BEHIND; at++)
         classes[at] = 7;
-    notchergrey_summary(rows, sizeof rows / sizeof *rows, &pieces, &distinct, &letters, classes);
+    for (size_t at = 0; at < SIDES + BEHIND; at++)
+        covers[at] = 7;
+    notchergrey_summary(rows, sizeof rows / sizeof *rows, &pieces, &distinct, covers, classes);
     for (size_t at = 0; at < NOTCHERGREY_CLASSES + BEHIND; at++) {
         const size_t wanted = at >= NOTCHERGREY_CLASSES ? 7 : at == NOTCHERGREY_CLASSES - 1 ? 2 : 0;
         ensure(classes[at] == wanted, "NOTCHERGREY_CLASSES", "the last class");
+    }
+    for (size_t at = 0; at < SIDES + BEHIND; at++) {
+        const uint64_t wanted = at >= SIDES ? 7 : wanted_covers[at];
+        ensure(covers[at] == wanted, "NOTCHERGREY_CLASSES", "the covers beside the classes");
     }
     HELD(NOTCHERGREY_CLASSES);
 }

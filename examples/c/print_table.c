@@ -34,9 +34,10 @@ static void print_table(size_t matches, size_t rows)
 {
     const size_t table_len = rows * NOTCHERGREY_ROW_NUMBERS;
     size_t pieces, distinct, classes[NOTCHERGREY_CLASSES];
-    uint64_t letters;
-    notchergrey_summary(table, table_len, &pieces, &distinct, &letters, classes);
-    printf("matches %zu pieces %zu distinct %zu letters %" PRIu64 "\n", matches, pieces, distinct, letters);
+    uint64_t covers[2];
+    notchergrey_summary(table, table_len, &pieces, &distinct, covers, classes);
+    printf("matches %zu pieces %zu distinct %zu covers %" PRIu64 " %" PRIu64 "\n", matches, pieces, distinct, covers[0],
+           covers[1]);
     for (size_t at = 0; at < table_len; at += NOTCHERGREY_ROW_NUMBERS)
         print_row(&table[at]);
     for (int c = 0; c < NOTCHERGREY_CLASSES; c++)

@@ -56,11 +56,12 @@ fn lines_of(script: &[u8]) -> Result<String, Error> {
     let read = read(script)?;
     let table = refine_within(script, ROWS)?;
     let summary = table.summary();
+    let [on_a, on_b] = summary.covers;
     let mut text = format!("lengths {} {}\n", read.p, read.q);
     let _ = writeln!(
         text,
-        "matches {} pieces {} distinct {} letters {}",
-        read.matches, summary.pieces, summary.distinct, summary.letters
+        "matches {} pieces {} distinct {} covers {on_a} {on_b}",
+        read.matches, summary.pieces, summary.distinct
     );
     table.rows().for_each(|row| text += &row_line(&row));
     for (c, count) in summary

@@ -138,21 +138,21 @@ pub fn rows_of(table: &[u32], number: u32) -> (usize, usize) {
     (start, end)
 }
 
-/// Pieces, distinct pieces, letters and classes. This door refuses nothing.
-pub fn summary(table: &[u32]) -> (usize, usize, u64, [usize; CLASSES]) {
-    let (mut pieces, mut distinct, mut letters) = (0, 0, 0);
-    let mut classes = [0; CLASSES];
+/// Pieces, distinct pieces, covers of A and B, and classes. This door refuses nothing.
+pub fn summary(table: &[u32]) -> (usize, usize, [u64; 2], [usize; CLASSES]) {
+    let (mut pieces, mut distinct) = (0, 0);
+    let (mut covers, mut classes) = ([0; 2], [0; CLASSES]);
     unsafe {
         notchergrey_summary(
             table.as_ptr(),
             table.len(),
             &mut pieces,
             &mut distinct,
-            &mut letters,
+            &mut covers,
             &mut classes,
         );
     }
-    (pieces, distinct, letters, classes)
+    (pieces, distinct, covers, classes)
 }
 
 /// The text's length, and whether the text was written: it is not where the buffer is too short.

@@ -21,7 +21,8 @@
 //! for row in table.rows() {
 //!     println!("match {}: {} letters from {} of A", row.number, row.length, row.left_a);
 //! }
-//! assert_eq!(table.summary().distinct, 7);
+//! let summary = table.summary();
+//! assert_eq!((summary.distinct, summary.covers), (7, [7, 8]));
 //! # Ok::<(), notchergrey::Error>(())
 //! ```
 //!

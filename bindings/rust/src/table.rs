@@ -41,8 +41,10 @@ pub struct Summary {
     pub pieces: usize,
     /// The count of distinct pieces: those of the same left-A, left-B and length are one.
     pub distinct: usize,
-    /// The sum of all lengths, modulo 2^64.
-    pub letters: u64,
+    /// The letters in at least one row's stretch: those of A first, then those of B. A letter under two rows counts
+    /// once. Of a refined table, `covers[0]` of the `p` letters of A and `covers[1]` of the `q` of B are covered; see
+    /// [`read`](crate::read).
+    pub covers: [u64; 2],
     /// `classes[c]` counts the pieces whose length is at least 2^c and below 2^(c+1).
     pub classes: [usize; CLASSES],
 }
@@ -78,15 +80,27 @@ pub fn rows_of(table: &[u32], number: u32) -> &[u32] {
 ///
 /// ```
 /// let summary = notchergrey::summary(&[1, 0, 3, 6, 0, 2, 0, 3, 6, 1]);
-/// assert_eq!((summary.pieces, summary.distinct, summary.letters), (2, 1, 12));
+/// assert_eq!((summary.pieces, summary.distinct), (2, 1));
+/// assert_eq!(summary.covers, [6, 6]);
 /// assert_eq!(summary.classes[2], 2);
 /// ```
+///
+/// Where stretches overlap, on A here from 2 to 6 and on B from 3 to 6, each letter counts once. Left end and length
+/// are added without a limit at 2^32, and a row of length 0 covers nothing.
+///
+/// ```
+/// let summary = notchergrey::summary(&[1, 0, 0, 6, 0, 2, 2, 3, 5, 1]);
+/// assert_eq!(summary.covers, [7, 8]);
+///
+/// let summary = notchergrey::summary(&[1, u32::MAX, 0, 6, 0, 2, 0, 9, 0, 0]);
+/// assert_eq!(summary.covers, [6, 6]);
+/// ```
 pub fn summary(table: &[u32]) -> Summary {
-    let (pieces, distinct, letters, classes) = door::summary(table);
+    let (pieces, distinct, covers, classes) = door::summary(table);
     Summary {
         pieces,
         distinct,
-        letters,
+        covers,
         classes,
     }
 }

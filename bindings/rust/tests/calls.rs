@@ -3,10 +3,11 @@
 mod scripts;
 
 use notchergrey::{carry, read, refine, refine_into, refine_within, report, rows_of, Error};
-use notchergrey::{read_matches, read_records_into, write, write_into, List, Match};
+use notchergrey::{read_matches, read_records_into, summary, write, write_into, List, Match};
 use notchergrey::{Row, Script, Side, Word, CLASSES, ROW_NUMBERS, WORK_NUMBERS};
 use scripts::{direct, many_matches, records, reversed, run_of_the_specification, script};
 use scripts::{zigzag, LONG};
+use std::collections::HashSet;
 
 #[test]
 fn the_room_grows_until_the_table_fits() {
@@ -46,8 +47,8 @@ fn no_match_gives_no_row() {
     assert!(table.rows_of(1).is_empty());
     let summary = table.summary();
     assert_eq!(
-        (summary.pieces, summary.distinct, summary.letters),
-        (0, 0, 0)
+        (summary.pieces, summary.distinct, summary.covers),
+        (0, 0, [0, 0])
     );
     assert_eq!(summary.classes, [0; CLASSES]);
 }
@@ -68,6 +69,44 @@ fn the_rows_of_a_match_are_a_part_of_the_table() {
     };
     assert_eq!(first, wanted);
     assert_eq!(rows_of(&[], 1), []);
+}
+
+#[test]
+fn a_letter_under_two_rows_is_covered_once() {
+    const MAX: u32 = u32::MAX;
+    let most = u64::from(MAX);
+    let row = [1, 2, 7, 5, 0];
+    let tables: [(&[[u32; 5]], [u64; 2]); 9] = [
+        (&[row], [5, 5]),
+        (&[row, row], [5, 5]),
+        (&[row, [2, 2, 7, 5, 1]], [5, 5]),
+        (&[row, [2, 3, 8, 2, 0]], [5, 5]),
+        (&[row, [1, 7, 12, 1, 0]], [6, 6]),
+        (&[[2, 20, 9, 5, 1], row], [10, 7]),
+        (&[row, [2, 0, 40, 0, 0]], [5, 5]),
+        (&[[1, MAX, 0, 2, 0], [2, 0, 0, 1, 0]], [3, 2]),
+        (&[[1, 0, 9, MAX, 0], [2, MAX, 9, MAX, 0]], [2 * most, most]),
+    ];
+    for (rows, covers) in tables {
+        assert_eq!(summary(&rows.concat()).covers, covers, "{rows:?}");
+    }
+    assert_eq!(summary(&[&row[..], &[2, 20, 9, 5]].concat()).covers, [5, 5]);
+}
+
+#[test]
+fn a_refined_table_covers_what_its_matches_cover() {
+    let covered = |lefts_and_lengths: Vec<(u32, u32)>| -> u64 {
+        let stretches = lefts_and_lengths.iter();
+        let letters = stretches.flat_map(|&(left, length)| left..left + length);
+        letters.collect::<HashSet<u32>>().len() as u64
+    };
+    for script in EXAMPLES {
+        let matches = read_matches(script).unwrap().matches;
+        let on_a = matches.iter().map(|one| (one.left_a, one.length)).collect();
+        let on_b = matches.iter().map(|one| (one.left_b, one.length)).collect();
+        let table = refine(script).unwrap();
+        assert_eq!(table.summary().covers, [covered(on_a), covered(on_b)]);
+    }
 }
 
 #[test]

@@ -91,7 +91,7 @@ extern "C" {
         table_len: usize,
         pieces: *mut usize,
         distinct: *mut usize,
-        letters: *mut u64,
+        covers: *mut [u64; 2],
         classes: *mut [usize; 30],
     ) -> u32;
 
