@@ -5,7 +5,10 @@ use compare::draft::DraftMatch;
 use compare::groups::patterned;
 use compare::groups::shapes::{script, zigzag};
 use compare::random::Random;
+use compare::slow::script::MOST_MATCHES;
 use compare::slow::table::{NUMBERS_OF_A_ROW, WORK_OF_A_ROW};
+
+const MOST: u32 = MOST_MATCHES as u32;
 
 /// Tables of one length; the first is the ordinary one.
 pub struct Length {
@@ -23,6 +26,7 @@ pub fn all() -> Vec<Length> {
 fn length(rows: usize, random: &mut Random) -> Length {
     let count = rows as u32;
     let own = refined(&zigzag(true, count / 2, 1, false), rows);
+    let gaps: Vec<u32> = (0..count).flat_map(|k| [1, 3 * k, 5 * k, 2, 0]).collect();
     let mut tables = vec![
         ("zigzag", own.clone()),
         (
@@ -33,12 +37,54 @@ fn length(rows: usize, random: &mut Random) -> Length {
         ("random", random_rows(rows, random)),
         ("each piece twice", twice(&own)),
         ("all equal", [1, 7, 8, 9, 0].repeat(rows)),
+        ("gaps", gaps.clone()),
+        ("gaps, shuffled", shuffled(&gaps, random)),
+        (
+            "overlapping matches",
+            refined(&overlapping(count, random), rows),
+        ),
+        (
+            "separate zigzags",
+            refined(&separate_zigzags(count, random), rows),
+        ),
     ];
     tables.extend(patterned::all(count).map(|(name, table)| (name, shuffled(&table, random))));
-    if rows == 100_000 {
-        tables.push(("300 matches", refined(&patterned::matches(300), rows)));
+    match rows {
+        3_000 => tables.push(("separate matches", refined(&separate(random), rows))),
+        100_000 => tables.push(("300 matches", refined(&patterned::matches(300), rows))),
+        _ => (),
     }
     Length { rows, tables }
+}
+
+/// Matches that begin one letter apart on A and two apart on B, in any order. Each is cut into single letters: 48 of
+/// them, or more if 2,048 such matches do not fill the table.
+fn overlapping(rows: u32, random: &mut Random) -> Vec<DraftMatch> {
+    let letters = (rows / MOST).max(48);
+    let count = (rows / letters).min(MOST);
+    let matches = (0..count).map(|k| DraftMatch::direct(k, 2 * k, letters));
+    in_any_order(matches.collect(), random)
+}
+
+/// 1,024 zigzags of two matches that share no letter with each other, in any order.
+fn separate_zigzags(rows: u32, random: &mut Random) -> Vec<DraftMatch> {
+    let letters = rows / MOST;
+    let from = |left: u32| {
+        let shifted = move |m: DraftMatch| DraftMatch {
+            left_a: m.left_a + left,
+            left_b: m.left_b + left,
+            ..m
+        };
+        zigzag(true, letters, 1, false).into_iter().map(shifted)
+    };
+    let matches = (0..MOST / 2).flat_map(|k| from(k * (letters + 2)));
+    in_any_order(matches.collect(), random)
+}
+
+/// 2,048 matches no two of which touch, in any order: each is one piece.
+fn separate(random: &mut Random) -> Vec<DraftMatch> {
+    let matches = (0..MOST).map(|k| DraftMatch::direct(3 * k, 5 * k, 2));
+    in_any_order(matches.collect(), random)
 }
 
 fn refined(matches: &[DraftMatch], rows: usize) -> Vec<u32> {
@@ -52,11 +98,15 @@ fn refined(matches: &[DraftMatch], rows: usize) -> Vec<u32> {
 }
 
 fn shuffled(table: &[u32], random: &mut Random) -> Vec<u32> {
-    let mut rows: Vec<&[u32]> = table.chunks_exact(NUMBERS_OF_A_ROW).collect();
-    for i in (1..rows.len()).rev() {
-        rows.swap(i, random.count_between(0, i));
+    let rows: Vec<&[u32]> = table.chunks_exact(NUMBERS_OF_A_ROW).collect();
+    in_any_order(rows, random).concat()
+}
+
+fn in_any_order<T>(mut things: Vec<T>, random: &mut Random) -> Vec<T> {
+    for i in (1..things.len()).rev() {
+        things.swap(i, random.count_between(0, i));
     }
-    rows.concat()
+    things
 }
 
 fn random_rows(rows: usize, random: &mut Random) -> Vec<u32> {

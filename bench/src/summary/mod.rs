@@ -11,13 +11,15 @@ use std::hint::black_box;
 pub fn run() {
     println!();
     println!(
-        "{:<20} {:>9} {:>12} {:>12} {:>6} {:>11}",
-        "summary", "rows", "Rattle us", "Rust us", "ratio", "to ordinary"
+        "{:<20} {:>9} {:>12} {:>12} {:>6} {:>6} {:>11}",
+        "summary", "rows", "Rattle us", "Rust us", "covers", "ratio", "to ordinary"
     );
     for length in cases::all() {
         report(&length);
     }
-    println!("Rattle: notchergrey_summary, which works in arrays of its own. Rust: copies of the pieces, sorted.");
+    println!("Rattle: notchergrey_summary, which works in arrays of its own.");
+    println!("Rust: copies of the pieces, sorted, and of the stretches of each side, sorted.");
+    println!("covers: the part of Rust's time that the stretches take, by a call that counts covers alone.");
     println!("to ordinary: Rattle's time, over its time for the first table of that length, with which it takes turns.");
 }
 
@@ -29,19 +31,23 @@ fn report(length: &Length) {
             calls: (100_000 / length.rows).max(1),
             inputs: &[()],
         };
-        let [rattle, rust, first] = timing.medians([
+        let [rattle, rust, covers, first] = timing.medians([
             &mut |_| sum_up(table),
             &mut |_| {
                 black_box(plain::sum_up(black_box(table)));
             },
+            &mut |_| {
+                black_box(plain::covers(black_box(table)));
+            },
             &mut |_| sum_up(ordinary),
         ]);
         println!(
-            "{:<20} {:>9} {:>12.1} {:>12.1} {:>6.2} {:>11.2}",
+            "{:<20} {:>9} {:>12.1} {:>12.1} {:>6.2} {:>6.2} {:>11.2}",
             name,
             table.len() / 5,
             rattle / 1e3,
             rust / 1e3,
+            covers / rust,
             rattle / rust,
             rattle / first
         );
@@ -56,7 +62,7 @@ fn sum_up(table: &[u32]) {
 const NOTHING: Summary = Summary {
     pieces: 0,
     distinct: 0,
-    letters: 0,
+    covers: [0; 2],
     classes: [0; 30],
 };
 
@@ -65,6 +71,6 @@ fn check(name: &str, table: &[u32]) {
     let mut lent = NOTHING;
     assert_eq!(door::summary(table, &mut lent), 0, "{name}");
     let wanted = plain::sum_up(table);
-    let of = |s: &Summary| (s.pieces, s.distinct, s.letters, s.classes);
+    let of = |s: &Summary| (s.pieces, s.distinct, s.covers, s.classes);
     assert_eq!(of(&lent), of(&wanted), "{name}");
 }
