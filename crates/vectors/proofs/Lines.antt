@@ -12,6 +12,7 @@ use Rattle.records.specs.Bytes.{bytesOf}
 use Rattle.records.specs.Writing.{judgedFrom}
 use Rattle.rows.specs.Rows.{firstRows, rowsOf, numbersOf}
 use Rattle.table.specs.Distinct.{occurs, firstsAfter}
+use Rattle.table.specs.Covering.{lettersFrom}
 use Rattle.table.specs.Summing.{total, classesFrom}
 use Rattle.table.specs.Finding.{leading}
 use Rattle.refining.specs.Refining.{refiningOfMatches, refiningOf}
@@ -27,6 +28,6 @@ unfolding readFrom readScript insertBy sortBy flatMap Dec·and decLe decLt ℕ-d
     firstsAfter numbersOf refiningOfMatches refiningOf Least.spans? Least.spansPlace? Least.same? Least.in?
     Least.ends Least.spanning Least.images Least.spannedMarks Least.addNew Least.grow Least.spanCount
     Least.leastCuts Least.cutsWithin Least.pieceOf Least.piecesBetween Least.piecesOf Least.tableFrom
-    Least.leastTable total classesFrom placesWithin rowLines classLines reportOf
+    Least.leastTable total classesFrom lettersFrom placesWithin rowLines classLines reportOf
     carryingOf leading recordsOf bytesOf judgedFrom
 lines-hold = refl

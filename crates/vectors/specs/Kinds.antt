@@ -4,6 +4,7 @@
 --     refines, reads, refuses, finds, findsNone, carriesA, carriesB     calls on a script, through the doors
 --     writes, writesNone, lists, listsNone     calls on lists, through the doors
 --     marks, sums       calls on a table, through the doors
+--     covers            the letters covered, in a table that refining made
 --     prints, hands     what the program prints; and the same in a lent buffer, through the door
 -- Every lent number, and every number behind a pointer, is 99 before the call, so that a number that is kept shows.
 -- The table itself: specs/Lines. Assumes nothing.
@@ -33,6 +34,7 @@ pub data Outcome : Type 0 where
   listed : Reply Read → (records : List ℕ) → Outcome
   marked : RowsReply → Outcome
   summed : SummaryReply → Outcome
+  covered : List ℕ → Outcome
   printed : (text : List ℕ) → Outcome
   handed : ReportReply → (text : List ℕ) → Outcome
 
@@ -60,6 +62,10 @@ pub record Refining : Type 0 where
 abbrev pub distinctOf : Refined → List ℕ → ℕ
 distinctOf (Refined.Rows n) table = summaryOf (take (5 * n) table) .distinct
 distinctOf (Refined.Refused r) table = 0
+
+abbrev pub coversOf : Refined → List ℕ → List ℕ
+coversOf (Refined.Rows n) table = summaryOf (take (5 * n) table) .covers
+coversOf (Refined.Refused r) table = []
 
 abbrev pub flat : List (List ℕ) → List ℕ
 flat [] = []
@@ -184,14 +190,21 @@ marks table which start end =
       leaves = marked (record { number = 0; start = start; end = end });
     }
 
--- pieces, distinct pieces, letters, and the classes
-abbrev pub sums : List ℕ → ℕ → ℕ → ℕ → List ℕ → Line
-sums table all distinct letters classes =
+-- pieces, distinct pieces, the letters covered on A and on B, and the classes
+abbrev pub sums : List ℕ → ℕ → ℕ → ℕ → ℕ → List ℕ → Line
+sums table all distinct on-a on-b classes =
     record {
       comes = summed (summaryDoor table);
       leaves =
-          summed (record { number = 0; pieces = all; distinct = distinct; letters = letters; classes = classes });
+          summed
+          (record { number = 0; pieces = all; distinct = distinct; covers = on-a ∷ on-b ∷ []; classes = classes });
     }
+
+-- of a script that is refined with room for so many rows, the letters covered on A and on B
+abbrev pub covers : List ℕ → ℕ → ℕ → ℕ → Line
+covers script rows on-a on-b =
+    let x = refiningOf script (replicate (5 * rows) old) (replicate (4 * rows) old) in
+    record { comes = covered (coversOf (x .reply) (x .table)); leaves = covered (on-a ∷ on-b ∷ []) }
 
 -- ---- the text
 

@@ -10,7 +10,7 @@ use Prim.Native.Nat.{ℕ, zero, suc}
 use mathlib.Core.List.{List, [], _∷_, _++_}
 use lib.ListN.{replicate}
 use Rattle.vectors.specs.Kinds.{Line, Expected, refused, pieces, flat, refines, reads, refuses, finds, findsNone}
-use Rattle.vectors.specs.Kinds.{to, stays, carriesA, carriesB, marks, sums, prints, hands}
+use Rattle.vectors.specs.Kinds.{to, stays, carriesA, carriesB, marks, sums, covers, prints, hands}
 use Rattle.vectors.specs.Kinds.{writes, writesNone, lists, listsNone}
 
 -- ---- scripts
@@ -92,10 +92,10 @@ runText =
     flat
     -- lengths 10 10
     ((108 ∷ 101 ∷ 110 ∷ 103 ∷ 116 ∷ 104 ∷ 115 ∷ 32 ∷ 49 ∷ 48 ∷ 32 ∷ 49 ∷ 48 ∷ 10 ∷ [])
-    -- matches 2 pieces 8 distinct 7 letters 11
+    -- matches 2 pieces 8 distinct 7 covers 7 8
     ∷ (109 ∷ 97 ∷ 116 ∷ 99 ∷ 104 ∷ 101 ∷ 115 ∷ 32 ∷ 50 ∷ 32 ∷ 112 ∷ 105 ∷ 101 ∷ 99 ∷ 101 ∷ 115 ∷ 32 ∷ 56 ∷ 32
-    ∷ 100 ∷ 105 ∷ 115 ∷ 116 ∷ 105 ∷ 110 ∷ 99 ∷ 116 ∷ 32 ∷ 55 ∷ 32 ∷ 108 ∷ 101 ∷ 116 ∷ 116 ∷ 101 ∷ 114 ∷ 115
-    ∷ 32 ∷ 49 ∷ 49 ∷ 10 ∷ [])
+    ∷ 100 ∷ 105 ∷ 115 ∷ 116 ∷ 105 ∷ 110 ∷ 99 ∷ 116 ∷ 32 ∷ 55 ∷ 32 ∷ 99 ∷ 111 ∷ 118 ∷ 101 ∷ 114 ∷ 115
+    ∷ 32 ∷ 55 ∷ 32 ∷ 56 ∷ 10 ∷ [])
     -- 1 0 0 2 +
     ∷ (49 ∷ 32 ∷ 48 ∷ 32 ∷ 48 ∷ 32 ∷ 50 ∷ 32 ∷ 43 ∷ 10 ∷ [])
     -- 1 2 2 1 +
@@ -127,10 +127,10 @@ apartText =
     flat
     -- lengths 20 30
     ((108 ∷ 101 ∷ 110 ∷ 103 ∷ 116 ∷ 104 ∷ 115 ∷ 32 ∷ 50 ∷ 48 ∷ 32 ∷ 51 ∷ 48 ∷ 10 ∷ [])
-    -- matches 3 pieces 3 distinct 3 letters 10
+    -- matches 3 pieces 3 distinct 3 covers 10 10
     ∷ (109 ∷ 97 ∷ 116 ∷ 99 ∷ 104 ∷ 101 ∷ 115 ∷ 32 ∷ 51 ∷ 32 ∷ 112 ∷ 105 ∷ 101 ∷ 99 ∷ 101 ∷ 115 ∷ 32 ∷ 51 ∷ 32
-    ∷ 100 ∷ 105 ∷ 115 ∷ 116 ∷ 105 ∷ 110 ∷ 99 ∷ 116 ∷ 32 ∷ 51 ∷ 32 ∷ 108 ∷ 101 ∷ 116 ∷ 116 ∷ 101 ∷ 114 ∷ 115
-    ∷ 32 ∷ 49 ∷ 48 ∷ 10 ∷ [])
+    ∷ 100 ∷ 105 ∷ 115 ∷ 116 ∷ 105 ∷ 110 ∷ 99 ∷ 116 ∷ 32 ∷ 51 ∷ 32 ∷ 99 ∷ 111 ∷ 118 ∷ 101 ∷ 114 ∷ 115
+    ∷ 32 ∷ 49 ∷ 48 ∷ 32 ∷ 49 ∷ 48 ∷ 10 ∷ [])
     -- 1 0 0 1 +
     ∷ (49 ∷ 32 ∷ 48 ∷ 32 ∷ 48 ∷ 32 ∷ 49 ∷ 32 ∷ 43 ∷ 10 ∷ [])
     -- 2 2 3 4 +
@@ -366,10 +366,23 @@ lines =
     ∷ marks anything 5 0 0
     ∷ marks anything 3 0 0
     -- the summary of the same: seven rows, two of them the same piece, three in no class; classes 0, 3 and 29
-    ∷ sums anything 7 6 6442450959
+    ∷ sums anything 7 6 4294967295 4294967295
     (flat ((1 ∷ 0 ∷ 0 ∷ 2 ∷ []) ∷ replicate 25 0 ∷ (1 ∷ []) ∷ []))
     -- of no row at all
-    ∷ sums (1 ∷ 0 ∷ 0 ∷ 2 ∷ []) 0 0 0 (replicate 30 0)
+    ∷ sums (1 ∷ 0 ∷ 0 ∷ 2 ∷ []) 0 0 0 0 (replicate 30 0)
+    -- letters counted once: a row of 4 letters, one within it on A and behind it on B, one that touches, one of none
+    ∷ sums
+    (flat
+    ((1 ∷ 0 ∷ 0 ∷ 4 ∷ 0 ∷ []) ∷ (1 ∷ 2 ∷ 4 ∷ 1 ∷ 0 ∷ []) ∷ (1 ∷ 4 ∷ 5 ∷ 2 ∷ 0 ∷ []) ∷ (1 ∷ 9 ∷ 9 ∷ 0 ∷ 1 ∷ []) ∷ []))
+    4 4 6 7 (1 ∷ 1 ∷ 1 ∷ replicate 27 0)
+    -- neither a right end nor the number wraps at 2^32, and a row that begins last may be the first
+    ∷ sums (flat ((1 ∷ 4294967295 ∷ 0 ∷ 4294967295 ∷ 0 ∷ []) ∷ (1 ∷ 0 ∷ 4294967295 ∷ 1 ∷ 0 ∷ []) ∷ []))
+    2 2 4294967296 4294967296 (1 ∷ replicate 29 0)
+    -- in our own tables: the run above; lengths 5 5, direct 0 0 4, direct 0 1 4; and matches that share letters on A alone
+    ∷ covers run 8 7 8
+    ∷ covers (lengths 5 5 ++ direct 0 0 4 ++ direct 0 1 4 ++ end) 8 4 5
+    ∷ covers (lengths 10 20 ++ direct 0 0 3 ++ direct 2 10 3 ++ backward 7 19 1 ++ end) 5 6 7
+    ∷ covers (lengths 1 1 ++ end) 0 0 0
     ∷ []
 
 -- ---- the limit of matches: 26,634 bytes are too many to compute with, so `proofs/Most` goes match by match
