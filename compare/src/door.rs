@@ -180,7 +180,7 @@ pub fn summary(table: &[u32], lent: &mut Summary) -> u32 {
             table.len(),
             &mut lent.pieces,
             &mut lent.distinct,
-            ptr::from_mut(&mut lent.covers).cast(),
+            &mut lent.covers,
             &mut lent.classes,
         )
     }

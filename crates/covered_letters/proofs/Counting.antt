@@ -1,5 +1,6 @@
 -- Windows counted one after the other.
---     held-nested, held-room     what is gathered can be sorted and summed up
+--     held-nested        what is gathered can be sorted and summed up
+--     front-room, held-room     the first numbers have room where all have
 --     window-counted     and the sum is the letters covered in the window
 --     counted-first, counted-next     the letters before the end of a window
 --     counted-fits       their sum fits
@@ -10,7 +11,8 @@ use mathlib.Core.Bool.{true, false}
 use mathlib.Core.Path.{_≡_, refl, sym, _∙_}
 use mathlib.Core.List.{List}
 use native.Mathlib.Omega.{arith}
-use lib.ListN.{length, getD, take}
+use native.Mathlib.Nat.{le-trans, min-le-right}
+use lib.ListN.{length, getD, take, length-take}
 use lib.Seq.{length-take-le}
 use Rattle.refinement.specs.declared.Side.{Side}
 use Rattle.refinement.specs.Order.{_∈_}
@@ -35,10 +37,12 @@ held-nested {lows = lows} {highs = highs} {store = store} held =
     let high = length-take-le (store .used) highs (omega (arith, held .room, held .as-many)) in
     record { as-many = omega arith; nested = held .stored .nested }
 
-pub held-room : {from n : ℕ} {lows highs : List ℕ} {store : Store} → Held from lows highs store → length lows ≤ n
-    → length (take (store .used) lows) ≤ n
-held-room {lows = lows} {store = store} held room =
-    omega (arith, held .room, length-take-le (store .used) lows (held .room))
+pub front-room : (n : ℕ) (xs : List ℕ) {m : ℕ} → length xs ≤ m → length (take n xs) ≤ m
+front-room n xs room = rw (length-take n xs) (le-trans (min-le-right n (length xs)) room)
+
+pub held-room : {from m : ℕ} {lows highs : List ℕ} {store : Store} → Held from lows highs store → length lows ≤ m
+    → length (take (store .used) lows) ≤ m
+held-room {lows = lows} {store = store} held room = front-room (store .used) lows room
 
 pub window-counted : {s : Side} {rs : List Row} {from letters : ℕ} {lows highs : List ℕ} {store : Store}
     → Gathered s rs from lows highs store → Summed (take (store .used) lows) (take (store .used) highs) letters

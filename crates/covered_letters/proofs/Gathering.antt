@@ -149,17 +149,17 @@ pub record Passing (s : Side) (rs : List Row) (from : ℕ) (lows highs : List �
   pub shorter : p .to ≤ end
   pub all : (h : ℕ) → from ≤ h → h < p .to → underPass lows highs p h ≡ isCovered s (take k rs) h
 
-pub passing-starts : (s : Side) (rs : List Row) {from : ℕ} (lows highs : List ℕ) → length highs ≡ length lows
-    → from < end → Passing s rs from lows highs (record { used = 0; to = end; low = from; high = from }) 0
+pub passing-starts : (s : Side) (rs : List Row) {from to : ℕ} (lows highs : List ℕ) → length highs ≡ length lows
+    → from < to → to ≤ end → Passing s rs from lows highs (record { used = 0; to = to; low = from; high = from }) 0
 unfolding isCovered
-passing-starts s rs {from} lows highs as-many onward =
+passing-starts s rs {from} {to} lows highs as-many onward inside =
     record {
       rows = omega arith;
       running = record {
-        held = record { room = omega arith; as-many = as-many; onward = onward; stored = stored-none from end };
+        held = record { room = omega arith; as-many = as-many; onward = onward; stored = stored-none from to };
         order = omega arith;
       };
-      shorter = omega arith;
+      shorter = inside;
       all = λ h l l′. rw (within-behind from from h l) (under-none h);
     }
 

@@ -65,4 +65,3 @@ pub record Counted (s : Side) (rs : List Row) (from : ℕ) (w : Window) : Type 0
   pub onward : from < w .to
   pub shorter : w .to ≤ end
   pub counted : tally (isCovered s rs) (w .to) ≡ tally (isCovered s rs) from + w .letters
-

@@ -1,18 +1,20 @@
 // The letters that the rows of a table cover on a side, each counted once, without a lent buffer. A pass over the table
 // joins a row's stretch with the next ones while they touch, and stores what is joined in local arrays. Where there is
 // not room for all, the store has cut the window of letters that the pass counts, and the letters behind it are for a
-// later pass. A table that refining made has at most 2,048 stretches to store, one for each match.
+// later pass, whose window a sample of the rows has chosen. A table that refining made has at most 2,048 stretches to
+// store, one for each match, and takes one pass.
 use refinement::Side;
 use refinement::on_side;
 use rows::row_at;
 use rows::row_count;
+use sorted_numbers::sort;
 use stretches::Store;
 use stretches::Stretch;
 use stretches::count_sorted;
 use stretches::greater;
 use stretches::lesser;
 use stretches::put;
-ghost use Prim.Native.Nat.{_≤_, _<_};
+ghost use Prim.Native.Nat.{_+_, _≤_, _<_};
 ghost use mathlib.Core.Path.{_≡_};
 ghost use mathlib.Core.Bool.{_&&_};
 ghost use lib.ListN.{length};
@@ -31,6 +33,11 @@ const FEW: usize = 256;
 const SOME: usize = 3072;
 
 const MANY: usize = 6144;
+
+// The rows that a sample has at most, and the stretches that a window is to gather.
+const SAMPLES: usize = 4096;
+
+const EXPECTED: usize = 4608;
 
 // A pass over the rows: the store, and the run of touching stretches that is not stored yet.
 pub struct Pass {
@@ -112,23 +119,24 @@ fn take_in(
     }
 }
 
-// Takes the stretches of all rows in, in a window from `from` on.
+// Takes the stretches of all rows in, in a window from `from` to `to`.
 fn pass_over(
     table: &[u32],
     side: Side,
     from: u64,
+    to: u64,
     lows: &mut [u64],
     highs: &mut [u64],
     spare: &mut [u64],
 ) -> Pass
     requires { ⌜ Rooms (now lows) (now highs) (now spare) ⌝ }
-    requires { ⌜ from < end ⌝ }
+    requires { ⌜ (from < to) × (to ≤ end) ⌝ }
     ensures { λ r. ⌜ Passed side (rowsOf (now (table .entry))) from (now (lows .exit)) (now (highs .exit)) r ⌝ }
 {
     let rows = row_count(table);
     let mut pass = Pass {
         used: 0,
-        to: END,
+        to,
         low: from,
         high: from,
     };
@@ -141,20 +149,21 @@ fn pass_over(
     pass
 }
 
-// Gathers the stretches of all rows in a window from `from` on, as far as there is room.
+// Gathers the stretches of all rows in a window from `from` to `to`, as far as there is room.
 fn gather(
     table: &[u32],
     side: Side,
     from: u64,
+    to: u64,
     lows: &mut [u64],
     highs: &mut [u64],
     spare: &mut [u64],
 ) -> Store
     requires { ⌜ Rooms (now lows) (now highs) (now spare) ⌝ }
-    requires { ⌜ from < end ⌝ }
+    requires { ⌜ (from < to) × (to ≤ end) ⌝ }
     ensures { λ r. ⌜ Gathered side (rowsOf (now (table .entry))) from (now (lows .exit)) (now (highs .exit)) r ⌝ }
 {
-    let pass = pass_over(table, side, from, lows, highs, spare);
+    let pass = pass_over(table, side, from, to, lows, highs, spare);
     let store = Store {
         used: pass.used,
         to: pass.to,
@@ -166,20 +175,21 @@ fn gather(
     put(lows, highs, spare, store, from, run)
 }
 
-// Counts the letters of a window from `from` on.
+// Counts the letters of a window from `from` to `to`, or to where it is cut.
 fn count_window(
     table: &[u32],
     side: Side,
     from: u64,
+    to: u64,
     lows: &mut [u64],
     highs: &mut [u64],
     spare: &mut [u64],
 ) -> Window
     requires { ⌜ Rooms (now lows) (now highs) (now spare) ⌝ }
-    requires { ⌜ from < end ⌝ }
+    requires { ⌜ (from < to) × (to ≤ end) ⌝ }
     ensures { λ r. ⌜ Counted side (rowsOf (now (table .entry))) from r ⌝ }
 {
-    let store = gather(table, side, from, lows, highs, spare);
+    let store = gather(table, side, from, to, lows, highs, spare);
     let used = store.used;
     let letters = count_sorted(&mut lows[..used], &mut highs[..used], spare);
     Window {
@@ -188,24 +198,80 @@ fn count_window(
     }
 }
 
-fn count_with_few(table: &[u32], side: Side, from: u64) -> Window
+// The left ends of every step-th row, those from `from` on; says how many.
+fn sample(table: &[u32], side: Side, from: u64, step: usize, lows: &mut [u64]) -> usize
+    requires { ⌜ (0 < step) × (step ≤ length (rowsOf (now table)) + 1) ⌝ }
+    ensures { λ r. ⌜ r ≤ length (now (lows .entry)) ⌝ }
+{
+    let rows = row_count(table);
+    let mut used: usize = 0;
+    let mut k: usize = 0;
+    while k < rows {
+        let next = stretch_at(table, k, side);
+        k += step;
+        if next.low < from {
+            continue;
+        }
+        if used == lows.len() {
+            return used;
+        }
+        lows[used] = next.low;
+        used += 1;
+    }
+    used
+}
+
+// Where a window from `from` on may end, so that there is likely to be room for the stretches that begin in it.
+fn likely_end(table: &[u32], side: Side, from: u64, lows: &mut [u64], spare: &mut [u64]) -> u64
+    requires { ⌜ length (now lows) ≤ length (now spare) ⌝ }
     requires { ⌜ from < end ⌝ }
-    ensures { λ r. ⌜ Counted side (rowsOf (now (table .entry))) from r ⌝ }
+    ensures { λ r. ⌜ (from < r) × (r ≤ end) ⌝ }
+{
+    let step = row_count(table) / SAMPLES + 1;
+    let used = sample(table, side, from, step, lows);
+    sort(&mut lows[..used], spare);
+    let at = EXPECTED / step + 1;
+    if used <= at {
+        return END;
+    }
+    if lows[at] <= from {
+        return END;
+    }
+    lesser(lows[at], END)
+}
+
+fn count_with_few(table: &[u32], side: Side) -> Window
+    ensures { λ r. ⌜ Counted side (rowsOf (now (table .entry))) 0 r ⌝ }
 {
     let mut lows = [0u64; FEW];
     let mut highs = [0u64; FEW];
     let mut spare = [0u64; FEW];
-    count_window(table, side, from, &mut lows[..], &mut highs[..], &mut spare[..])
+    count_window(
+        table,
+        side,
+        0,
+        END,
+        &mut lows[..],
+        &mut highs[..],
+        &mut spare[..],
+    )
 }
 
-fn count_with_some(table: &[u32], side: Side, from: u64) -> Window
-    requires { ⌜ from < end ⌝ }
-    ensures { λ r. ⌜ Counted side (rowsOf (now (table .entry))) from r ⌝ }
+fn count_with_some(table: &[u32], side: Side) -> Window
+    ensures { λ r. ⌜ Counted side (rowsOf (now (table .entry))) 0 r ⌝ }
 {
     let mut lows = [0u64; SOME];
     let mut highs = [0u64; SOME];
     let mut spare = [0u64; SOME];
-    count_window(table, side, from, &mut lows[..], &mut highs[..], &mut spare[..])
+    count_window(
+        table,
+        side,
+        0,
+        END,
+        &mut lows[..],
+        &mut highs[..],
+        &mut spare[..],
+    )
 }
 
 fn count_with_many(table: &[u32], side: Side, from: u64) -> Window
@@ -215,7 +281,16 @@ fn count_with_many(table: &[u32], side: Side, from: u64) -> Window
     let mut lows = [0u64; MANY];
     let mut highs = [0u64; MANY];
     let mut spare = [0u64; MANY];
-    count_window(table, side, from, &mut lows[..], &mut highs[..], &mut spare[..])
+    let to = likely_end(table, side, from, &mut lows[..], &mut spare[..]);
+    count_window(
+        table,
+        side,
+        from,
+        to,
+        &mut lows[..],
+        &mut highs[..],
+        &mut spare[..],
+    )
 }
 
 // A short table is not worth large arrays, and what refining made is one window of the next size.
@@ -223,9 +298,9 @@ fn count_first(table: &[u32], side: Side) -> Window
     ensures { λ r. ⌜ Counted side (rowsOf (now (table .entry))) 0 r ⌝ }
 {
     if row_count(table) <= FEW {
-        return count_with_few(table, side, 0);
+        return count_with_few(table, side);
     }
-    count_with_some(table, side, 0)
+    count_with_some(table, side)
 }
 
 // Counts window by window.

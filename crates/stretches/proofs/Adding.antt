@@ -87,7 +87,7 @@ module _ {from : ℕ} {lows highs : List ℕ} {store : Store} (held : Held from 
     where
       outside : (h : ℕ) → within a b h ≡ false
       outside h =
-          elim (decLt h a) [ | yes t ↦ within-before a b h t | no t ↦ within-behind a b h (omega arith) ]
+          elim (decLt h a) [ yes t ↦ within-before a b h t | no t ↦ within-behind a b h (omega arith) ]
 
   pub added-one : store .used < length lows → a < b
       → Added from x lows highs store (set lows (store .used) a) (set highs (store .used) b)

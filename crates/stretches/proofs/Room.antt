@@ -171,7 +171,7 @@ module _ {from to : ℕ} {L H lows highs : List ℕ} {n : ℕ} (s : Stored from 
                   | no t ↦ none-cut h (omega arith)
                   | yes t ↦
                       let past : to ≤ h =
-                      elim (decLt h to) [ | no o ↦ omega arith | yes o ↦ absurd (omega (arith, le-min o t)) ] in
+                      elim (decLt h to) [ no o ↦ omega arith | yes o ↦ absurd (omega (arith, le-min o t)) ] in
                       same-cut h t ∙ u .same h ∙ s .none-behind h past
                 ];
           };

@@ -36,9 +36,9 @@ module _ {xs : List ℕ} (up : Rises xs) (h i : ℕ) (inside : i < length xs) wh
   -- number i is the largest of the first i + 1, and the least of those from i on
   not-above : (j : ℕ) → j < i + 1 → getD xs j 0 ≤ getD xs i 0
   not-above j l = elim (decLt j i) [
-      | yes t ↦ up .order j i t inside
-      | no t ↦ let e : j ≡ i = omega arith in rw e (omega arith)
-    ]
+    | yes t ↦ up .order j i t inside
+    | no t ↦ let e : j ≡ i = omega arith in rw e (omega arith)
+  ]
 
   not-below : (j : ℕ) → j < length (drop i xs) → getD xs i 0 ≤ getD xs (i + j) 0
   not-below zero l = rw (add-zero i) (omega arith)

@@ -55,7 +55,7 @@ module _ {L H : List ℕ} (p : Paired L H) where
       (under-last (take k L) (take k H) (getD L k 0) (getD H k 0) h (p .forward k inside) (omega arith)
       (λ i l. let t : i < k = omega arith in rw (getD-take k L i 0 t) (p .low-rises .order i k t inside))
       (λ i l. let t : i < k = omega arith in
-          rw (getD-take k H i 0 t) (p .high-rises .order i k t (omega (arith, p .as-many)))))
+      rw (getD-take k H i 0 t) (p .high-rises .order i k t (omega (arith, p .as-many)))))
 
   pub uniting-starts : 0 < length L → Uniting L H L H 1 1
   uniting-starts inside =
@@ -158,9 +158,9 @@ module _ {L H : List ℕ} (p : Paired L H) {lows highs : List ℕ} {used k : ℕ
       (under-last (take (used - 1) lows) (take (used - 1) highs) (getD lows (used - 1) 0) g h (omega arith)
       (omega arith)
       (λ i l. let t : i < used - 1 = omega arith in
-          rw (getD-take (used - 1) lows i 0 t) (lows-until u (getD lows (used - 1) 0) (omega arith) i (omega arith)))
+      rw (getD-take (used - 1) lows i 0 t) (lows-until u (getD lows (used - 1) 0) (omega arith) i (omega arith)))
       (λ i l. let t : i < used - 1 = omega arith in
-          rw (getD-take (used - 1) highs i 0 t) (highs-until u g order i (omega arith))))
+      rw (getD-take (used - 1) highs i 0 t) (highs-until u g order i (omega arith))))
 
   pub uniting-joined : getD lows k 0 ≤ getD highs (used - 1) 0 → Uniting L H lows (set highs (used - 1) v) used (k + 1)
   uniting-joined touches =
@@ -280,7 +280,7 @@ module _ {L H : List ℕ} (p : Paired L H) {lows highs : List ℕ} {used k : ℕ
           rw (take-set-next lows used w low-room, take-set-next highs used v room)
           (under-last (take used lows) (take used highs) w v h forward (omega arith)
           (λ i l. let t : i < used = omega arith in
-              rw (getD-take used lows i 0 t) (lows-until u w (omega (arith, low-here, low-order)) i t))
+          rw (getD-take used lows i 0 t) (lows-until u w (omega (arith, low-here, low-order)) i t))
           (λ i l. let t : i < used = omega arith in rw (getD-take used highs i 0 t) (highs-until u v high-order i t))
           ∙ rw (u .same h, low-here, high-here) (sym (under-next p k h inside)))
 

@@ -63,13 +63,7 @@ fn unite(lows: &mut [u64], highs: &mut [u64]) -> usize
 }
 
 // Makes room in full arrays: unites what touches and, where more than two thirds are left, cuts the window.
-fn make_room(
-    lows: &mut [u64],
-    highs: &mut [u64],
-    spare: &mut [u64],
-    from: u64,
-    to: u64,
-) -> Store
+fn make_room(lows: &mut [u64], highs: &mut [u64], spare: &mut [u64], from: u64, to: u64) -> Store
     requires { ⌜ Rooms (now lows) (now highs) (now spare) ⌝ }
     requires { ⌜ (from < to) × Stored from to (now lows) (now highs) ⌝ }
     ensures { λ r. ⌜

@@ -173,7 +173,7 @@ module _ (s : Side) where
       rising-sort (λ r q. leftOf s r ≤ leftOf s q) (notPast? s) (λ r q t l l′. le-trans l l′) rs (either rs)
     where
       one-way : (a b : ℕ) → (a ≤ b) ⊎ (b ≤ a)
-      one-way a b = elim (decLt b a) [ | yes l ↦ inr (omega arith) | no l ↦ inl (omega arith) ]
+      one-way a b = elim (decLt b a) [ yes l ↦ inr (omega arith) | no l ↦ inl (omega arith) ]
 
       either : (rs : List Row) → Rising (λ r q. (leftOf s r ≤ leftOf s q) ⊎ (leftOf s q ≤ leftOf s r)) rs
       either [] = tt

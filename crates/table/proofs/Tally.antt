@@ -94,7 +94,7 @@ tally-within a b n inside =
           omega (arith, none, all, rest)
       | no l ↦
           let apart : (h : ℕ) → h < n → within a b h ≡ false =
-          λ h l′. elim (decLt h a) [ | yes t ↦ within-before a b h t | no t ↦ within-behind a b h (omega arith) ]
+          λ h l′. elim (decLt h a) [ yes t ↦ within-before a b h t | no t ↦ within-behind a b h (omega arith) ]
           in
           omega (arith, tally-empty (within a b) n apart)
     ]
@@ -140,7 +140,7 @@ passing-all f zero l e = absurd (omega arith)
 passing-all f (suc n) {h} l e = go (f n) refl (λ apart. passing-all f n (omega arith) e)
   where
     go : (b : Bool) → f n ≡ b → ((h ≡ n → ⊥) → h ∈ passing f n) → h ∈ cond b (n ∷ passing f n) (passing f n)
-    go true _ before = elim (ℕ-discrete h n) [ | yes q ↦ here q | no apart ↦ there (before apart) ]
+    go true _ before = elim (ℕ-discrete h n) [ yes q ↦ here q | no apart ↦ there (before apart) ]
     go false o before = before (λ q. never-both e (rw q o))
 
 passing-once : (f : ℕ → Bool) (n : ℕ) → Distinct (passing f n)

@@ -9,11 +9,11 @@ use Rattle.covered_letters.proofs.pass_over.Statement.{statement}
 use Rattle.covered_letters.proofs.pass_over.Tie as tie
 
 abbrev Inv-loop : tie.InvT-loop
-Inv-loop table side from lows₀ highs₀ spare₀ rows pass₀ k₀ lows highs spare pass k =
+Inv-loop table side from to lows₀ highs₀ spare₀ rows pass₀ k₀ lows highs spare pass k =
     SameRoom lows₀ highs₀ spare₀ lows highs spare × Passing side (rowsOf table) from lows highs pass k
 
 abbrev μ-loop : tie.MeasureT-loop
-μ-loop table side from lows₀ highs₀ spare₀ rows pass₀ k₀ lows highs spare pass k = rows - k
+μ-loop table side from to lows₀ highs₀ spare₀ rows pass₀ k₀ lows highs spare pass k = rows - k
 
 row-count-requires : tie.Need-row-count-requires Inv-loop μ-loop
 row-count-requires c κs = search needs
@@ -21,7 +21,7 @@ row-count-requires c κs = search needs
 loop-holds : tie.Need-loop-holds Inv-loop μ-loop
 loop-holds c =
     let start : tie.Start Inv-loop μ-loop = search in
-    (record { low = refl; high = refl; spare = refl }, passing-starts _ _ _ _ (start .pre .0 .as-many) (start .pre .1))
+    (record { low = refl; high = refl; spare = refl }, passing-starts _ _ _ _ (start .pre .0 .as-many) (start .pre .1 .0) (start .pre .1 .1))
 
 stretch-at-requires : tie.Need-stretch-at-requires Inv-loop μ-loop
 stretch-at-requires c κs = search needs
@@ -46,9 +46,10 @@ loop-again c =
     let made : tie.After-stretch-at Inv-loop μ-loop = search in
     let taken : tie.After-take-in Inv-loop μ-loop = search in
     let room = now .loop .inv .0 in
-    let kept = taken .take-in .kept in
-    (record { low = kept .0 ∙ room .low; high = kept .1 .0 ∙ room .high; spare = kept .1 .1 .0 ∙ room .spare },
-    passing-more (now .loop .inv .1) (omega arith) (made .stretch-at .ensures) (taken .take-in .ensures))
+    let kept = taken .take-in .kept in (
+      record { low = kept .0 ∙ room .low; high = kept .1 .0 ∙ room .high; spare = kept .1 .1 .0 ∙ room .spare },
+      passing-more (now .loop .inv .1) (omega arith) (made .stretch-at .ensures) (taken .take-in .ensures),
+    )
 
 same-length : tie.Need-same-length Inv-loop μ-loop
 same-length c =
