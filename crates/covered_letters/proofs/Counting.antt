@@ -25,7 +25,8 @@ use Rattle.table.proofs.Tally.{tally-between, tally-empty, tally-at-most}
 use Rattle.table.proofs.Covers.{covered-iff, cover-tally}
 use Rattle.table.proofs.Laws.{table-ends}
 use Rattle.stretches.specs.Stores.{under, Nested, Held, Summed}
-use Rattle.covered_letters.specs.Windows.{end, Gathered, Counted}
+use Rattle.row_stretches.specs.Passes.{end, Gathered}
+use Rattle.covered_letters.specs.Windows.{Counted}
 use Rattle.stretches.specs.declared.Store.{Store}
 use Rattle.stretches.proofs.Adding.{stored-before}
 use Rattle.covered_letters.specs.declared.Window.{Window}

@@ -6,7 +6,7 @@ use native.Mathlib.Omega.{arith}
 use borrow.Author.Needs.{needs}
 use Rattle.rows.specs.Rows.{rowsOf}
 use Rattle.table.specs.Tally.{isCovered, tally}
-use Rattle.covered_letters.specs.Windows.{end}
+use Rattle.row_stretches.specs.Passes.{end}
 use Rattle.covered_letters.proofs.Counting.{counted-first, counted-next, counted-fits, cover-counted}
 use Rattle.covered_letters.proofs.cover_of.Statement.{statement}
 use Rattle.covered_letters.proofs.cover_of.Tie as tie

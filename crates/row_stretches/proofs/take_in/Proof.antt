@@ -3,9 +3,9 @@ use borrow.Author.Needs.{needs}
 use native.Mathlib.Omega.{arith}
 use mathlib.Core.Logic.{inl, inr}
 use mathlib.Core.Path.{sym, _∙_}
-use Rattle.covered_letters.proofs.Gathering.{taken-outside, taken-joined, taken-put}
-use Rattle.covered_letters.proofs.take_in.Statement.{statement}
-use Rattle.covered_letters.proofs.take_in.Tie as tie
+use Rattle.row_stretches.proofs.Gathering.{taken-outside, taken-joined, taken-put}
+use Rattle.row_stretches.proofs.take_in.Statement.{statement}
+use Rattle.row_stretches.proofs.take_in.Tie as tie
 
 returns : tie.Need-returns
 returns c =

@@ -1,7 +1,7 @@
 -- `stretch_at` meets its contract: the row that was read has these ends. Assumes nothing.
 use borrow.Author.Needs.{needs}
-use Rattle.covered_letters.proofs.stretch_at.Statement.{statement}
-use Rattle.covered_letters.proofs.stretch_at.Tie as tie
+use Rattle.row_stretches.proofs.stretch_at.Statement.{statement}
+use Rattle.row_stretches.proofs.stretch_at.Tie as tie
 
 row-at-requires : tie.Need-row-at-requires
 row-at-requires c κs = search needs

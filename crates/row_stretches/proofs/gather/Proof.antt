@@ -1,8 +1,8 @@
 -- `gather` meets its contract: behind the last row the last run is stored. Assumes nothing.
 use borrow.Author.Needs.{needs}
-use Rattle.covered_letters.proofs.Gathering.{gathered}
-use Rattle.covered_letters.proofs.gather.Statement.{statement}
-use Rattle.covered_letters.proofs.gather.Tie as tie
+use Rattle.row_stretches.proofs.Gathering.{gathered}
+use Rattle.row_stretches.proofs.gather.Statement.{statement}
+use Rattle.row_stretches.proofs.gather.Tie as tie
 
 pass-over-requires : tie.Need-pass-over-requires
 pass-over-requires c κs = search needs

@@ -1,7 +1,7 @@
 -- `touch` meets its contract: the two tests are the definition's. Assumes nothing.
 use borrow.Author.Tests.{le-leb, lt-leb}
-use Rattle.covered_letters.proofs.touch.Statement.{statement}
-use Rattle.covered_letters.proofs.touch.Tie as tie
+use Rattle.row_stretches.proofs.touch.Statement.{statement}
+use Rattle.row_stretches.proofs.touch.Tie as tie
 
 returns : tie.Need-returns
 returns c =

@@ -4,9 +4,9 @@ use mathlib.Core.Path.{refl, _∙_}
 use native.Mathlib.Omega.{arith}
 use borrow.Author.Needs.{needs}
 use Rattle.rows.specs.Rows.{rowsOf}
-use Rattle.covered_letters.proofs.Gathering.{SameRoom, rooms-kept, Passing, passing-starts, passing-more, passing-all}
-use Rattle.covered_letters.proofs.pass_over.Statement.{statement}
-use Rattle.covered_letters.proofs.pass_over.Tie as tie
+use Rattle.row_stretches.proofs.Gathering.{SameRoom, rooms-kept, Passing, passing-starts, passing-more, passing-all}
+use Rattle.row_stretches.proofs.pass_over.Statement.{statement}
+use Rattle.row_stretches.proofs.pass_over.Tie as tie
 
 abbrev Inv-loop : tie.InvT-loop
 Inv-loop table side from to lows₀ highs₀ spare₀ rows pass₀ k₀ lows highs spare pass k =

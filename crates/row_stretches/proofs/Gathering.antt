@@ -27,10 +27,10 @@ use Rattle.table.proofs.Pieces.{and-left, and-right}
 use Rattle.table.proofs.Covers.{covered-more}
 use Rattle.table.proofs.Tally.{within-true, within-before, within-behind}
 use Rattle.stretches.specs.Stores.{Rooms, underStore, Added}
-use Rattle.covered_letters.specs.Windows.{end, StretchOf, storeOf, runOf, underPass, Running, TakenIn, Passed, Gathered}
+use Rattle.row_stretches.specs.Passes.{end, StretchOf, storeOf, runOf, underPass, Running, TakenIn, Passed, Gathered}
 use Rattle.stretches.specs.declared.Stretch.{Stretch}
 use Rattle.stretches.specs.declared.Store.{Store}
-use Rattle.covered_letters.specs.declared.Pass.{Pass}
+use Rattle.row_stretches.specs.declared.Pass.{Pass}
 use Rattle.stretches.proofs.Adding.{stored-none, under-none}
 
 -- two stretches that touch have the letters of one
