@@ -2,7 +2,8 @@
 --     held-nested        what is gathered can be sorted and summed up
 --     front-room, held-room     the first numbers have room where all have
 --     window-counted     and the sum is the letters covered in the window
---     counted-first, counted-next     the letters before the end of a window
+--     begun-none, begun-first     before any window, and behind the first
+--     counted-next       the letters before the end of a window
 --     counted-fits       their sum fits
 --     cover-counted      behind the last window, all letters covered
 -- Assumes nothing.
@@ -26,7 +27,7 @@ use Rattle.table.proofs.Covers.{covered-iff, cover-tally}
 use Rattle.table.proofs.Laws.{table-ends}
 use Rattle.stretches.specs.Stores.{under, Nested, Held, Summed}
 use Rattle.row_stretches.specs.Passes.{end, Gathered}
-use Rattle.covered_letters.specs.Windows.{Counted}
+use Rattle.covered_letters.specs.Windows.{Counted, Begun}
 use Rattle.stretches.specs.declared.Store.{Store}
 use Rattle.stretches.proofs.Adding.{stored-before}
 use Rattle.covered_letters.specs.declared.Window.{Window}
@@ -59,10 +60,14 @@ window-counted {s} {rs} {from} {lows = lows} {highs = highs} {store = store} g s
     (λ h l l′. sym (g .all h l l′)) in
     record { onward = g .held .onward; shorter = g .shorter; counted = omega (arith, all, none, between) }
 
--- the first window, and one more
-pub counted-first : {s : Side} {rs : List Row} {w : Window} → Counted s rs 0 w → w .letters ≡ tally (isCovered s rs) (w .to)
+-- no window, the first, and one more
+pub begun-none : (s : Side) (rs : List Row) → Begun s rs (record { letters = 0; to = 0 })
 unfolding tally
-counted-first c = omega (arith, c .counted)
+begun-none s rs = record { shorter = omega arith; counted = refl }
+
+pub begun-first : {s : Side} {rs : List Row} {w : Window} → Counted s rs 0 w → Begun s rs w
+unfolding tally
+begun-first c = record { shorter = c .shorter; counted = omega (arith, c .counted) }
 
 module _ {s : Side} {rs : List Row} {from letters : ℕ} {w : Window} (c : Counted s rs from w)
     (sum : letters ≡ tally (isCovered s rs) from) where

@@ -1,5 +1,6 @@
 -- Letters counted in windows. Only private functions promise anything by it.
 --     Counted s rs from w            so many letters are covered in the window w, which starts at `from`
+--     Begun s rs w                   so many letters are covered before the end of w
 -- Assumes nothing.
 use Prim.Native.Nat.{ℕ, _+_, _≤_, _<_}
 use mathlib.Core.Path.{_≡_}
@@ -14,3 +15,7 @@ pub record Counted (s : Side) (rs : List Row) (from : ℕ) (w : Window) : Type 0
   pub onward : from < w .to
   pub shorter : w .to ≤ end
   pub counted : tally (isCovered s rs) (w .to) ≡ tally (isCovered s rs) from + w .letters
+
+pub record Begun (s : Side) (rs : List Row) (w : Window) : Type 0 where
+  pub shorter : w .to ≤ end
+  pub counted : w .letters ≡ tally (isCovered s rs) (w .to)

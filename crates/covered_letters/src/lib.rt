@@ -16,22 +16,21 @@ ghost use Rattle.rows.specs.Rows.{rowsOf};
 ghost use Rattle.table.specs.Covering.{coverOf};
 ghost use Rattle.stretches.specs.Stores.{Rooms};
 ghost use Rattle.row_stretches.specs.Passes.{end};
-ghost use Rattle.covered_letters.specs.Windows.{Counted};
+ghost use Rattle.covered_letters.specs.Windows.{Counted, Begun};
 
 // No stretch ends there or behind.
 const END: u64 = 0x2_0000_0000;
 
-// The stretches that there is room for: of a short table, of a table of the program's length, in a window of a long one.
+// The stretches that there is room for: of a short table, and in a window of a longer one, which keeps 4,096 of them if
+// it has to be cut.
 const FEW: usize = 256;
 
-const SOME: usize = 3072;
-
-const MANY: usize = 6144;
+const MANY: usize = 5120;
 
 // The rows that a sample has at most, and the stretches that a window is to gather.
 const SAMPLES: usize = 4096;
 
-const EXPECTED: usize = 4608;
+const EXPECTED: usize = 3840;
 
 // The letters counted, and where their window ends.
 pub struct Window {
@@ -85,12 +84,16 @@ fn sample(table: &[u32], side: Side, from: u64, step: usize, lows: &mut [u64]) -
     used
 }
 
-// Where a window from `from` on may end, so that there is likely to be room for the stretches that begin in it.
+// Where a window from `from` on may end, so that there is likely to be room for the stretches that begin in it. The first
+// window tries for all: what refining made has room there.
 fn likely_end(table: &[u32], side: Side, from: u64, lows: &mut [u64], spare: &mut [u64]) -> u64
     requires { ⌜ length (now lows) ≤ length (now spare) ⌝ }
     requires { ⌜ from < end ⌝ }
     ensures { λ r. ⌜ (from < r) × (r ≤ end) ⌝ }
 {
+    if from == 0 {
+        return END;
+    }
     let step = row_count(table) / SAMPLES + 1;
     let used = sample(table, side, from, step, lows);
     sort(&mut lows[..used], spare);
@@ -121,23 +124,6 @@ fn count_with_few(table: &[u32], side: Side) -> Window
     )
 }
 
-fn count_with_some(table: &[u32], side: Side) -> Window
-    ensures { λ r. ⌜ Counted side (rowsOf (now (table .entry))) 0 r ⌝ }
-{
-    let mut lows = [0u64; SOME];
-    let mut highs = [0u64; SOME];
-    let mut spare = [0u64; SOME];
-    count_window(
-        table,
-        side,
-        0,
-        END,
-        &mut lows[..],
-        &mut highs[..],
-        &mut spare[..],
-    )
-}
-
 fn count_with_many(table: &[u32], side: Side, from: u64) -> Window
     requires { ⌜ from < end ⌝ }
     ensures { λ r. ⌜ Counted side (rowsOf (now (table .entry))) from r ⌝ }
@@ -157,27 +143,32 @@ fn count_with_many(table: &[u32], side: Side, from: u64) -> Window
     )
 }
 
-// A short table is not worth large arrays, and what refining made is one window of the next size.
-fn count_first(table: &[u32], side: Side) -> Window
-    ensures { λ r. ⌜ Counted side (rowsOf (now (table .entry))) 0 r ⌝ }
-{
-    if row_count(table) <= FEW {
-        return count_with_few(table, side);
-    }
-    count_with_some(table, side)
-}
-
-// Counts window by window.
-pub fn cover_of(table: &[u32], side: Side) -> u64
+// The letters counted before, and those of the windows behind.
+fn count_on(table: &[u32], side: Side, counted: Window) -> u64
+    requires { ⌜ Begun side (rowsOf (now table)) counted ⌝ }
     ensures { λ r. ⌜ r ≡ coverOf side (rowsOf (now (table .entry))) ⌝ }
 {
-    let first = count_first(table, side);
-    let mut letters = first.letters;
-    let mut from = first.to;
+    let mut letters = counted.letters;
+    let mut from = counted.to;
     while from < END {
         let next = count_with_many(table, side, from);
         letters += next.letters;
         from = next.to;
     }
     letters
+}
+
+// Counts window by window. A short table is not worth large arrays: those are on the stack of `count_on` alone, which is
+// called twice lest the compiler make it a part of this function.
+pub fn cover_of(table: &[u32], side: Side) -> u64
+    ensures { λ r. ⌜ r ≡ coverOf side (rowsOf (now (table .entry))) ⌝ }
+{
+    if FEW < row_count(table) {
+        return count_on(table, side, Window { letters: 0, to: 0 });
+    }
+    let few = count_with_few(table, side);
+    if few.to < END {
+        return count_on(table, side, few);
+    }
+    few.letters
 }

@@ -62,7 +62,7 @@ fn unite(lows: &mut [u64], highs: &mut [u64]) -> usize
     used
 }
 
-// Makes room in full arrays: unites what touches and, where more than two thirds are left, cuts the window.
+// Makes room in full arrays: unites what touches and, where more than four fifths are left, cuts the window.
 fn make_room(lows: &mut [u64], highs: &mut [u64], spare: &mut [u64], from: u64, to: u64) -> Store
     requires { ⌜ Rooms (now lows) (now highs) (now spare) ⌝ }
     requires { ⌜ (from < to) × Stored from to (now lows) (now highs) ⌝ }
@@ -72,7 +72,7 @@ fn make_room(lows: &mut [u64], highs: &mut [u64], spare: &mut [u64], from: u64, 
     sort(lows, spare);
     sort(highs, spare);
     let kept = unite(lows, highs);
-    let most = lows.len() - lows.len() / 3;
+    let most = lows.len() - lows.len() / 5;
     if kept <= most {
         return Store { used: kept, to };
     }

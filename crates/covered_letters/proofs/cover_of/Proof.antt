@@ -1,70 +1,46 @@
--- `cover_of` meets its contract. The loop has counted the letters before `from`; the measure is how far the end is, and
--- each window moves on. Assumes nothing.
-use Prim.Native.Nat.{_-_, _≤_}
-use mathlib.Core.Path.{_≡_}
+-- `cover_of` meets its contract: a short table is one window, unless its end is not reached. Assumes nothing.
 use native.Mathlib.Omega.{arith}
+use Rattle.covered_letters.proofs.Counting.{begun-none, begun-first, cover-counted}
 use borrow.Author.Needs.{needs}
-use Rattle.rows.specs.Rows.{rowsOf}
-use Rattle.table.specs.Tally.{isCovered, tally}
-use Rattle.row_stretches.specs.Passes.{end}
-use Rattle.covered_letters.proofs.Counting.{counted-first, counted-next, counted-fits, cover-counted}
 use Rattle.covered_letters.proofs.cover_of.Statement.{statement}
 use Rattle.covered_letters.proofs.cover_of.Tie as tie
 
-abbrev Inv-loop : tie.InvT-loop
-Inv-loop table side letters₀ from₀ letters from =
-    (from ≤ end) × (letters ≡ tally (isCovered side (rowsOf table)) from)
+row-count-requires : tie.Need-row-count-requires
+row-count-requires c κs = search needs
 
-abbrev μ-loop : tie.MeasureT-loop
-μ-loop table side letters₀ from₀ letters from = end - from
+count-on-requires : tie.Need-count-on-requires
+count-on-requires c κs = begun-none _ _
 
-count-first-requires : tie.Need-count-first-requires Inv-loop μ-loop
-count-first-requires c κs = search needs
+returns : tie.Need-returns
+returns c = search needs
 
-loop-holds : tie.Need-loop-holds Inv-loop μ-loop
-loop-holds c =
-    let first : tie.After-count-first Inv-loop μ-loop = search in
-    (first .count-first .ensures .shorter, counted-first (first .count-first .ensures))
+count-with-few-requires : tie.Need-count-with-few-requires
+count-with-few-requires c κs = search needs
 
-count-with-many-requires : tie.Need-count-with-many-requires Inv-loop μ-loop
-count-with-many-requires c κs = search needs
+count-on-requires-2 : tie.Need-count-on-requires-2
+count-on-requires-2 c κs =
+    let few : tie.After-count-with-few = search in
+    begun-first (few .count-with-few .ensures)
 
-add-letters : tie.Need-add-letters Inv-loop μ-loop
-add-letters c =
-    let now : tie.At-loop Inv-loop μ-loop = search in
-    let next : tie.After-count-with-many Inv-loop μ-loop = search in
-    record { fits = omega (arith, counted-fits (next .count-with-many .ensures) (now .loop .inv .1)) }
+returns-2 : tie.Need-returns-2
+returns-2 c = search needs
 
-loop-less : tie.Need-loop-less Inv-loop μ-loop
-loop-less c =
-    let next : tie.After-count-with-many Inv-loop μ-loop = search in
-    omega (arith, next .count-with-many .ensures .onward, next .count-with-many .ensures .shorter)
-
-loop-again : tie.Need-loop-again Inv-loop μ-loop
-loop-again c =
-    let now : tie.At-loop Inv-loop μ-loop = search in
-    let next : tie.After-count-with-many Inv-loop μ-loop = search in
-    let counted = next .count-with-many .ensures in
-    (counted .shorter, counted-next counted (now .loop .inv .1))
-
-returns : tie.Need-returns Inv-loop μ-loop
-returns c =
-    let start : tie.Start Inv-loop μ-loop = search in
-    let now : tie.At-loop Inv-loop μ-loop = search in
-    let known : tie.After-shared-slice-known Inv-loop μ-loop = search in
+returns-3 : tie.Need-returns-3
+returns-3 c =
+    let start : tie.Start = search in
+    let known : tie.After-shared-slice-known = search in
+    let few : tie.After-count-with-few = search in
     cover-counted (start .args .side) (start .args .table .now) (λ k. omega (arith, known .shared-slice-known .given k))
-    (omega arith) (now .loop .inv .1)
+    (omega arith) (begun-first (few .count-with-few .ensures) .counted)
 
 pub cover-of-spec : {M : Type 1} → statement M
 cover-of-spec =
     tie.close
     (tie.spec
-    Inv-loop
-    μ-loop
-    count-first-requires
-    loop-holds
-    count-with-many-requires
-    add-letters
-    loop-less
-    loop-again
-    returns)
+    row-count-requires
+    count-on-requires
+    returns
+    count-with-few-requires
+    count-on-requires-2
+    returns-2
+    returns-3)

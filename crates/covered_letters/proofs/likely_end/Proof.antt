@@ -9,6 +9,9 @@ use Rattle.covered_letters.proofs.Counting.{front-room}
 use Rattle.covered_letters.proofs.likely_end.Statement.{statement}
 use Rattle.covered_letters.proofs.likely_end.Tie as tie
 
+returns : tie.Need-returns
+returns c = search needs
+
 row-count-requires : tie.Need-row-count-requires
 row-count-requires c κs = search needs
 
@@ -48,14 +51,14 @@ same-length c = search needs
 same-length-2 : tie.Need-same-length-2
 same-length-2 c = search needs
 
-returns : tie.Need-returns
-returns c = search needs
+returns-2 : tie.Need-returns-2
+returns-2 c = search needs
 
-mul-if2 : tie.Need-mul-if2
-mul-if2 c = search needs
+mul-if3 : tie.Need-mul-if3
+mul-if3 c = search needs
 
-slice-read-if2 : tie.Need-slice-read-if2
-slice-read-if2 c = search needs
+slice-read-if3 : tie.Need-slice-read-if3
+slice-read-if3 c = search needs
 
 same-length-3 : tie.Need-same-length-3
 same-length-3 c = search needs
@@ -63,8 +66,8 @@ same-length-3 c = search needs
 same-length-4 : tie.Need-same-length-4
 same-length-4 c = search needs
 
-returns-2 : tie.Need-returns-2
-returns-2 c = search needs
+returns-3 : tie.Need-returns-3
+returns-3 c = search needs
 
 mul-lesser : tie.Need-mul-lesser
 mul-lesser c = search needs
@@ -81,13 +84,14 @@ same-length-5 c = search needs
 same-length-6 : tie.Need-same-length-6
 same-length-6 c = search needs
 
-returns-3 : tie.Need-returns-3
-returns-3 c = search needs
+returns-4 : tie.Need-returns-4
+returns-4 c = search needs
 
 pub likely-end-spec : {M : Type 1} → statement M
 likely-end-spec =
     tie.close
     (tie.spec
+    returns
     row-count-requires
     add-step
     sample-requires
@@ -98,15 +102,15 @@ likely-end-spec =
     add-at
     same-length
     same-length-2
-    returns
-    mul-if2
-    slice-read-if2
+    returns-2
+    mul-if3
+    slice-read-if3
     same-length-3
     same-length-4
-    returns-2
+    returns-3
     mul-lesser
     slice-read-lesser
     lesser-requires
     same-length-5
     same-length-6
-    returns-3)
+    returns-4)
