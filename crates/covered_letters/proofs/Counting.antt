@@ -8,7 +8,6 @@
 --     cover-counted      behind the last window, all letters covered
 -- Assumes nothing.
 use Prim.Native.Nat.{ℕ, _+_, _^_, _≤_, _<_}
-use mathlib.Core.Bool.{true, false}
 use mathlib.Core.Path.{_≡_, refl, sym, _∙_}
 use mathlib.Core.List.{List}
 use native.Mathlib.Omega.{arith}
@@ -16,14 +15,12 @@ use native.Mathlib.Nat.{le-trans, min-le-right}
 use lib.ListN.{length, getD, take, length-take}
 use lib.Seq.{length-take-le}
 use Rattle.refinement.specs.declared.Side.{Side}
-use Rattle.refinement.specs.Order.{_∈_}
 use Rattle.rows.specs.Rows.{rowsOf}
 use Rattle.rows.specs.declared.Row.{Row}
-use Rattle.table.specs.Covering.{rightOf, coverOf}
+use Rattle.table.specs.Covering.{coverOf}
 use Rattle.table.specs.Tally.{isCovered, tally}
-use Rattle.table.proofs.Pieces.{false-of}
 use Rattle.table.proofs.Tally.{tally-between, tally-empty, tally-at-most}
-use Rattle.table.proofs.Covers.{covered-iff, cover-tally}
+use Rattle.table.proofs.Covers.{cover-tally}
 use Rattle.table.proofs.Laws.{table-ends}
 use Rattle.stretches.specs.Stores.{under, Nested, Held, Summed}
 use Rattle.row_stretches.specs.Passes.{end, Gathered}

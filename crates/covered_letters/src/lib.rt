@@ -84,8 +84,8 @@ fn sample(table: &[u32], side: Side, from: u64, step: usize, lows: &mut [u64]) -
     used
 }
 
-// Where a window from `from` on may end, so that there is likely to be room for the stretches that begin in it. The first
-// window tries for all: what refining made has room there.
+// Where a window from `from` on may end, so that there is likely to be room for the stretches that begin in it. The
+// first window tries for all: what refining made has room there.
 fn likely_end(table: &[u32], side: Side, from: u64, lows: &mut [u64], spare: &mut [u64]) -> u64
     requires { ⌜ length (now lows) ≤ length (now spare) ⌝ }
     requires { ⌜ from < end ⌝ }
@@ -158,8 +158,8 @@ fn count_on(table: &[u32], side: Side, counted: Window) -> u64
     letters
 }
 
-// Counts window by window. A short table is not worth large arrays: those are on the stack of `count_on` alone, which is
-// called twice lest the compiler make it a part of this function.
+// Counts window by window. A short table is not worth large arrays: those are on the stack of `count_on` alone, which
+// is called twice lest the compiler make it a part of this function.
 pub fn cover_of(table: &[u32], side: Side) -> u64
     ensures { λ r. ⌜ r ≡ coverOf side (rowsOf (now (table .entry))) ⌝ }
 {

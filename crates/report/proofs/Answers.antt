@@ -43,7 +43,8 @@ report-refined script text p q count admits t w replied wrote e printed =
     ap (λ (b : List ℕ). reportingOfText b text) (report-admits script admits ∙ sym (told ∙ lent)) ∙ printed
 
 -- the reply and the text, by what they are together, and what line two then ends in
-reported : (script text : List ℕ) {r : Reported} {text′ : List ℕ} → reportingOf script text ≡ record { reply = r; text = text′ }
+reported : (script text : List ℕ) {r : Reported} {text′ : List ℕ}
+    → reportingOf script text ≡ record { reply = r; text = text′ }
     → (r ≡ reportingOf script text .reply) × ((text′ ≡ reportingOf script text .text) × CoversPrinted script r text′)
 reported script text e =
     let replied = ap (λ (y : Reporting). y .reply) e in

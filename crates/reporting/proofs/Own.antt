@@ -197,4 +197,6 @@ printed-whole printed text {n} e =
 pub covers-printed : (script text : List ℕ)
     → CoversPrinted script (reportingOf script text .reply) (reportingOf script text .text)
 covers-printed script text =
-    record { covers = λ replied read room. rw (printed-whole (reportOf script) text replied) (line-two script read room) }
+    record {
+      covers = λ replied read room. rw (printed-whole (reportOf script) text replied) (line-two script read room);
+    }

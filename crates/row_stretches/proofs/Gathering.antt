@@ -10,7 +10,7 @@
 use Prim.Native.Nat.{ℕ, _+_, _≤_, _<_, min, max}
 use mathlib.Core.Bool.{Bool, true, false, or-true, or-false, or-comm, _&&_, _||_}
 use mathlib.Core.Logic.{_⊎_, ⊎-elim}
-use mathlib.Core.Path.{_≡_, refl, sym, ap, _∙_}
+use mathlib.Core.Path.{_≡_, refl, sym, _∙_}
 use mathlib.Core.List.{List}
 use native.Mathlib.Omega.{arith}
 use native.Mathlib.Decide.{decLt}
@@ -27,7 +27,8 @@ use Rattle.table.proofs.Pieces.{and-left, and-right}
 use Rattle.table.proofs.Covers.{covered-more}
 use Rattle.table.proofs.Tally.{within-true, within-before, within-behind}
 use Rattle.stretches.specs.Stores.{Rooms, underStore, Added}
-use Rattle.row_stretches.specs.Passes.{end, StretchOf, storeOf, runOf, underPass, Running, TakenIn, Passed, Gathered}
+use Rattle.row_stretches.specs.Passes.{end, StretchOf, storeOf, runOf, underPass, Running, TakenIn, Passed}
+use Rattle.row_stretches.specs.Passes.{Gathered}
 use Rattle.stretches.specs.declared.Stretch.{Stretch}
 use Rattle.stretches.specs.declared.Store.{Store}
 use Rattle.row_stretches.specs.declared.Pass.{Pass}
@@ -111,7 +112,8 @@ module _ {from : ℕ} {lows highs : List ℕ} {p : Pass} (run : Running from low
         shorter = omega arith;
         more = λ h l l′.
             rw (at-low, at-high, joined (p .low) (p .high) (x .low) (x .high) h (run .order) forward touch touch′)
-            (or-aside (within (p .low) (p .high) h) (within (x .low) (x .high) h) (underStore lows highs (storeOf p) h));
+            (or-aside (within (p .low) (p .high) h) (within (x .low) (x .high) h)
+            (underStore lows highs (storeOf p) h));
       }
 
   pub taken-put : {lows′ highs′ : List ℕ} {store : Store}

@@ -6,14 +6,14 @@
 --     roomier-held, added-roomier   the same after room was made
 -- Assumes nothing.
 use Prim.Native.Nat.{ℕ, _+_, _≤_, _<_, min, max}
-use mathlib.Core.Bool.{false, _||_}
+use mathlib.Core.Bool.{false}
 use mathlib.Core.Path.{_≡_, refl, sym, _∙_}
 use mathlib.Core.List.{List, [], _∷_, _++_}
 use native.Mathlib.Omega.{arith}
 use native.Mathlib.Decide.{decLt, decLe}
 use native.Mathlib.Nat.{le-max-left, le-max-right, max-le, min-le-left, min-le-right, le-min}
 use borrow.Author.Tests.{lt-leb, le-leb, le-ltb}
-use lib.ListN.{length, take, set, length-set}
+use lib.ListN.{length, set, length-set}
 use lib.Seq.{take-all}
 use Rattle.table.specs.Tally.{within}
 use Rattle.table.proofs.Tally.{within-true, within-before, within-behind}
@@ -51,7 +51,8 @@ pub under-none : (h : ℕ) → under [] [] h ≡ false
 unfolding rank
 under-none h = refl
 
-pub stored-before : {from to : ℕ} {xs ys : List ℕ} → Stored from to xs ys → (h : ℕ) → h < from → under xs ys h ≡ false
+pub stored-before : {from to : ℕ} {xs ys : List ℕ} → Stored from to xs ys → (h : ℕ) → h < from
+    → under xs ys h ≡ false
 stored-before {xs = xs} {ys = ys} s h l = le-ltb (rank h ys) (rank h xs) (omega (arith, s .none-before h l))
 
 stored-more : {from to : ℕ} {xs ys : List ℕ} → Stored from to xs ys → (a b : ℕ) → from ≤ a → a < b → b ≤ to
@@ -61,7 +62,8 @@ stored-more {from} {to} {xs} {ys} s a b low some high =
       nested = λ h.
           elim (decLe b h) [
             | yes l ↦
-                rw (rank-last h xs a, rank-last h ys b, le-leb b h l, le-leb a h (omega arith)) (omega (arith, s .nested h))
+                rw (rank-last h xs a, rank-last h ys b, le-leb b h l, le-leb a h (omega arith))
+                (omega (arith, s .nested h))
             | no l ↦
                 rw (rank-last h xs a, rank-last h ys b, lt-leb b h (omega arith)) (omega (arith, s .nested h))
           ];

@@ -5,12 +5,12 @@
 --     room-enough        united, few enough stretches are left
 --     room-cut           the window is cut at the first stretch that is left out
 -- Assumes nothing.
-use Prim.Native.Nat.{ℕ, zero, suc, _+_, _≤_, _<_, min}
+use Prim.Native.Nat.{ℕ, _+_, _≤_, _<_, min}
 use mathlib.Core.Bool.{false}
-use mathlib.Core.Path.{_≡_, refl, sym, ap, ap₂, _∙_}
+use mathlib.Core.Path.{_≡_, sym, ap, _∙_}
 use mathlib.Core.List.{List}
 use native.Mathlib.Omega.{arith}
-use native.Mathlib.Decide.{decLt, decLe}
+use native.Mathlib.Decide.{decLt}
 use native.Mathlib.Nat.{min-le-left, min-le-right, le-min}
 use borrow.Author.Tests.{le-ltb}
 use lib.ListN.{length, getD, take, drop, length-drop}
@@ -48,8 +48,8 @@ module _ {from to : ℕ} {L H xs ys : List ℕ} (s : Stored from to L H) (low : 
         none-behind = λ h l. sorted-under h ∙ s .none-behind h l;
       }
 
-  pub sorted-roomier : {lows highs : List ℕ} {store : Store} → length xs ≡ length L → Roomier from to xs ys lows highs store
-      → Roomier from to L H lows highs store
+  pub sorted-roomier : {lows highs : List ℕ} {store : Store} → length xs ≡ length L
+      → Roomier from to xs ys lows highs store → Roomier from to L H lows highs store
   sorted-roomier size r =
       record {
         room = omega (arith, r .room);

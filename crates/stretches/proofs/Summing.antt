@@ -121,7 +121,8 @@ module _ {L H : List ℕ} (p : Paired L H) {letters reach k : ℕ} (s : Summing 
             let f = under L H in
             elim (decLe reach last) [
               | yes l ↦
-                  omega (arith, whole-sum, tally-none f reach last l (λ h o o′. rw (whole, whole′) at (none-behind h o)))
+                  let beyond = tally-none f reach last l (λ h o o′. rw (whole, whole′) at (none-behind h o)) in
+                  omega (arith, whole-sum, beyond)
               | no l ↦
                   omega (arith, whole-sum, tally-none f last reach (omega arith) (λ h o o′. none h o))
             ];

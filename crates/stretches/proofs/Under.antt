@@ -6,8 +6,8 @@
 --     under-last                    the same, of ends that rise
 -- Assumes nothing.
 use Prim.Native.Nat.{ℕ, zero, suc, _+_, _≤_, _<_}
-use mathlib.Core.Bool.{Bool, true, false, cond, _||_}
-use mathlib.Core.Path.{_≡_, refl, sym, ap, _∙_}
+use mathlib.Core.Bool.{cond, _||_}
+use mathlib.Core.Path.{_≡_, sym, ap, _∙_}
 use mathlib.Core.List.{List, [], _∷_, _++_}
 use native.Mathlib.Omega.{arith}
 use native.Mathlib.Nat.{add-zero}
@@ -84,8 +84,8 @@ nested-pairs {xs} {ys} up up′ n =
           elim (decLt h (getD xs i 0)) [
             | no t ↦ omega arith
             | yes t ↦
-                absurd
-                (omega (arith, n .nested h, rank-from up′ h i (omega (arith, n .as-many)) (omega arith), rank-until up h i l t))
+                let many = rank-from up′ h i (omega (arith, n .as-many)) (omega arith) in
+                absurd (omega (arith, n .nested h, many, rank-until up h i l t))
           ];
     }
 
@@ -95,7 +95,8 @@ module _ (xs ys : List ℕ) (a b h : ℕ) (forward : a ≤ b) where
   -- the stretch begins behind h
   under-before : h < a → under (xs ++ a ∷ []) (ys ++ b ∷ []) h ≡ under xs ys h
   under-before l =
-      rw (rank-last h xs a, rank-last h ys b, lt-leb a h l, lt-leb b h (omega arith), add-zero (rank h xs), add-zero (rank h ys))
+      rw (rank-last h xs a, rank-last h ys b, lt-leb a h l, lt-leb b h (omega arith))
+      (rw (add-zero (rank h xs), add-zero (rank h ys)))
 
   pub under-more : rank h ys ≤ rank h xs
       → under (xs ++ a ∷ []) (ys ++ b ∷ []) h ≡ (within a b h || under xs ys h)

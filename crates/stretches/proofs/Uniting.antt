@@ -8,7 +8,7 @@
 --     all-apart                      each stretch that is written ends before every later one begins
 -- Assumes nothing.
 use Prim.Native.Nat.{ℕ, zero, suc, _+_, _-_, _≤_, _<_}
-use mathlib.Core.Bool.{Bool, true, false, cond}
+use mathlib.Core.Bool.{Bool, cond}
 use mathlib.Core.Path.{_≡_, refl, sym, ap, _∙_}
 use mathlib.Core.List.{List, [], _∷_, _++_}
 use native.Mathlib.Omega.{arith}
@@ -17,7 +17,7 @@ use native.Mathlib.Numerals.{add-one}
 use borrow.Author.Tests.{lt-ltb, le-ltb}
 use lib.ListN.{length, getD, take, set, length-set}
 use lib.Dec.{ltb}
-use lib.Seq.{length-take-le, take-all, take-suc, take-suc-set, take-set-le, getD-take, getD-set-same, getD-set-other}
+use lib.Seq.{length-take-le, take-all, take-suc, take-suc-set, getD-take, getD-set-same, getD-set-other}
 use Rattle.sorted_numbers.specs.Ranks.{rank}
 use Rattle.stretches.specs.Stores.{under, Paired, Apart, United}
 use Rattle.stretches.proofs.Under.{rank-last, under-last}
@@ -92,7 +92,9 @@ module _ {L H : List ℕ} {lows highs : List ℕ} {used k : ℕ} (u : Uniting L 
   lows-until a most i l =
       elim (ℕ-discrete i (used - 1)) [
         | yes e ↦ rw e most
-        | no apart ↦ omega (arith, u .apart .forward i l, all-apart (u .apart) i (used - 1) (omega arith) (omega (arith, u .some)))
+        | no apart ↦
+            let next = all-apart (u .apart) i (used - 1) (omega arith) (omega (arith, u .some)) in
+            omega (arith, u .apart .forward i l, next)
       ]
 
   highs-until : (b : ℕ) → getD highs (used - 1) 0 ≤ b → (i : ℕ) → i < used → getD highs i 0 ≤ b
@@ -203,7 +205,8 @@ module _ {L H : List ℕ} (p : Paired L H) {lows highs : List ℕ} {used k : ℕ
       same-joined h =
           let g = getD highs (used - 1) 0 in
           let new = under-to h v (set highs (used - 1) v)
-          (ap (λ (n : ℕ). take n (set highs (used - 1) v)) all ∙ take-set-next highs (used - 1) v high-room) high-order in
+          (ap (λ (n : ℕ). take n (set highs (used - 1) v)) all ∙ take-set-next highs (used - 1) v high-room)
+          high-order in
           let old = under-to h g highs
           (ap (λ (n : ℕ). take n highs) all ∙ take-next highs (used - 1) high-room) (omega arith) in
           new ∙ joined-tests (under (take (used - 1) lows) (take (used - 1) highs) h) h low-order touched high-order

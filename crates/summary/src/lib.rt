@@ -49,7 +49,8 @@ fn count_classes(table: &[u32]) -> [usize; CLASSES]
 
 // The letters covered on A, and those on B.
 fn count_covers(table: &[u32]) -> [u64; 2]
-    ensures { λ r. ⌜ r ≡ coverOf Side.A (rowsOf (now (table .entry))) ∷ coverOf Side.B (rowsOf (now (table .entry))) ∷ [] ⌝ }
+    ensures { λ r. ⌜
+        r ≡ coverOf Side.A (rowsOf (now (table .entry))) ∷ coverOf Side.B (rowsOf (now (table .entry))) ∷ [] ⌝ }
 {
     [cover_of(table, Side::A), cover_of(table, Side::B)]
 }

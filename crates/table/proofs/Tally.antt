@@ -11,7 +11,7 @@
 use Prim.Native.Nat.{ℕ, zero, suc, _+_, _-_, _≤_, _<_}
 use mathlib.Core.Bool.{Bool, true, false, cond, and-false}
 use mathlib.Core.Logic.{_↔_, ⊎-elim, _≢_}
-use mathlib.Core.Path.{_≡_, refl, sym, ap, _∙_}
+use mathlib.Core.Path.{_≡_, refl}
 use mathlib.Core.List.{List, [], _∷_, List·Memᴰ·cases-cons, List·Memᴰ·not-nil}
 use mathlib.Core.List.{List·Memᴰ·head as here, List·Memᴰ·tail as there}
 use native.Mathlib.Omega.{arith}
@@ -37,7 +37,8 @@ pub tally-joined : (f g u : ℕ → Bool) (n : ℕ)
     → ((h : ℕ) → h < n → cond (f h) 1 0 + cond (g h) 1 0 ≡ cond (u h) 1 0) → tally f n + tally g n ≡ tally u n
 unfolding tally
 tally-joined f g u zero same = refl
-tally-joined f g u (suc n) same = omega (arith, same n (omega arith), tally-joined f g u n (λ h l. same h (omega arith)))
+tally-joined f g u (suc n) same =
+    omega (arith, same n (omega arith), tally-joined f g u n (λ h l. same h (omega arith)))
 
 -- ---- from a to b
 

@@ -378,7 +378,7 @@ lines =
     -- neither a right end nor the number wraps at 2^32, and a row that begins last may be the first
     ∷ sums (flat ((1 ∷ 4294967295 ∷ 0 ∷ 4294967295 ∷ 0 ∷ []) ∷ (1 ∷ 0 ∷ 4294967295 ∷ 1 ∷ 0 ∷ []) ∷ []))
     2 2 4294967296 4294967296 (1 ∷ replicate 29 0)
-    -- in our own tables: the run above; lengths 5 5, direct 0 0 4, direct 0 1 4; and matches that share letters on A alone
+    -- in our own tables: the run above; lengths 5 5, direct 0 0 4, direct 0 1 4; matches that share letters on A alone
     ∷ covers run 8 7 8
     ∷ covers (lengths 5 5 ++ direct 0 0 4 ++ direct 0 1 4 ++ end) 8 4 5
     ∷ covers (lengths 10 20 ++ direct 0 0 3 ++ direct 2 10 3 ++ backward 7 19 1 ++ end) 5 6 7

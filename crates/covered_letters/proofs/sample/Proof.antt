@@ -1,5 +1,5 @@
--- `sample` meets its contract. The loop has written no more numbers than there is room for; the measure is how many rows
--- are left. Assumes nothing.
+-- `sample` meets its contract. The loop has written no more numbers than there is room for; the measure is how many
+-- rows are left. Assumes nothing.
 use Prim.Native.Nat.{_-_, _≤_}
 use mathlib.Core.Path.{_≡_}
 use native.Mathlib.Omega.{arith}

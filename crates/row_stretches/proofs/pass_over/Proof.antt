@@ -4,7 +4,8 @@ use mathlib.Core.Path.{refl, _∙_}
 use native.Mathlib.Omega.{arith}
 use borrow.Author.Needs.{needs}
 use Rattle.rows.specs.Rows.{rowsOf}
-use Rattle.row_stretches.proofs.Gathering.{SameRoom, rooms-kept, Passing, passing-starts, passing-more, passing-all}
+use Rattle.row_stretches.proofs.Gathering.{SameRoom, rooms-kept, Passing, passing-starts}
+use Rattle.row_stretches.proofs.Gathering.{passing-more, passing-all}
 use Rattle.row_stretches.proofs.pass_over.Statement.{statement}
 use Rattle.row_stretches.proofs.pass_over.Tie as tie
 
@@ -21,7 +22,8 @@ row-count-requires c κs = search needs
 loop-holds : tie.Need-loop-holds Inv-loop μ-loop
 loop-holds c =
     let start : tie.Start Inv-loop μ-loop = search in
-    (record { low = refl; high = refl; spare = refl }, passing-starts _ _ _ _ (start .pre .0 .as-many) (start .pre .1 .0) (start .pre .1 .1))
+    let passing = passing-starts _ _ _ _ (start .pre .0 .as-many) (start .pre .1 .0) (start .pre .1 .1) in
+    (record { low = refl; high = refl; spare = refl }, passing)
 
 stretch-at-requires : tie.Need-stretch-at-requires Inv-loop μ-loop
 stretch-at-requires c κs = search needs
