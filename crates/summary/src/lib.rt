@@ -57,8 +57,8 @@ fn count_covers(table: &[u32]) -> [u64; 2]
 
 // The summary of a table.
 pub fn sum_up(table: &[u32]) -> Summary
-    ensures { λ r. ⌜ r ≡ summaryOf (now (table .entry)) ⌝ }
-    ensures { λ r. ⌜ LettersOnce (rowsOf (now (table .entry))) (r .covers) ⌝ }
+    ensures summary { λ r. ⌜ r ≡ summaryOf (now (table .entry)) ⌝ }
+    ensures covers { λ r. ⌜ LettersOnce (rowsOf (now (table .entry))) (r .covers) ⌝ }
 {
     Summary {
         pieces: row_count(table),

@@ -1,4 +1,4 @@
--- Letters counted one by one. Only private functions promise anything by it.
+-- Letters counted one by one. Only the count of letters promises anything by it.
 --     within a b h          the test whether the letter behind h is in the stretch from a to b
 --     isCovered s rs h      the test whether it is in at least one row's stretch
 --     tally f n             how many numbers below n pass the test f
