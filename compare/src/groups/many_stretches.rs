@@ -4,8 +4,9 @@ use super::stretches::{shuffled, table, Row};
 use crate::random::Random;
 
 /// How many rows: about the numbers of entries that a local store may have, and several times that.
-const MANY: [usize; 10] = [
-    3_000, 4_095, 4_096, 4_097, 8_191, 8_192, 8_193, 9_000, 20_000, 40_000,
+const MANY: [usize; 16] = [
+    255, 256, 257, 3_000, 4_095, 4_096, 4_097, 5_119, 5_120, 5_121, 8_191, 8_192, 8_193, 9_000,
+    20_000, 40_000,
 ];
 
 /// Puts rows whose left-A rises in an order.
@@ -154,7 +155,7 @@ pub fn skewed(random: &mut Random) -> Vec<Vec<u32>> {
 /// Rows that come hundreds of times.
 pub fn duplicates(random: &mut Random) -> Vec<Vec<u32>> {
     many(random, |random, count| {
-        let times = random.count_between(2, 300);
+        let times = random.count_between(2, 200);
         let few = apart(random, count / times);
         (0..count).map(|_| random.one_of(&few)).collect()
     })

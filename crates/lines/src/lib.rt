@@ -15,8 +15,8 @@ ghost use Rattle.rows.specs.Rows.{rowsOf};
 ghost use Rattle.table.specs.Summing.{summaryOf};
 ghost use Rattle.text.specs.Decimal.{decimal};
 ghost use Rattle.text.specs.Putting.{Put};
-ghost use Rattle.reporting.specs.Lines.{refusalText, lengthsLine, coversEnd, summaryLine, classLine, classLines};
-ghost use Rattle.reporting.specs.Lines.{tableText};
+ghost use Rattle.reporting.specs.Lines.{line, refusalText, lengthsLine, coversWords, summaryLine, classLine};
+ghost use Rattle.reporting.specs.Lines.{classLines, tableText};
 ghost use Rattle.reporting.specs.Reporting.{lentRows, longestText};
 
 // A word, a number in decimal, and a byte behind it.
@@ -50,7 +50,7 @@ fn put_lengths(text: &mut [u8], p: u32, q: u32) -> usize
 // The end of the second line.
 fn put_covers(text: &mut [u8], at: usize, covers: [u64; 2]) -> usize
     requires { ⌜ at + 49 ≤ longestText ⌝ }
-    ensures { λ r. ⌜ Put (coversEnd covers) (now (text .entry)) at (now (text .exit)) r ⌝ }
+    ensures { λ r. ⌜ Put (line (coversWords covers)) (now (text .entry)) at (now (text .exit)) r ⌝ }
     ensures { λ r. ⌜ r ≤ at + 49 ⌝ }
 {
     let next = put_entry(text, at, b"covers ", covers[0], b' ');

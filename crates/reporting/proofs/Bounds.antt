@@ -11,10 +11,10 @@ use mathlib.Core.Bool.{Bool, true, false, cond}
 use mathlib.Core.List.{List, [], _∷_, _++_}
 use native.Mathlib.Omega.{arith}
 use lib.Dec.{eqb}
-use lib.ListN.{length, length-append}
+use lib.ListN.{length, getD, length-append}
 use Rattle.script.specs.declared.refusal.Refusal.{Refusal}
 use Rattle.script.specs.Refusals.{numberOf, placeOf}
-use Rattle.table.specs.Summing.{classCount, coveredA, coveredB, summaryOfRows}
+use Rattle.table.specs.Summing.{classCount, summaryOfRows}
 use Rattle.rows.specs.declared.Row.{Row}
 use Rattle.table.specs.declared.summing.Summary.{Summary}
 use Rattle.table.proofs.Sums.{classes-length}
@@ -37,8 +37,8 @@ summary-line-short count s =
       decimal-short count,
       decimal-short (s .pieces),
       decimal-short (s .distinct),
-      decimal-short (coveredA s),
-      decimal-short (coveredB s),
+      decimal-short (getD (s .covers) 0 0),
+      decimal-short (getD (s .covers) 1 0),
     ))
 
 pub row-line-short : (r : Row) → length (rowLine r) ≤ 86

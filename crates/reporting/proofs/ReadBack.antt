@@ -16,7 +16,7 @@ use borrow.Author.Tests.{ne-eqb}
 use lib.Dec.{eqb}
 use lib.ListN.{getD, take, drop}
 use Rattle.refinement.specs.Order.{_∈_}
-use Rattle.table.specs.Summing.{coveredA, coveredB, summaryOfRows}
+use Rattle.table.specs.Summing.{summaryOfRows}
 use Rattle.rows.specs.declared.Row.{Row}
 use Rattle.text.specs.Decimal.{decimal}
 use Rattle.text.proofs.Reading.{decimal-inj, decimal-cut, decimal-start}
@@ -118,8 +118,8 @@ table-cut p q count p′ q′ count′ rs rs′ e =
     let c = decimal-cut count count′ (omega arith) (ap (drop 8) (b .1)) in
     let d = decimal-cut (s .pieces) (s′ .pieces) (omega arith) (ap (drop 7) (c .1)) in
     let f = decimal-cut (s .distinct) (s′ .distinct) (omega arith) (ap (drop 9) (d .1)) in
-    let g = decimal-cut (coveredA s) (coveredA s′) (omega arith) (ap (drop 7) (f .1)) in
-    let h = decimal-cut (coveredB s) (coveredB s′) (omega arith) (g .1) in
+    let g = decimal-cut (getD (s .covers) 0 0) (getD (s′ .covers) 0 0) (omega arith) (ap (drop 7) (f .1)) in
+    let h = decimal-cut (getD (s .covers) 1 0) (getD (s′ .covers) 1 0) (omega arith) (g .1) in
     (a .0, b .0, c .0, h .1)
 
 pub rows-read-back :

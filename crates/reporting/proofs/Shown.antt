@@ -17,7 +17,8 @@ use Rattle.script.specs.Refusals.{numberOf, placeOf}
 use Rattle.script.specs.declared.refusal.Refusal.{Refusal}
 use Rattle.refinement.specs.declared.Side.the-variants.{A, B}
 use Rattle.rows.specs.Rows.{rowWidth, rowOf, firstRows, rowsOf}
-use Rattle.table.specs.Summing.{classCount, coveredA, coveredB, summaryOf}
+use Rattle.table.specs.Covering.{coverOf}
+use Rattle.table.specs.Summing.{classCount, summaryOf}
 use Rattle.rows.specs.declared.Row.{Row}
 use Rattle.table.specs.declared.summing.Summary.{Summary}
 use Rattle.table.proofs.Laws.{sumOf, distinct-inside, classes-inside, covers-fit}
@@ -51,8 +52,9 @@ module _ (rest : List ℕ) {ns : List ℕ} (later : shown rest ≡ ns) where
       ∙ ap (λ (l : List ℕ). p ∷ l) (shown-decimal q _ 10 hq (omega arith) ∙ ap (λ (l : List ℕ). q ∷ l) later))
 
   summary-shown : (count : ℕ) (s : Summary) → count < 2 ^ 64 → s .pieces < 2 ^ 64 → s .distinct < 2 ^ 64
-      → coveredA s < 2 ^ 64 → coveredB s < 2 ^ 64
-      → shown (summaryLine count s ++ rest) ≡ count ∷ s .pieces ∷ s .distinct ∷ coveredA s ∷ coveredB s ∷ ns
+      → getD (s .covers) 0 0 < 2 ^ 64 → getD (s .covers) 1 0 < 2 ^ 64
+      → shown (summaryLine count s ++ rest)
+      ≡ count ∷ s .pieces ∷ s .distinct ∷ getD (s .covers) 0 0 ∷ getD (s .covers) 1 0 ∷ ns
   summary-shown count s a b c d e =
       simp append-assoc
       (shown-decimal count _ 32 a (omega arith)
@@ -61,9 +63,10 @@ module _ (rest : List ℕ) {ns : List ℕ} (later : shown rest ≡ ns) where
       ∙ ap (λ (l : List ℕ). s .pieces ∷ l)
       (shown-decimal (s .distinct) _ 32 c (omega arith)
       ∙ ap (λ (l : List ℕ). s .distinct ∷ l)
-      (shown-decimal (coveredA s) _ 32 d (omega arith)
-      ∙ ap (λ (l : List ℕ). coveredA s ∷ l)
-      (shown-decimal (coveredB s) _ 10 e (omega arith) ∙ ap (λ (l : List ℕ). coveredB s ∷ l) later)))))
+      (shown-decimal (getD (s .covers) 0 0) _ 32 d (omega arith)
+      ∙ ap (λ (l : List ℕ). getD (s .covers) 0 0 ∷ l)
+      (shown-decimal (getD (s .covers) 1 0) _ 10 e (omega arith)
+      ∙ ap (λ (l : List ℕ). getD (s .covers) 1 0 ∷ l) later)))))
 
   sign-shown : (plus : Bool) → shown (cond plus 43 45 ∷ 10 ∷ rest) ≡ ns
   sign-shown true = later
@@ -123,7 +126,7 @@ pub table-shown :
     (p q count : ℕ) (t : List ℕ) → p < 2 ^ 64 → q < 2 ^ 64 → count < 2 ^ 64 → length t < 2 ^ 64
     → ((k : ℕ) → getD t k 0 < 2 ^ 32)
     → shown (tableText p q count (rowsOf t))
-    ≡ p ∷ q ∷ count ∷ summaryOf t .pieces ∷ summaryOf t .distinct ∷ coveredA (summaryOf t) ∷ coveredB (summaryOf t)
+    ≡ p ∷ q ∷ count ∷ summaryOf t .pieces ∷ summaryOf t .distinct ∷ coverOf A (rowsOf t) ∷ coverOf B (rowsOf t)
     ∷ firstFours (length t / 5) t ++ classesShown 0 (summaryOf t .classes)
 table-shown p q count t hp hq hcount small fits =
     let s = summaryOf t in

@@ -12,7 +12,7 @@ use lib.ListN.{getD}
 use lib.Dec.{eqb}
 use Rattle.script.specs.Refusals.{numberOf, placeOf}
 use Rattle.script.specs.declared.refusal.Refusal.{Refusal}
-use Rattle.table.specs.Summing.{coveredA, coveredB, summaryOfRows}
+use Rattle.table.specs.Summing.{summaryOfRows}
 use Rattle.rows.specs.declared.Row.{Row}
 use Rattle.table.specs.declared.summing.Summary.{Summary}
 use Rattle.text.specs.Decimal.{decimal}
@@ -67,9 +67,9 @@ refusalText r = line (refused ∷ decimal (numberOf r) ∷ decimal (placeOf r) �
 abbrev pub lengthsLine : ℕ → ℕ → List ℕ
 lengthsLine p q = line (lengths ∷ decimal p ∷ decimal q ∷ [])
 
--- SCOPE, "Text": what line two ends in, with the letters covered on A and on B
-abbrev pub coversEnd : List ℕ → List ℕ
-coversEnd ns = line (covers ∷ decimal (getD ns 0 0) ∷ decimal (getD ns 1 0) ∷ [])
+-- SCOPE, "Text": what line two ends in; of the covers ns the first is for A and the second for B
+abbrev pub coversWords : List ℕ → List (List ℕ)
+coversWords ns = covers ∷ decimal (getD ns 0 0) ∷ decimal (getD ns 1 0) ∷ []
 
 -- SCOPE, "Text": line two, with the count of matches and the numbers of the summary
 abbrev pub summaryLine : ℕ → Summary → List ℕ
@@ -81,10 +81,7 @@ summaryLine count s =
     ∷ decimal (s .pieces)
     ∷ distinct
     ∷ decimal (s .distinct)
-    ∷ covers
-    ∷ decimal (coveredA s)
-    ∷ decimal (coveredB s)
-    ∷ [])
+    ∷ coversWords (s .covers))
 
 -- SCOPE, "Text": the line of a row
 abbrev pub rowLine : Row → List ℕ

@@ -37,7 +37,8 @@ unfoldable pub lettersFrom : Side → ℕ → List Row → ℕ
 lettersFrom s h [] = 0
 lettersFrom s h (r ∷ rs) = (rightOf s r - max h (leftOf s r)) + lettersFrom s (max h (rightOf s r)) rs
 
--- SCOPE, "Covers": the rows are taken in the order of their left ends
+-- SCOPE, "Covers": the number of letters in at least one row's stretch (law cover-counted). By hand: the rows in the
+-- order of their left ends, and of each what those before it leave
 abbrev pub coverOf : Side → List Row → ℕ
 coverOf s rs = lettersFrom s 0 (sortBy (notPast? s) rs)
 

@@ -4,13 +4,12 @@
 --     classCount       the number of classes
 --     inClass c r      r is in class c, by its length
 --     classesOf rs     how many rows of rs each class has
---     coveredA, coveredB     its letters covered on A, and on B
 --     summaryOf t      the summary of the table t
 -- 01, "The table and its buffers". Assumes nothing.
 use Prim.Native.Nat.{ℕ, zero, suc, _+_, _^_}
 use mathlib.Core.Bool.{Bool, cond, _&&_}
 use mathlib.Core.List.{List, [], _∷_}
-use lib.ListN.{length, getD}
+use lib.ListN.{length}
 use lib.Dec.{leb, ltb}
 use Rattle.refinement.specs.declared.Side.the-variants.{A, B}
 use Rattle.rows.specs.Rows.{rowsOf}
@@ -57,13 +56,6 @@ summaryOfRows rs =
       covers = coverOf A rs ∷ coverOf B rs ∷ [];
       classes = classesOf rs;
     }
-
--- of a summary, the letters covered on A, and those on B
-abbrev pub coveredA : Summary → ℕ
-coveredA s = getD (s .covers) 0 0
-
-abbrev pub coveredB : Summary → ℕ
-coveredB s = getD (s .covers) 1 0
 
 -- SCOPE, "Any contents": whatever numbers the table holds
 abbrev pub summaryOf : List ℕ → Summary

@@ -1,5 +1,5 @@
 -- `likely_end` meets its contract: whatever the sample is, the window ends behind its start. Assumes nothing.
-use Prim.Native.Nat.{ℕ, _+_, _/_, _^_, _<_}
+use Prim.Native.Nat.{_+_, _/_}
 use mathlib.Core.Path.{sym}
 use native.Mathlib.Nat.{div-le-self}
 use native.Mathlib.Omega.{arith}
@@ -39,11 +39,10 @@ sort-requires c κs =
 div-at : tie.Need-div-at
 div-at c = search needs
 
-quotient-fits : (a b : ℕ) → a + 1 < 2 ^ 64 → a / b + 1 < 2 ^ 64
-quotient-fits a b fits = omega (arith, div-le-self a b)
-
 add-at : tie.Need-add-at
-add-at c = record { fits = quotient-fits _ _ (omega arith) }
+add-at c =
+    let counted : tie.After-row-count = search in
+    record { fits = omega (arith, div-le-self 3840 (counted .row-count .result / 4096 + 1)) }
 
 same-length : tie.Need-same-length
 same-length c = search needs
