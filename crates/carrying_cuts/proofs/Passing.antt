@@ -14,15 +14,15 @@ use mathlib.Core.List.{List}
 use mathlib.Core.Logic.{_↔_, _⊎_, inl, inr, ⊎-elim}
 use lib.ListN.{length, getD}
 use borrow.Author.Tests.{le-leb}
-use Rattle.refinement.specs.Match.{spanned}
-use Rattle.refinement.proofs.Geometry.{spanned-bounds}
+use Rattle.refinement.specs.Match.{between}
+use Rattle.refinement.proofs.Geometry.{between-bounds}
 use Rattle.runs.specs.Runs.{Same}
 use Rattle.cut_set.specs.Store.{Found, FoundRun, NothingFound, foundIn, Stored}
 use Rattle.cut_set.specs.declared.CutSet.{CutSet}
 use Rattle.runs.proofs.Membership.{lt-or-le, in-same}
 use Rattle.cut_set.proofs.Laws.{stored-none, stored-same, stored-then}
 use Rattle.reading_cuts.specs.Reading.{Lowest, Highest}
-use Rattle.refining.specs.Columns.{Columns, countOf, fromAt, toAt, lettersAt, wayAt}
+use Rattle.refining.specs.Columns.{Columns, countOf, fromAt, fromRightAt, toAt, toRightAt, wayAt}
 use Rattle.near_matches.specs.Near.{reaching, Passable}
 use Rattle.carrying_match.specs.OneMatch.{ImageBy, hitsOn, TooMuch, Ready}
 use Rattle.carrying_cuts.specs.Worker.{Images, hitsOver}
@@ -32,7 +32,8 @@ use Rattle.carrying_match.proofs.Storing.{too-much-more, too-much-then, same-ap
 
 -- an image of a number with P under the match at index k
 abbrev ImageAt : Columns → ℕ → (ℕ → Type 0) → ℕ → Type 0
-ImageAt columns k = ImageBy (fromAt columns k) (toAt columns k) (lettersAt columns k) (wayAt columns k)
+ImageAt columns k =
+    ImageBy (fromAt columns k) (fromRightAt columns k) (toAt columns k) (toRightAt columns k) (wayAt columns k)
 
 pub record Passed (columns : Columns) (xs : List ℕ) (from to : CutSet) (hits most : ℕ) (ys : List ℕ)
     (set : CutSet) (count k : ℕ) : Type 0 where
@@ -65,7 +66,7 @@ images-to h m = record {
 -- matches without a hit
 hits-same :
     (columns : Columns) (ns : List ℕ) (k n : ℕ) → k ≤ n
-    → ((j : ℕ) → k ≤ j → j < n → hitsOn (fromAt columns j) (lettersAt columns j) ns ≡ 0)
+    → ((j : ℕ) → k ≤ j → j < n → hitsOn (fromAt columns j) (fromRightAt columns j) ns ≡ 0)
     → hitsOver columns n ns ≡ hitsOver columns k ns
 hits-same columns ns k zero h none = let e : k ≡ 0 = omega arith in rw e
 hits-same columns ns k (suc n) h none =
@@ -78,15 +79,15 @@ hits-same columns ns k (suc n) h none =
 
 -- a match that does not reach into a stretch spans no position there
 unreached :
-    (i d lowest highest x : ℕ) → reaching i d lowest highest ≡ false → lowest ≤ x → x ≤ highest → spanned i d x ≡ false
-unreached i d lowest highest x e l u = go (spanned i d x) refl
+    (i g lowest highest x : ℕ) → reaching i g lowest highest ≡ false → lowest ≤ x → x ≤ highest → between i g x ≡ false
+unreached i g lowest highest x e l u = go (between i g x) refl
   where
-    go : (b : Bool) → spanned i d x ≡ b → b ≡ false
+    go : (b : Bool) → between i g x ≡ b → b ≡ false
     go false q = refl
     go true q =
-        let bounds = spanned-bounds i d x q in
-        let reached : reaching i d lowest highest ≡ true =
-        rw (le-leb i highest (omega (arith, bounds)), le-leb lowest (i + d) (omega (arith, bounds)))
+        let bounds = between-bounds i g x q in
+        let reached : reaching i g lowest highest ≡ true =
+        rw (le-leb i highest (omega (arith, bounds)), le-leb lowest g (omega (arith, bounds)))
         in
         absurd (true≢false (sym reached ∙ e))
 
@@ -154,14 +155,14 @@ module _ {columns : Columns} {xs : List ℕ} {from to : CutSet} {hits most : ℕ
     one-more :
         hitsOver columns (k + 1) (foundIn xs from)
         ≡ hitsOver columns k (foundIn xs from)
-        + hitsOn (fromAt columns k) (lettersAt columns k) (foundIn ys from)
+        + hitsOn (fromAt columns k) (fromRightAt columns k) (foundIn ys from)
     one-more = let e : k + 1 ≡ suc k = omega arith in rw (e, run-list)
 
     module _ (h : k < countOf columns) where
       pub pass-step :
           {zs : List ℕ} {u : CutSet} {c : ℕ} → length zs ≡ length ys
           → Stored (ImageAt columns k (Found ys from)) ys set zs u
-          × (c ≡ count + hitsOn (fromAt columns k) (lettersAt columns k) (foundIn ys from)) × (c ≤ most)
+          × (c ≡ count + hitsOn (fromAt columns k) (fromRightAt columns k) (foundIn ys from)) × (c ≤ most)
           → Passed columns xs from to hits most zs u c (k + 1)
       pass-step n q = record {
         until = omega arith;
@@ -173,7 +174,7 @@ module _ {columns : Columns} {xs : List ℕ} {from to : CutSet} {hits most : ℕ
 
       pub pass-too-much :
           TooMuch ys set (ImageAt columns k (Found ys from))
-          (count + hitsOn (fromAt columns k) (lettersAt columns k) (foundIn ys from)) most
+          (count + hitsOn (fromAt columns k) (fromRightAt columns k) (foundIn ys from)) most
           → TooMuch xs to (Images columns (countOf columns) (Found xs from))
           (hits + hitsOver columns (countOf columns) (foundIn xs from)) most
       pass-too-much m =
@@ -190,7 +191,7 @@ module _ {columns : Columns} {xs : List ℕ} {from to : CutSet} {hits most : ℕ
     skip :
         {n : ℕ} → k ≤ n → n ≤ countOf columns
         → ((j i : ℕ) → k ≤ j → j < n → from .done ≤ i → i < from .used
-        → spanned (fromAt columns j) (lettersAt columns j) (getD xs i 0) ≡ false)
+        → between (fromAt columns j) (fromRightAt columns j) (getD xs i 0) ≡ false)
         → Passed columns xs from to hits most ys set count n
     skip {n} a b none = record {
       until = b;
@@ -204,7 +205,7 @@ module _ {columns : Columns} {xs : List ℕ} {from to : CutSet} {hits most : ℕ
             hitsOver columns n (foundIn xs from) ≡ hitsOver columns k (foundIn xs from)
         same = hits-same columns (foundIn xs from) k n a (λ j l u.
             hits-none xs (r .from-good .found-short .within) (done-used (r .from-good)) (fromAt columns j)
-            (lettersAt columns j) (λ i l′ u′. none j i l u l′ u′))
+            (fromRightAt columns j) (λ i l′ u′. none j i l u l′ u′))
 
         fewer : {y : ℕ} (q : Images columns n (Found xs from) y) → (q .index < k) ⊎ (k ≤ q .index)
             → Images columns k (Found xs from) y
@@ -217,11 +218,12 @@ module _ {columns : Columns} {xs : List ℕ} {from to : CutSet} {hits most : ℕ
 
     pub pass-over :
         {lowest highest n : ℕ} → Lowest xs from lowest → Highest xs from highest
-        → Passable (columns .from-lefts) (columns .lengths) lowest highest k n
+        → length (columns .from-lefts) ≡ countOf columns
+        → Passable (columns .from-lefts) (columns .from-rights) lowest highest k n
         → Passed columns xs from to hits most ys set count n
-    pass-over {lowest} {highest} low high q = skip (q .from) (q .to) (λ j i a b l u.
+    pass-over {lowest} {highest} low high e q = skip (q .from) (omega (arith, q .to)) (λ j i a b l u.
         let m : Found xs from (getD xs i 0) = record { place = i; from = l; below = u; is = refl } in
-        unreached (fromAt columns j) (lettersAt columns j) lowest highest (getD xs i 0) (q .past j a b)
+        unreached (fromAt columns j) (fromRightAt columns j) lowest highest (getD xs i 0) (q .past j a b)
         (low .least (getD xs i 0) m) (high .greatest (getD xs i 0) m))
 
     pub pass-none : NothingFound from → Passed columns xs from to hits most ys set count (countOf columns)

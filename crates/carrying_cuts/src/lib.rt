@@ -22,8 +22,9 @@ pub enum Turn {
 // Carries the newly found cuts, one rising run, over every match.
 fn carry_found(
     lefts: &[u32],
-    others: &[u32],
-    lengths: &[u32],
+    rights: &[u32],
+    other_lefts: &[u32],
+    other_rights: &[u32],
     reversed: &[bool],
     work: &mut [u32],
     from: CutSet,
@@ -31,13 +32,16 @@ fn carry_found(
     hits: usize,
     most: usize,
 ) -> Worked
-    requires { ⌜ Fit (columnsOf (now lefts) (now others) (now lengths) (now reversed)) ⌝ }
+    requires { ⌜
+        Fit (columnsOf (now lefts) (now rights) (now «other_lefts») (now «other_rights») (now reversed)) ⌝ }
     requires { ⌜ Ready (now work) from to ⌝ }
     requires { ⌜ FoundRun (now work) from ⌝ }
     requires { ⌜ hits ≤ most ⌝ }
     ensures { λ r. ⌜
-        Working (columnsOf (now (lefts .entry)) (now (others .entry)) (now (lengths .entry)) (now (reversed .entry)))
-        (length (now (lengths .entry))) (now (work .entry)) from to
+        Working
+        (columnsOf (now (lefts .entry)) (now (rights .entry)) (now («other_lefts» .entry))
+        (now («other_rights» .entry)) (now (reversed .entry)))
+        (length (now (reversed .entry))) (now (work .entry)) from to
         (foundIn (now (work .entry)) from) hits most (now (work .exit)) r ⌝ }
 {
     if reading_cuts::none_found(from) {
@@ -47,15 +51,16 @@ fn carry_found(
     let highest = reading_cuts::highest_found(work, from);
     let mut set = to;
     let mut count = hits;
-    let mut k = next_near(lefts, lengths, 0, lowest, highest);
-    while k < lengths.len() {
+    let mut k = next_near(lefts, rights, 0, lowest, highest);
+    while k < reversed.len() {
         match carry_match(
             work,
             from,
             set,
             lefts[k],
-            others[k],
-            lengths[k],
+            rights[k],
+            other_lefts[k],
+            other_rights[k],
             reversed[k],
             count,
             most,
@@ -66,7 +71,7 @@ fn carry_found(
             }
             Worked::TooMany => return Worked::TooMany,
         }
-        k = next_near(lefts, lengths, k + 1, lowest, highest);
+        k = next_near(lefts, rights, k + 1, lowest, highest);
     }
     Worked::Held {
         hits: count,
@@ -77,8 +82,9 @@ fn carry_found(
 // One turn: the newly found cuts of a side are carried over every match, and are finished.
 pub fn take_turn(
     lefts: &[u32],
-    others: &[u32],
-    lengths: &[u32],
+    rights: &[u32],
+    other_lefts: &[u32],
+    other_rights: &[u32],
     reversed: &[bool],
     work: &mut [u32],
     from: CutSet,
@@ -86,18 +92,22 @@ pub fn take_turn(
     hits: usize,
     most: usize,
 ) -> Turn
-    requires { ⌜ Fit (columnsOf (now lefts) (now others) (now lengths) (now reversed)) ⌝ }
+    requires { ⌜
+        Fit (columnsOf (now lefts) (now rights) (now «other_lefts») (now «other_rights») (now reversed)) ⌝ }
     requires { ⌜ Ready (now work) from to ⌝ }
     requires { ⌜ hits ≤ most ⌝ }
     ensures { λ r. ⌜
-        Turning (columnsOf (now (lefts .entry)) (now (others .entry)) (now (lengths .entry)) (now (reversed .entry)))
+        Turning
+        (columnsOf (now (lefts .entry)) (now (rights .entry)) (now («other_lefts» .entry))
+        (now («other_rights» .entry)) (now (reversed .entry)))
         (now (work .entry)) from to hits most (now (work .exit)) r ⌝ }
 {
     let gathered = cut_set::gather(work, from);
     match carry_found(
         lefts,
-        others,
-        lengths,
+        rights,
+        other_lefts,
+        other_rights,
         reversed,
         work,
         gathered,

@@ -15,7 +15,7 @@ use mathlib.Core.Logic.{⊎-elim}
 use lib.ListN.{length, getD}
 use lib.Seq.{slice, slice-empty, slice-cons}
 use Rattle.refinement.specs.Order.{_∈_, Rising}
-use Rattle.refinement.specs.Match.{spanned}
+use Rattle.refinement.specs.Match.{between}
 use Rattle.runs.specs.Runs.{In, Same}
 use Rattle.runs.proofs.Membership.{in-wide}
 use Rattle.carrying_match.specs.OneMatch.{hitsOn}
@@ -55,13 +55,13 @@ module _ (xs : List ℕ) {hi : ℕ} (w : hi ≤ length xs) where
   )
 
   past-from :
-      (i d n lo : ℕ) → lo + n ≤ hi → ((k : ℕ) → lo ≤ k → k < lo + n → spanned i d (getD xs k 0) ≡ false)
-      → hitsOn i d (slice lo hi xs) ≡ hitsOn i d (slice (lo + n) hi xs)
-  past-from i d zero lo h f = let e : lo + 0 ≡ lo = omega arith in rw e
-  past-from i d (suc n) lo h f =
+      (i g n lo : ℕ) → lo + n ≤ hi → ((k : ℕ) → lo ≤ k → k < lo + n → between i g (getD xs k 0) ≡ false)
+      → hitsOn i g (slice lo hi xs) ≡ hitsOn i g (slice (lo + n) hi xs)
+  past-from i g zero lo h f = let e : lo + 0 ≡ lo = omega arith in rw e
+  past-from i g (suc n) lo h f =
       let e : lo + suc n ≡ suc lo + n = omega arith in
-      let b : hitsOn i d (slice (suc lo) hi xs) ≡ hitsOn i d (slice (suc lo + n) hi xs) =
-      past-from i d n (suc lo) (omega arith) (λ k l u. f k (omega arith) (omega arith))
+      let b : hitsOn i g (slice (suc lo) hi xs) ≡ hitsOn i g (slice (suc lo + n) hi xs) =
+      past-from i g n (suc lo) (omega arith) (λ k l u. f k (omega arith) (omega arith))
       in
       rw (e, slice-cons lo hi xs 0 (omega arith) w, f lo (omega arith) (omega arith)) (omega arith)
 
@@ -78,15 +78,15 @@ module _ (xs : List ℕ) {hi : ℕ} (w : hi ≤ length xs) where
     slice-rising R h = rising-from R (hi - lo) lo (omega arith) h
 
     pub hits-past :
-        (i d mid : ℕ) → lo ≤ mid → mid ≤ hi → ((k : ℕ) → lo ≤ k → k < mid → spanned i d (getD xs k 0) ≡ false)
-        → hitsOn i d (slice lo hi xs) ≡ hitsOn i d (slice mid hi xs)
-    hits-past i d mid l u f =
+        (i g mid : ℕ) → lo ≤ mid → mid ≤ hi → ((k : ℕ) → lo ≤ k → k < mid → between i g (getD xs k 0) ≡ false)
+        → hitsOn i g (slice lo hi xs) ≡ hitsOn i g (slice mid hi xs)
+    hits-past i g mid l u f =
         let e : lo + (mid - lo) ≡ mid = omega arith in
-        rw e at (past-from i d (mid - lo) lo (omega arith) (λ k a b. f k a (omega arith)))
+        rw e at (past-from i g (mid - lo) lo (omega arith) (λ k a b. f k a (omega arith)))
 
     pub hits-none :
-        (i d : ℕ) → ((k : ℕ) → lo ≤ k → k < hi → spanned i d (getD xs k 0) ≡ false) → hitsOn i d (slice lo hi xs) ≡ 0
-    hits-none i d f = hits-past i d hi o (omega arith) f ∙ ap (hitsOn i d) (slice-empty hi xs)
+        (i g : ℕ) → ((k : ℕ) → lo ≤ k → k < hi → between i g (getD xs k 0) ≡ false) → hitsOn i g (slice lo hi xs) ≡ 0
+    hits-none i g f = hits-past i g hi o (omega arith) f ∙ ap (hitsOn i g) (slice-empty hi xs)
 
 same-from :
     (xs ys : List ℕ) (n lo hi : ℕ) → hi ≤ length xs → hi ≤ length ys → lo + n ≡ hi → Same xs ys lo hi

@@ -2,8 +2,9 @@
 --     Walked              the invariant: the cuts at [lo, at) are carried
 --     walk-start, walk-step, walk-too-much     where it begins, one cut more, and no room for one more
 --     walk-over, walk-break                    the run is at its end, or its next cut is not spanned
+--     image-room          a spanned cut is carried no further than the right end on the other side
 -- Assumes nothing.
-use Prim.Native.Nat.{ℕ, suc, _+_, _≤_, _<_}
+use Prim.Native.Nat.{ℕ, suc, _+_, _-_, _≤_, _<_}
 use native.Mathlib.Omega.{arith}
 use mathlib.Core.Path.{_≡_, refl, sym, ap, _∙_}
 use mathlib.Core.Bool.{Bool, true, false, true≢false}
@@ -12,8 +13,8 @@ use mathlib.Core.Logic.{_↔_, _⊎_, inl, inr, ⊎-elim}
 use lib.ListN.{length, getD}
 use lib.Seq.{slice, slice-cons}
 use borrow.Author.Tests.{leb-false, lt-leb}
-use Rattle.refinement.specs.Match.{spanned, carryOver}
-use Rattle.refinement.proofs.Geometry.{spanned-bounds, spanned-below, spanned-from}
+use Rattle.refinement.specs.Match.{between, carryTo}
+use Rattle.refinement.proofs.Geometry.{between-bounds, between-below, between-from}
 use Rattle.runs.specs.Runs.{In, Bound}
 use Rattle.cut_set.specs.Store.{Found, FoundRun, foundIn, foundEnd, Stored}
 use Rattle.cut_set.specs.declared.CutSet.{CutSet}
@@ -24,24 +25,30 @@ use Rattle.carrying_match.proofs.RunLists.{hits-past, hits-none}
 use Rattle.carrying_match.proofs.Storing.{base-done, done-used}
 use Rattle.carrying_match.proofs.Storing.{too-much-more, too-much-then, same-apart}
 
-pub record Walked (i k d : ℕ) (b : Bool) (xs : List ℕ) (from to : CutSet) (hits most lo end : ℕ) (ys : List ℕ)
+pub record Walked (i g k l : ℕ) (b : Bool) (xs : List ℕ) (from to : CutSet) (hits most lo end : ℕ) (ys : List ℕ)
     (t : CutSet) (count at : ℕ) : Type 0 where
   pub ends : end ≡ foundEnd from
   pub start : lo ≤ at
   pub until : at ≤ from .used
   pub lengths : length ys ≡ length xs
-  pub stored : Stored (ImageBy i k d b (In xs lo at)) xs to ys t
-  pub counted : hits + hitsOn i d (slice lo (from .used) xs) ≡ count + hitsOn i d (slice at (from .used) xs)
+  pub stored : Stored (ImageBy i g k l b (In xs lo at)) xs to ys t
+  pub counted : hits + hitsOn i g (slice lo (from .used) xs) ≡ count + hitsOn i g (slice at (from .used) xs)
   pub few : count ≤ most
 
-module _ {i k d : ℕ} {b : Bool} {xs : List ℕ} where
-  image-wide : {lo hi l h y : ℕ} → l ≤ lo → hi ≤ h → ImageBy i k d b (In xs lo hi) y → ImageBy i k d b (In xs l h) y
+module _ {i g k l : ℕ} {b : Bool} {xs : List ℕ} where
+  image-wide :
+      {lo hi low high y : ℕ} → low ≤ lo → hi ≤ high → ImageBy i g k l b (In xs lo hi) y
+      → ImageBy i g k l b (In xs low high) y
   image-wide p q m = record { x = m .x; carried = in-wide p q (m .carried); spans = m .spans; is = m .is }
 
+pub image-room :
+    (i g k l h : ℕ) → k + (g - i) ≡ l → between i g h ≡ true → (i ≤ h) × (k + (h - i) ≤ l)
+image-room i g k l h e s = let on = between-bounds i g h s in (on .0, omega (arith, on .0, on .1))
+
 pub walk-start :
-    {i k d : ℕ} {b : Bool} {xs : List ℕ} {from to : CutSet} {lo end hits most : ℕ} → Ready xs from to
+    {i g k l : ℕ} {b : Bool} {xs : List ℕ} {from to : CutSet} {lo end hits most : ℕ} → Ready xs from to
     → end ≡ foundEnd from → Bound xs (from .done) (from .used) i lo → hits ≤ most
-    → Walked i k d b xs from to hits most lo end xs to hits lo
+    → Walked i g k l b xs from to hits most lo end xs to hits lo
 walk-start r f e h = record {
   ends = f;
   start = omega arith;
@@ -52,9 +59,9 @@ walk-start r f e h = record {
   few = h;
 }
 
-module _ {i k d : ℕ} {b : Bool} {xs : List ℕ} {from to : CutSet} {hits most lo end : ℕ} {ys : List ℕ}
+module _ {i g k l : ℕ} {b : Bool} {xs : List ℕ} {from to : CutSet} {hits most lo end : ℕ} {ys : List ℕ}
     {t : CutSet} {count at : ℕ} (r : Ready xs from to) (up : FoundRun xs from)
-    (e : Bound xs (from .done) (from .used) i lo) (w : Walked i k d b xs from to hits most lo end ys t count at) where
+    (e : Bound xs (from .done) (from .used) i lo) (w : Walked i g k l b xs from to hits most lo end ys t count at) where
   within : from .used ≤ length xs
   within = r .from-good .found-short .within
 
@@ -62,12 +69,12 @@ module _ {i k d : ℕ} {b : Bool} {xs : List ℕ} {from to : CutSet} {hits most 
   place-same h = same-apart xs ys (r .apart) (w .stored .outside) at
       (omega (arith, base-done (r .from-good), e .from, w .start)) (omega (arith, r .from-good .room))
 
-  skipped : hitsOn i d (foundIn xs from) ≡ hitsOn i d (slice lo (from .used) xs)
-  skipped = hits-past xs within (done-used (r .from-good)) i d lo (e .from) (e .to)
-      (λ j l u. sym (spanned-below i d (getD xs j 0) (e .less j l u)))
+  skipped : hitsOn i g (foundIn xs from) ≡ hitsOn i g (slice lo (from .used) xs)
+  skipped = hits-past xs within (done-used (r .from-good)) i g lo (e .from) (e .to)
+      (λ j l u. sym (between-below i g (getD xs j 0) (e .less j l u)))
 
   -- the newly found cut at the place `at`
-  module _ {cut : ℕ} (more : at < end) (here : cut ≡ getD ys at 0) (s : spanned i d cut ≡ true) where
+  module _ {cut : ℕ} (more : at < end) (here : cut ≡ getD ys at 0) (s : between i g cut ≡ true) where
     h : at < from .used
     h = omega (arith, w .ends)
 
@@ -75,8 +82,8 @@ module _ {i k d : ℕ} {b : Bool} {xs : List ℕ} {from to : CutSet} {hits most 
     cut-same = here ∙ place-same h
 
     next :
-        (y : ℕ) → (ImageBy i k d b (In xs lo at) y ⊎ (y ≡ carryOver b i k d cut))
-        ↔ ImageBy i k d b (In xs lo (at + 1)) y
+        (y : ℕ) → (ImageBy i g k l b (In xs lo at) y ⊎ (y ≡ carryTo b i k l cut))
+        ↔ ImageBy i g k l b (In xs lo (at + 1)) y
     next y = (
       λ q. ⊎-elim (image-wide (omega arith) (omega arith))
           (λ p. record {
@@ -90,19 +97,19 @@ module _ {i k d : ℕ} {b : Bool} {xs : List ℕ} {from to : CutSet} {hits most 
           (λ u. inl (record { x = q .x; carried = u; spans = q .spans; is = q .is }))
           (λ u. let f : u .place ≡ at = omega (arith, u .from, u .below) in
           let is-cut : q .x ≡ cut = sym (u .is) ∙ ap (λ (j : ℕ). getD xs j 0) f ∙ sym cut-same in
-          inr (q .is ∙ ap (carryOver b i k d) is-cut))
+          inr (q .is ∙ ap (carryTo b i k l) is-cut))
           (in-parts at (q .carried)),
     )
 
-    hit : hitsOn i d (slice at (from .used) xs) ≡ 1 + hitsOn i d (slice (at + 1) (from .used) xs)
+    hit : hitsOn i g (slice at (from .used) xs) ≡ 1 + hitsOn i g (slice (at + 1) (from .used) xs)
     hit = let f : at + 1 ≡ suc at = omega arith in
-        let spans : spanned i d (getD xs at 0) ≡ true = rw cut-same at s in
+        let spans : between i g (getD xs at 0) ≡ true = rw cut-same at s in
         rw (f, slice-cons at (from .used) xs 0 h within, spans)
 
     pub walk-step :
         {zs : List ℕ} {u : CutSet} {c : ℕ} → length zs ≡ length ys
-        → Stored (λ y. y ≡ carryOver b i k d cut) ys t zs u × (c ≡ count + 1) × (c ≤ most)
-        → Walked i k d b xs from to hits most lo end zs u c (at + 1)
+        → Stored (λ y. y ≡ carryTo b i k l cut) ys t zs u × (c ≡ count + 1) × (c ≤ most)
+        → Walked i g k l b xs from to hits most lo end zs u c (at + 1)
     walk-step n p = record {
       ends = w .ends;
       start = omega (arith, w .start);
@@ -114,46 +121,46 @@ module _ {i k d : ℕ} {b : Bool} {xs : List ℕ} {from to : CutSet} {hits most 
     }
 
     pub walk-too-much :
-        TooMuch ys t (λ y. y ≡ carryOver b i k d cut) (count + 1) most
-        → TooMuch xs to (ImageBy i k d b (Found xs from)) (hits + hitsOn i d (foundIn xs from)) most
+        TooMuch ys t (λ y. y ≡ carryTo b i k l cut) (count + 1) most
+        → TooMuch xs to (ImageBy i g k l b (Found xs from)) (hits + hitsOn i g (foundIn xs from)) most
     walk-too-much m = too-much-more (λ y q. image-wide (e .from) (omega arith) (next y .0 q))
         (omega (arith, w .counted, hit, skipped)) (too-much-then (r .to-good) (w .stored) m)
 
   -- the cuts from `at` on are not spanned
   stopped :
-      ((j : ℕ) → at ≤ j → j < from .used → spanned i d (getD xs j 0) ≡ false)
-      → Stored (ImageBy i k d b (Found xs from)) xs to ys t
-      × (count ≡ hits + hitsOn i d (foundIn xs from)) × (count ≤ most)
+      ((j : ℕ) → at ≤ j → j < from .used → between i g (getD xs j 0) ≡ false)
+      → Stored (ImageBy i g k l b (Found xs from)) xs to ys t
+      × (count ≡ hits + hitsOn i g (foundIn xs from)) × (count ≤ most)
   stopped f = (
     stored-same (λ y. (image-wide (e .from) (w .until), narrow)) (w .stored),
     omega (arith, w .counted, skipped, rest),
     w .few,
   )
     where
-      rest : hitsOn i d (slice at (from .used) xs) ≡ 0
-      rest = hits-none xs within (w .until) i d f
+      rest : hitsOn i g (slice at (from .used) xs) ≡ 0
+      rest = hits-none xs within (w .until) i g f
 
-      narrow : {y : ℕ} → ImageBy i k d b (Found xs from) y → ImageBy i k d b (In xs lo at) y
+      narrow : {y : ℕ} → ImageBy i g k l b (Found xs from) y → ImageBy i g k l b (In xs lo at) y
       narrow q = ⊎-elim
-          (λ u. let bounds = spanned-bounds i d (q .x) (q .spans) in
+          (λ u. let bounds = between-bounds i g (q .x) (q .spans) in
           absurd (omega (arith, e .less (u .place) (u .from) (u .below), u .is, bounds)))
           (λ u. ⊎-elim
           (λ v. record { x = q .x; carried = v; spans = q .spans; is = q .is })
           (λ v. let not-here = f (v .place) (v .from) (v .below) in
-          absurd (true≢false (sym (q .spans) ∙ ap (spanned i d) (sym (v .is)) ∙ not-here)))
+          absurd (true≢false (sym (q .spans) ∙ ap (between i g) (sym (v .is)) ∙ not-here)))
           (in-parts at u))
           (in-parts lo (q .carried))
 
   pub walk-over :
       end ≤ at
-      → Stored (ImageBy i k d b (Found xs from)) xs to ys t
-      × (count ≡ hits + hitsOn i d (foundIn xs from)) × (count ≤ most)
+      → Stored (ImageBy i g k l b (Found xs from)) xs to ys t
+      × (count ≡ hits + hitsOn i g (foundIn xs from)) × (count ≤ most)
   walk-over past = stopped (λ j l u. absurd (omega (arith, w .ends)))
 
   pub walk-break :
-      {cut : ℕ} → at < end → cut ≡ getD ys at 0 → spanned i d cut ≡ false
-      → Stored (ImageBy i k d b (Found xs from)) xs to ys t
-      × (count ≡ hits + hitsOn i d (foundIn xs from)) × (count ≤ most)
+      {cut : ℕ} → at < end → cut ≡ getD ys at 0 → between i g cut ≡ false
+      → Stored (ImageBy i g k l b (Found xs from)) xs to ys t
+      × (count ≡ hits + hitsOn i g (foundIn xs from)) × (count ≤ most)
   walk-break more here s = stopped later
     where
       h : at < from .used
@@ -162,14 +169,14 @@ module _ {i k d : ℕ} {b : Bool} {xs : List ℕ} {from to : CutSet} {hits most 
       left : (j : ℕ) → at ≤ j → j < from .used → i ≤ getD xs j 0
       left j l u = e .least j (omega (arith, w .start)) u
 
-      past : i + d < getD xs at 0
-      past = leb-false (getD xs at 0) (i + d)
-          (spanned-from i d (getD xs at 0) (left at (omega arith) h) ∙ ap (spanned i d) (sym (here ∙ place-same h)) ∙ s)
+      past : g < getD xs at 0
+      past = leb-false (getD xs at 0) g
+          (between-from i g (getD xs at 0) (left at (omega arith) h) ∙ ap (between i g) (sym (here ∙ place-same h)) ∙ s)
 
-      above : (j : ℕ) → at ≤ j → j < from .used → (at < j) ⊎ (j ≤ at) → i + d < getD xs j 0
+      above : (j : ℕ) → at ≤ j → j < from .used → (at < j) ⊎ (j ≤ at) → g < getD xs j 0
       above j l u (inl o) = omega (arith, past, up at j (omega (arith, e .from, w .start)) o u)
       above j l u (inr o) = let f : j ≡ at = omega arith in rw f past
 
-      later : (j : ℕ) → at ≤ j → j < from .used → spanned i d (getD xs j 0) ≡ false
-      later j l u = sym (spanned-from i d (getD xs j 0) (left j l u))
-          ∙ lt-leb (getD xs j 0) (i + d) (above j l u (lt-or-le at j))
+      later : (j : ℕ) → at ≤ j → j < from .used → between i g (getD xs j 0) ≡ false
+      later j l u = sym (between-from i g (getD xs j 0) (left j l u))
+          ∙ lt-leb (getD xs j 0) g (above j l u (lt-or-le at j))

@@ -13,21 +13,21 @@ use mathlib.Core.Bool.{Bool, true, cond}
 use mathlib.Core.List.{List, [], _∷_}
 use lib.ListN.{length}
 use Rattle.refinement.specs.Order.{_∈_, Distinct}
-use Rattle.refinement.specs.Match.{spanned, carryOver}
+use Rattle.refinement.specs.Match.{between, carryTo}
 use Rattle.cut_set.specs.Store.{Good, Member, placesOf, Stored}
 use Rattle.cut_set.specs.declared.CutSet.{CutSet}
 use Rattle.carrying_match.specs.declared.Worked.{Worked}
 
--- an image of a number with P under one match, which has these left ends, this length and direction
-pub record ImageBy (i k d : ℕ) (b : Bool) (P : ℕ → Type 0) (y : ℕ) : Type 0 where
+-- an image of a number with P under one match: from the side with the ends i and g to that with the ends k and l
+pub record ImageBy (i g k l : ℕ) (b : Bool) (P : ℕ → Type 0) (y : ℕ) : Type 0 where
   pub x : ℕ
   pub carried : P x
-  pub spans : spanned i d x ≡ true
-  pub is : y ≡ carryOver b i k d x
+  pub spans : between i g x ≡ true
+  pub is : y ≡ carryTo b i k l x
 
 abbrev pub hitsOn : ℕ → ℕ → List ℕ → ℕ
-hitsOn i d [] = 0
-hitsOn i d (x ∷ xs) = cond (spanned i d x) 1 0 + hitsOn i d xs
+hitsOn i g [] = 0
+hitsOn i g (x ∷ xs) = cond (between i g x) 1 0 + hitsOn i g xs
 
 -- as many numbers with Q as there are places, and one more
 pub record Overflow (Q : ℕ → Type 0) (places : ℕ) : Type 0 where

@@ -1,7 +1,8 @@
 // Carrying the newly found cuts of one side over one match to the other.
 use cut_set::Added;
 use cut_set::CutSet;
-ghost use Prim.Native.Nat.{_+_, _^_, _≤_, _<_};
+ghost use mathlib.Core.Path.{_≡_};
+ghost use Prim.Native.Nat.{_+_, _-_, _≤_};
 ghost use Rattle.cut_set.specs.Store.{Found, FoundRun, foundIn};
 ghost use Rattle.carrying_match.specs.OneMatch.{Ready, ImageBy, hitsOn, Carrying};
 
@@ -12,26 +13,27 @@ pub enum Worked {
     TooMany,
 }
 
-// Carries the newly found cuts that one match spans: they follow each other in the run. The hits are tested before they
-// are counted, so they never pass `most`.
+// Carries the newly found cuts that one match spans: they follow each other in the run. The match is given by its ends
+// on the two sides, which are equally far apart. The hits are tested before they are counted, so they never pass `most`.
 pub fn carry_match(
     work: &mut [u32],
     from: CutSet,
     to: CutSet,
     left: u32,
-    other: u32,
-    length: u32,
+    right: u32,
+    other_left: u32,
+    other_right: u32,
     reversed: bool,
     hits: usize,
     most: usize,
 ) -> Worked
     requires { ⌜ Ready (now work) from to ⌝ }
     requires { ⌜ FoundRun (now work) from ⌝ }
-    requires { ⌜ other + length < 2 ^ 32 ⌝ }
+    requires { ⌜ «other_left» + (right - left) ≡ «other_right» ⌝ }
     requires { ⌜ hits ≤ most ⌝ }
     ensures { λ r. ⌜
-        Carrying (ImageBy left other length reversed (Found (now (work .entry)) from))
-        (hitsOn left length (foundIn (now (work .entry)) from)) (now (work .entry)) to hits most
+        Carrying (ImageBy left right «other_left» «other_right» reversed (Found (now (work .entry)) from))
+        (hitsOn left right (foundIn (now (work .entry)) from)) (now (work .entry)) to hits most
         (now (work .exit)) r ⌝ }
 {
     let end = reading_cuts::found_end(from);
@@ -40,13 +42,13 @@ pub fn carry_match(
     let mut at = cut_set::first_found(work, from, left);
     while at < end {
         let cut = reading_cuts::found_at(work, from, at);
-        if !refinement::spans(left, length, cut) {
+        if !refinement::spans(left, right, cut) {
             break;
         }
         if count == most {
             return Worked::TooMany;
         }
-        let image = refinement::carry(left, other, length, reversed, cut);
+        let image = refinement::carry(left, other_left, other_right, reversed, cut);
         match cut_set::add(work, set, image) {
             Added::Held(s) => set = s,
             Added::Full => return Worked::TooMany,

@@ -24,6 +24,7 @@ use Rattle.cut_set.specs.declared.Added.{Added}
 use Rattle.cut_set.proofs.Laws.{stored-none, stored-same, stored-then}
 use Rattle.refining.specs.Columns.{Columns, seenFrom, countOf, Fit, matchesOf}
 use Rattle.refining.specs.Refining.{heldIn}
+use Rattle.refining.proofs.RightEnds.{right-at}
 use Rattle.carrying_match.specs.OneMatch.{Overflow}
 use Rattle.stepping.specs.Engine.{CutOn, setOn, hitsAt, Counted, Open}
 use Rattle.closing.specs.AllCuts.{EndAt, EndOf, Seeding}
@@ -35,10 +36,10 @@ use Rattle.stepping.proofs.Members.{members-come, overflow-from}
 use Rattle.carrying_match.proofs.Storing.{crowded-overflow}
 
 pub two-added :
-    (xs : List ℕ) (s : CutSet) {ys : List ℕ} {t : CutSet} (zs : List ℕ) (x n : ℕ) → Good xs s → AddedTo xs s x ys t
-    → (answer : Added) → Adding ys t (x + n) zs answer → Seeding (EndAt x n) xs s zs answer
-two-added xs s zs x n g h (Added.Held u) k = stored-then (h .stored) (k .stored)
-two-added xs s zs x n g h Added.Full k =
+    (xs : List ℕ) (s : CutSet) {ys : List ℕ} {t : CutSet} (zs : List ℕ) (x z : ℕ) → Good xs s → AddedTo xs s x ys t
+    → (answer : Added) → Adding ys t z zs answer → Seeding (EndAt x z) xs s zs answer
+two-added xs s zs x z g h (Added.Held u) k = stored-then (h .stored) (k .stored)
+two-added xs s zs x z g h Added.Full k =
     overflow-from (omega (arith, h .stored .base-same, h .stored .limit-same))
     (λ y. ⊎-elim
     (λ p. ⊎-elim inl (λ e. inr (inl e)) (members-come g (h .stored .good) (h .stored .finished) (h .stored .only) p))
@@ -46,16 +47,16 @@ two-added xs s zs x n g h Added.Full k =
     (crowded-overflow (h .stored .good) (k .0))
 
 pub one-full :
-    {xs : List ℕ} {s : CutSet} {x : ℕ} (n : ℕ) → Good xs s → Crowded (λ y. y ≡ x) xs s
-    → Overflow (λ y. Member xs s y ⊎ EndAt x n y) (placesOf s)
-one-full n g c = overflow-from refl (λ y. ⊎-elim inl (λ e. inr (inl e))) (crowded-overflow g c)
+    {xs : List ℕ} {s : CutSet} {x : ℕ} (z : ℕ) → Good xs s → Crowded (λ y. y ≡ x) xs s
+    → Overflow (λ y. Member xs s y ⊎ EndAt x z y) (placesOf s)
+one-full z g c = overflow-from refl (λ y. ⊎-elim inl (λ e. inr (inl e))) (crowded-overflow g c)
 
-pub record Sown (a d xs : List ℕ) (s : CutSet) (k : ℕ) (ys : List ℕ) (t : CutSet) : Type 0 where
-  pub to : k ≤ length d
+pub record Sown (f r xs : List ℕ) (s : CutSet) (k : ℕ) (ys : List ℕ) (t : CutSet) : Type 0 where
+  pub to : k ≤ length f
   pub lengths : length ys ≡ length xs
-  pub stored : Stored (EndOf a d k) xs s ys t
+  pub stored : Stored (EndOf f r k) xs s ys t
 
-pub sown-start : {a d xs : List ℕ} {s : CutSet} → Good xs s → Sown a d xs s 0 xs s
+pub sown-start : {f r xs : List ℕ} {s : CutSet} → Good xs s → Sown f r xs s 0 xs s
 sown-start g = record {
   to = omega arith;
   lengths = refl;
@@ -63,10 +64,10 @@ sown-start g = record {
       (λ y p. absurd (omega (arith, p .below)));
 }
 
-module _ {a d xs ys : List ℕ} {s t : CutSet} {k : ℕ} (w : Sown a d xs s k ys t) (l : k < length d) where
+module _ {f r xs ys : List ℕ} {s t : CutSet} {k : ℕ} (w : Sown f r xs s k ys t) (l : k < length f) where
   pub sown-step :
-      {zs : List ℕ} {u : CutSet} → length zs ≡ length ys → Stored (EndAt (getD a k 0) (getD d k 0)) ys t zs u
-      → Sown a d xs s (k + 1) zs u
+      {zs : List ℕ} {u : CutSet} → length zs ≡ length ys → Stored (EndAt (getD f k 0) (getD r k 0)) ys t zs u
+      → Sown f r xs s (k + 1) zs u
   sown-step e h = record {
     to = omega arith;
     lengths = e ∙ w .lengths;
@@ -80,14 +81,14 @@ module _ {a d xs ys : List ℕ} {s t : CutSet} {k : ℕ} (w : Sown a d xs s k ys
   }
     where
       part :
-          (y : ℕ) (p : EndOf a d (k + 1) y) → Dec (p .index ≡ k)
-          → EndOf a d k y ⊎ EndAt (getD a k 0) (getD d k 0) y
-      part y p (yes f) = inr (subst (λ (j : ℕ). EndAt (getD a j 0) (getD d j 0) y) f (p .is))
-      part y p (no f) = inl (record { index = p .index; below = omega (arith, p .below, f); is = p .is })
+          (y : ℕ) (p : EndOf f r (k + 1) y) → Dec (p .index ≡ k)
+          → EndOf f r k y ⊎ EndAt (getD f k 0) (getD r k 0) y
+      part y p (yes e) = inr (subst (λ (j : ℕ). EndAt (getD f j 0) (getD r j 0) y) e (p .is))
+      part y p (no e) = inl (record { index = p .index; below = omega (arith, p .below, e); is = p .is })
 
   pub sown-full :
-      Good xs s → Overflow (λ y. Member ys t y ⊎ EndAt (getD a k 0) (getD d k 0) y) (placesOf t)
-      → Overflow (λ y. Member xs s y ⊎ EndOf a d (length d) y) (placesOf s)
+      Good xs s → Overflow (λ y. Member ys t y ⊎ EndAt (getD f k 0) (getD r k 0) y) (placesOf t)
+      → Overflow (λ y. Member xs s y ⊎ EndOf f r (length f) y) (placesOf s)
   sown-full g o =
       overflow-from (omega (arith, w .stored .base-same, w .stored .limit-same))
       (λ y. ⊎-elim
@@ -98,10 +99,10 @@ module _ {a d xs ys : List ℕ} {s t : CutSet} {k : ℕ} (w : Sown a d xs s k ys
       o
 
 pub sown-end :
-    {a d xs ys : List ℕ} {s t : CutSet} {k : ℕ} → Sown a d xs s k ys t → length d ≤ k
-    → Stored (EndOf a d (length d)) xs s ys t
-sown-end {a} {d} {xs} {ys} {s} {t} w l =
-    subst (λ (n : ℕ). Stored (EndOf a d n) xs s ys t) (omega (arith, w .to)) (w .stored)
+    {f r xs ys : List ℕ} {s t : CutSet} {k : ℕ} → Sown f r xs s k ys t → length f ≤ k
+    → Stored (EndOf f r (length f)) xs s ys t
+sown-end {f} {r} {xs} {ys} {s} {t} w l =
+    subst (λ (n : ℕ). Stored (EndOf f r n) xs s ys t) (omega (arith, w .to)) (w .stored)
 
 none-in : {xs : List ℕ} {lo hi y : ℕ} → hi ≤ lo → In xs lo hi y → ⊥
 none-in h p = omega (arith, p .from, p .below)
@@ -134,26 +135,31 @@ empty-good {xs} {ys} {s} g e n =
 abbrev pub seeded : CutSet → CutSet → Cuts
 seeded t e = record { a = t; b = e; «hits_a» = 0; «hits_b» = 0 }
 
-module _ (columns : Columns) where
-  end-cut : {y : ℕ} → EndOf (columns .from-lefts) (columns .lengths) (countOf columns) y → CutOn (heldIn columns) A y
+module _ (columns : Columns) (fit : Fit columns) where
+  -- the ends on A that are sown
+  abbrev AnEnd : ℕ → Type 0
+  AnEnd = EndOf (columns .from-lefts) (columns .from-rights) (length (columns .from-lefts))
+
+  end-cut : {y : ℕ} → AnEnd y → CutOn (heldIn columns) A y
   end-cut {y} p =
-      let i = ∈-matches columns (p .below) in
+      let below : p .index < countOf columns = omega (arith, p .below, fit .from-length) in
+      let i = ∈-matches columns below in
       ⊎-elim
       (λ e. subst (CutOn (heldIn columns) A) (sym e) (end i (left-end A)))
-      (λ e. subst (CutOn (heldIn columns) A) (sym e) (end i (right-end A)))
+      (λ e. subst (CutOn (heldIn columns) A) (sym (e ∙ right-at fit A below)) (end i (right-end A)))
       (p .is)
 
   pub seeded-exceeds :
-      {cap : ℕ} {xs : List ℕ} {s : CutSet} → Fit columns → Emptied xs 0 (2 * cap) s
-      → Overflow (λ y. Member xs s y ⊎ EndOf (columns .from-lefts) (columns .lengths) (countOf columns) y) (placesOf s)
+      {cap : ℕ} {xs : List ℕ} {s : CutSet} → Emptied xs 0 (2 * cap) s
+      → Overflow (λ y. Member xs s y ⊎ AnEnd y) (placesOf s)
       → EveryExceeds (heldIn columns) cap
-  seeded-exceeds fit z o =
+  seeded-exceeds z o =
       overflow-exceeds columns fit A (omega (arith, z .base-is, z .limit-is)) o
       (λ y. ⊎-elim (λ p. absurd (none-in (omega (arith, z .base-is, z .used-is)) p)) end-cut)
 
   module _ (cap : ℕ) {xs ys : List ℕ} {s t e : CutSet} (z : Emptied xs 0 (2 * cap) s)
       (q : Emptied xs (2 * cap) (4 * cap) e)
-      (h : Stored (EndOf (columns .from-lefts) (columns .lengths) (countOf columns)) xs s ys t)
+      (h : Stored AnEnd xs s ys t)
       (n : length ys ≡ length xs)
     where
       no-b : {x : ℕ} → Member ys e x → ⊥
@@ -183,11 +189,12 @@ module _ (columns : Columns) where
 
       ended : (m : Match) → m ∈ matchesOf columns → Member ys t (left m A) × Member ys t (right m A)
       ended m i =
-          let v = matches-∈ columns i in (
-            h .held (left m A)
-                (record { index = v .0; below = v .1; is = inl (ap (λ (w : Match). left w A) (sym (v .2))) }),
-            h .held (right m A)
-                (record { index = v .0; below = v .1; is = inr (ap (λ (w : Match). right w A) (sym (v .2))) }),
+          let v = matches-∈ columns i in
+          let below : v .0 < length (columns .from-lefts) = omega (arith, v .1, fit .from-length) in
+          let at-left = ap (λ (w : Match). left w A) (sym (v .2)) in
+          let at-right = ap (λ (w : Match). right w A) (sym (v .2)) ∙ sym (right-at fit A (v .1)) in (
+            h .held (left m A) (record { index = v .0; below = below; is = inl at-left }),
+            h .held (right m A) (record { index = v .0; below = below; is = inr at-right }),
           )
 
       pub seeded-open : Open columns cap ys (seeded t e) A

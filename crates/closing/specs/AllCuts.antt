@@ -2,7 +2,7 @@
 --     EndOf, Seeding      the A ends of the matches, and what adding them does, by its answer
 --     AllCuts, Closure    what the whole closure does, by its answer
 -- Assumes nothing.
-use Prim.Native.Nat.{ℕ, _+_, _≤_, _<_}
+use Prim.Native.Nat.{ℕ, _≤_, _<_}
 use mathlib.Core.Path.{_≡_}
 use mathlib.Core.Logic.{_↔_, _⊎_}
 use mathlib.Core.List.{List}
@@ -17,15 +17,15 @@ use Rattle.carrying_match.specs.OneMatch.{Overflow}
 use Rattle.stepping.specs.Engine.{CutOn}
 use Rattle.closing.specs.declared.Closed.{Closed}
 
--- y is the left or the right end of a match with left end i and length n
+-- y is one of the two ends i and g of a match
 abbrev pub EndAt : ℕ → ℕ → ℕ → Type 0
-EndAt i n y = (y ≡ i) ⊎ (y ≡ i + n)
+EndAt i g y = (y ≡ i) ⊎ (y ≡ g)
 
 -- y is an A end of one of the first n matches
-pub record EndOf (a d : List ℕ) (n y : ℕ) : Type 0 where
+pub record EndOf (f g : List ℕ) (n y : ℕ) : Type 0 where
   pub index : ℕ
   pub below : index < n
-  pub is : EndAt (getD a index 0) (getD d index 0) y
+  pub is : EndAt (getD f index 0) (getD g index 0) y
 
 -- adding all numbers with P to the set s
 abbrev pub Seeding : (ℕ → Type 0) → List ℕ → CutSet → List ℕ → Added → Type 0

@@ -5,11 +5,12 @@ use stepping::Closing;
 use stepping::Cuts;
 use stepping::a_step;
 use stepping::b_step;
-ghost use Prim.Native.Nat.{_+_, _*_, _^_, _≤_, _<_};
+ghost use mathlib.Core.Path.{_≡_};
+ghost use Prim.Native.Nat.{_*_, _≤_};
 ghost use lib.ListN.{length};
 ghost use Rattle.refinement.specs.declared.Side.{Side};
 ghost use Rattle.cut_set.specs.Store.{Good};
-ghost use Rattle.refining.specs.Columns.{columnsOf, Fit, Ends};
+ghost use Rattle.refining.specs.Columns.{columnsOf, Fit};
 ghost use Rattle.refining.specs.Refining.{heldIn};
 ghost use Rattle.stepping.specs.Engine.{Open};
 ghost use Rattle.closing.specs.AllCuts.{EndAt, EndOf, Seeding, Closure};
@@ -24,17 +25,17 @@ pub enum Closed {
 const BUDGET: u32 = 64;
 
 // Adds the two A ends of every match. Those of B are found by carrying them.
-fn seed(left_a: &[u32], lengths: &[u32], work: &mut [u32], set: CutSet) -> Added
-    requires { ⌜ Ends (now «left_a») (now lengths) ⌝ }
+fn seed(left_a: &[u32], right_a: &[u32], work: &mut [u32], set: CutSet) -> Added
+    requires { ⌜ length (now «left_a») ≡ length (now «right_a») ⌝ }
     requires { ⌜ Good (now work) set ⌝ }
     ensures { λ r. ⌜
-        Seeding (EndOf (now («left_a» .entry)) (now (lengths .entry)) (length (now (lengths .entry))))
+        Seeding (EndOf (now («left_a» .entry)) (now («right_a» .entry)) (length (now («left_a» .entry))))
         (now (work .entry)) set (now (work .exit)) r ⌝ }
 {
     let mut a = set;
     let mut k = 0;
-    while k < lengths.len() {
-        match seed_match(work, a, left_a[k], lengths[k]) {
+    while k < left_a.len() {
+        match seed_match(work, a, left_a[k], right_a[k]) {
             Added::Held(s) => a = s,
             Added::Full => return Added::Full,
         }
@@ -43,13 +44,12 @@ fn seed(left_a: &[u32], lengths: &[u32], work: &mut [u32], set: CutSet) -> Added
     Added::Held(a)
 }
 
-fn seed_match(work: &mut [u32], set: CutSet, left: u32, length: u32) -> Added
+fn seed_match(work: &mut [u32], set: CutSet, left: u32, right: u32) -> Added
     requires { ⌜ Good (now work) set ⌝ }
-    requires { ⌜ left + length < 2 ^ 32 ⌝ }
-    ensures { λ r. ⌜ Seeding (EndAt left length) (now (work .entry)) set (now (work .exit)) r ⌝ }
+    ensures { λ r. ⌜ Seeding (EndAt left right) (now (work .entry)) set (now (work .exit)) r ⌝ }
 {
     match cut_set::add(work, set, left) {
-        Added::Held(s) => cut_set::add(work, s, left + length),
+        Added::Held(s) => cut_set::add(work, s, right),
         Added::Full => Added::Full,
     }
 }
@@ -57,20 +57,23 @@ fn seed_match(work: &mut [u32], set: CutSet, left: u32, length: u32) -> Added
 // Goes on with the step that is due until nothing new is left.
 fn drive(
     left_a: &[u32],
+    right_a: &[u32],
     left_b: &[u32],
-    lengths: &[u32],
+    right_b: &[u32],
     reversed: &[bool],
     work: &mut [u32],
     cuts: Cuts,
     capacity: usize,
 ) -> Closed
-    requires { ⌜ Fit (columnsOf (now «left_a») (now «left_b») (now lengths) (now reversed)) ⌝ }
+    requires { ⌜ Fit (columnsOf (now «left_a») (now «right_a») (now «left_b») (now «right_b») (now reversed)) ⌝ }
     requires { ⌜
-        Open (columnsOf (now «left_a») (now «left_b») (now lengths) (now reversed)) capacity (now work) cuts Side.A ⌝ }
+        Open (columnsOf (now «left_a») (now «right_a») (now «left_b») (now «right_b») (now reversed)) capacity
+        (now work) cuts Side.A ⌝ }
     ensures { λ r. ⌜
         Closure
         (heldIn
-        (columnsOf (now («left_a» .entry)) (now («left_b» .entry)) (now (lengths .entry)) (now (reversed .entry))))
+        (columnsOf (now («left_a» .entry)) (now («right_a» .entry)) (now («left_b» .entry)) (now («right_b» .entry))
+        (now (reversed .entry))))
         capacity (now (work .exit)) r ⌝ }
 {
     let mut closing = Closing::MoreA(cuts);
@@ -83,10 +86,10 @@ fn drive(
             }
             Closing::TooMany => return Closed::TooMany,
             Closing::MoreA(c) => {
-                closing = a_step(left_a, left_b, lengths, reversed, work, c, capacity, BUDGET);
+                closing = a_step(left_a, right_a, left_b, right_b, reversed, work, c, capacity, BUDGET);
             }
             Closing::MoreB(c) => {
-                closing = b_step(left_a, left_b, lengths, reversed, work, c, capacity, BUDGET);
+                closing = b_step(left_a, right_a, left_b, right_b, reversed, work, c, capacity, BUDGET);
             }
         }
     }
@@ -95,24 +98,26 @@ fn drive(
 // The cuts of A in the first half of 4 * capacity places of the work buffer; those of B have the second half.
 pub fn close(
     left_a: &[u32],
+    right_a: &[u32],
     left_b: &[u32],
-    lengths: &[u32],
+    right_b: &[u32],
     reversed: &[bool],
     work: &mut [u32],
     capacity: usize,
 ) -> Closed
-    requires { ⌜ Fit (columnsOf (now «left_a») (now «left_b») (now lengths) (now reversed)) ⌝ }
+    requires { ⌜ Fit (columnsOf (now «left_a») (now «right_a») (now «left_b») (now «right_b») (now reversed)) ⌝ }
     requires { ⌜ 4 * capacity ≤ length (now work) ⌝ }
-    requires { ⌜ length (now lengths) ≤ 4294967296 ⌝ }
+    requires { ⌜ length (now reversed) ≤ 4294967296 ⌝ }
     ensures { λ r. ⌜
         Closure
         (heldIn
-        (columnsOf (now («left_a» .entry)) (now («left_b» .entry)) (now (lengths .entry)) (now (reversed .entry))))
+        (columnsOf (now («left_a» .entry)) (now («right_a» .entry)) (now («left_b» .entry)) (now («right_b» .entry))
+        (now (reversed .entry))))
         capacity (now (work .exit)) r ⌝ }
 {
     let a = cut_set::empty(work, 0, 2 * capacity);
     let b = cut_set::empty(work, 2 * capacity, 4 * capacity);
-    match seed(left_a, lengths, work, a) {
+    match seed(left_a, right_a, work, a) {
         Added::Full => Closed::TooMany,
         Added::Held(seeded) => {
             let cuts = Cuts {
@@ -121,7 +126,7 @@ pub fn close(
                 hits_a: 0,
                 hits_b: 0,
             };
-            drive(left_a, left_b, lengths, reversed, work, cuts, capacity)
+            drive(left_a, right_a, left_b, right_b, reversed, work, cuts, capacity)
         }
     }
 }

@@ -1,5 +1,5 @@
 -- From what the inner functions ensure to what the refining call ensures.
---     reaches, prefix-length, columns-few, columns-fit
+--     reaches, prefix-length, columns-fit
 --                        the columns of an admitted script hold as many numbers as there are matches, and they fit
 --     refining-met, read-refused, read-refined
 --                        the contract, by one equation, which holds of a refused script and of an admitted one
@@ -17,7 +17,7 @@ use Rattle.script.specs.Columns.{matchesRead, columnRead, ColumnsRead}
 use Rattle.script.specs.declared.Verdict.{Verdict}
 use Rattle.script.specs.declared.refusal.Refusal.{Refusal}
 use Rattle.script.specs.declared.command.Match.{Match as ScriptMatch}
-use Rattle.refining.specs.Columns.{columnsOf, Fit}
+use Rattle.refining.specs.Columns.{FitRead, columnsRead}
 use Rattle.refining.specs.Refining.{heldIn, refiningOf}
 use Rattle.refining.specs.Demands.{answerOf, Demand1, Demand2, Demand3}
 use Rattle.refining_matches.specs.Tabling.{MatchesRefined}
@@ -50,7 +50,11 @@ module _ (script : List ℕ) {told : Verdict} {p q count : ℕ} (e : told ≡ ve
     pub prefix-length : count ≡ length (take count after)
     prefix-length = omega (arith, reaches, length-take count after)
 
-  module _ {a b d a′ b′ d′ : List ℕ} {r r′ : List Bool} (roomy : Roomy script a b d r)
+  -- a column with room for the matches has room for as many numbers as there are
+  room-reaches : {n : ℕ} → length (matchesRead (readScript script)) ≤ n → count ≤ n
+  room-reaches room = omega (arith, rw (held .read) at room, held .counted)
+
+  module _ {a b d a′ b′ d′ g u : List ℕ} {r r′ : List Bool} (roomy : Roomy script a b d r g u)
       (columns : ColumnsRead script a b d r a′ b′ d′ r′) where
     left-a-begins : take count a′ ≡ map (λ m. m .«left_a») (held .matches)
     left-a-begins = begins (λ m. m .«left_a») a (columns .left-a) (roomy .left-a)
@@ -64,17 +68,25 @@ module _ (script : List ℕ) {told : Verdict} {p q count : ℕ} (e : told ≡ ve
     reversed-begins : take count r′ ≡ map (λ m. m .reversed) (held .matches)
     reversed-begins = begins (λ m. m .reversed) r (columns .reversed) (roomy .reversed)
 
-    pub columns-few : length (take count d′) < 4294967296
-    columns-few =
-        let counted = ap length letters-begin ∙ length-map (held .matches) (λ m. m .length) in
-        omega (arith, counted, held .counted, held .few)
-
-    pub columns-fit : Fit (columnsOf (take count a′) (take count b′) (take count d′) (take count r′))
-    columns-fit = held-fit held left-a-begins left-b-begins letters-begin reversed-begins
+    -- what the matches are read into fits, and the right ends have room beside the left ends
+    pub columns-fit :
+        FitRead (take count a′) (take count b′) (take count d′) (take count r′)
+        × ((length (take count r′) < 4294967296)
+        × ((length (take count a′) ≤ length g) × (length (take count b′) ≤ length u)))
+    columns-fit =
+        let on-a = prefix-length (λ m. m .«left_a») a (columns .left-a) (roomy .left-a) in
+        let on-b = prefix-length (λ m. m .«left_b») b (columns .left-b) (roomy .left-b) in
+        let ways = prefix-length (λ m. m .reversed) r (columns .reversed) (roomy .reversed) in (
+          held-fit held left-a-begins left-b-begins letters-begin reversed-begins,
+          (
+            omega (arith, ways, held .few),
+            (omega (arith, on-a, room-reaches (roomy .right-a)), omega (arith, on-b, room-reaches (roomy .right-b))),
+          ),
+        )
 
     pub read-refined : (table work : List ℕ) {reply : Refined} {table′ work′ : List ℕ}
-        → MatchesRefined (heldIn (columnsOf (take count a′) (take count b′) (take count d′) (take count r′))) table work
-        reply table′ work′
+        → MatchesRefined (heldIn (columnsRead (take count a′) (take count b′) (take count d′) (take count r′))) table
+        work reply table′ work′
         → ScriptRefined script table work reply table′ work′
     read-refined table work refined =
         refined
@@ -102,14 +114,29 @@ read-refused script table work e v is =
     rw is (sym (refining-refused script table work (reading-refused script e v)))
 
 -- columns of 64 have room for the matches of a short script, and columns of 2,048 for those of any
-pub few-roomy : {s a b d : List ℕ} {r : List Bool} → length s ≤ shortScript → length a ≡ 64 → length b ≡ 64
-    → length d ≡ 64 → length r ≡ 64 → Roomy s a b d r
-few-roomy {s} short ea eb ed er =
+pub few-roomy : {s a b d g u : List ℕ} {r : List Bool} → length s ≤ shortScript → length a ≡ 64 → length b ≡ 64
+    → length d ≡ 64 → length r ≡ 64 → length g ≡ 64 → length u ≡ 64 → Roomy s a b d r g u
+few-roomy {s} short ea eb ed er eg eu =
     let few : length (matchesRead (readScript s)) ≤ 64 = omega (arith, matches-few s) in
-    record { left-a = omega arith; left-b = omega arith; letters = omega arith; reversed = omega arith }
+    record {
+      left-a = omega arith;
+      left-b = omega arith;
+      letters = omega arith;
+      reversed = omega arith;
+      right-a = omega arith;
+      right-b = omega arith;
+    }
 
-pub many-roomy : {s a b d : List ℕ} {r : List Bool} → length a ≡ mostMatches → length b ≡ mostMatches
-    → length d ≡ mostMatches → length r ≡ mostMatches → Roomy s a b d r
-many-roomy {s} ea eb ed er =
+pub many-roomy : {s a b d g u : List ℕ} {r : List Bool} → length a ≡ mostMatches → length b ≡ mostMatches
+    → length d ≡ mostMatches → length r ≡ mostMatches → length g ≡ mostMatches → length u ≡ mostMatches
+    → Roomy s a b d r g u
+many-roomy {s} ea eb ed er eg eu =
     let few : length (matchesRead (readScript s)) ≤ mostMatches = matches-few s .1 in
-    record { left-a = omega arith; left-b = omega arith; letters = omega arith; reversed = omega arith }
+    record {
+      left-a = omega arith;
+      left-b = omega arith;
+      letters = omega arith;
+      reversed = omega arith;
+      right-a = omega arith;
+      right-b = omega arith;
+    }

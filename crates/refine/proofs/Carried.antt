@@ -3,9 +3,10 @@
 --     found-refused     the finding's refusal is the call's
 --     found-off         a position off the match is 14
 --     found-to          a position that the match spans is carried
---     carry-fits        the other end of a match that is found fits 32 bits
+--     from-fits, to-fits    the right ends of a match that is found fit 32 bits
+--     carry-room        a position that it spans is carried no further than its right end
 -- Assumes nothing.
-use Prim.Native.Nat.{ℕ, _+_, _^_, _<_}
+use Prim.Native.Nat.{ℕ, _+_, _-_, _^_, _≤_, _<_}
 use mathlib.Core.Path.{_≡_, sym, ap, _∙_}
 use mathlib.Core.Bool.{Bool, true, false}
 use mathlib.Core.List.{List}
@@ -17,7 +18,8 @@ use Rattle.script.specs.declared.command.Match.{Match as ScriptMatch}
 use Rattle.script.specs.declared.refusal.Refusal.{Refusal}
 use Rattle.script.specs.declared.refusal.Refusal.the-variants.{OffTheMatch}
 use Rattle.refinement.specs.declared.Side.{Side}
-use Rattle.refinement.specs.Match.{other, onSide, spanned, carryOver}
+use Rattle.refinement.specs.Match.{other, onSide, spanned, between, carryTo}
+use Rattle.refinement.proofs.Geometry.{between-bounds, between-spanned, carry-ends}
 use Rattle.refining.specs.Carrying.{carryingOf, carriedAnswer, CarryingDemand}
 use Rattle.refining.specs.declared.answers.Carried.{Carried}
 use Rattle.refining.proofs.CarryingOutcome.{carrying-refused, carrying-off, carrying-to, carrying-demand, found-fits}
@@ -35,25 +37,40 @@ module _ (script : List ℕ) (number : ℕ) (side : Side) (position : ℕ) {find
       → reply ≡ carryingOf script number side position
   found-refused e is = is ∙ sym (carrying-refused script number side position (sym finds ∙ e))
 
-  module _ {x : ScriptMatch} {from letters : ℕ} {spans : Bool} (found : finding ≡ Finding.Found x)
-      (from-is : from ≡ onSide side (x .«left_a») (x .«left_b»)) (letters-is : letters ≡ x .length)
-      (spans-is : spans ≡ spanned from letters position) where
-    tested : {b : Bool} → spans ≡ b → spanned from (x .length) position ≡ b
-    tested e = rw (← letters-is) (sym spans-is ∙ e)
+  module _ {x : ScriptMatch} {from letters : ℕ} (found : finding ≡ Finding.Found x)
+      (from-is : from ≡ onSide side (x .«left_a») (x .«left_b»)) (letters-is : letters ≡ x .length) where
+    pub from-fits : from + letters < 2 ^ 32
+    from-fits = omega (arith, from-is, letters-is, found-fits script number (sym finds ∙ found) side)
 
-    pub found-off : spans ≡ false → Carried.Refused OffTheMatch ≡ carryingOf script number side position
-    found-off off = sym (carrying-off script number side position (sym finds ∙ found) from-is (tested off))
+    module _ {from-right : ℕ} {spans : Bool} (right-is : from-right ≡ from + letters)
+        (spans-is : spans ≡ between from from-right position) where
+      tested : {b : Bool} → spans ≡ b → spanned from (x .length) position ≡ b
+      tested e = sym (between-spanned from (x .length) (rw letters-is at right-is) position) ∙ sym spans-is ∙ e
+
+      pub found-off : spans ≡ false → Carried.Refused OffTheMatch ≡ carryingOf script number side position
+      found-off off = sym (carrying-off script number side position (sym finds ∙ found) from-is (tested off))
 
     module _ {opposite : Side} {to : ℕ} (opposite-is : opposite ≡ other side)
-        (to-is : to ≡ onSide opposite (x .«left_a») (x .«left_b»)) (on : spans ≡ true) where
+        (to-is : to ≡ onSide opposite (x .«left_a») (x .«left_b»)) where
       to-other : to ≡ onSide (other side) (x .«left_a») (x .«left_b»)
       to-other = to-is ∙ ap (λ (s : Side). onSide s (x .«left_a») (x .«left_b»)) opposite-is
 
-      pub carry-fits : to + letters < 2 ^ 32
-      carry-fits = omega (arith, to-other, letters-is, found-fits script number (sym finds ∙ found) (other side))
+      pub to-fits : to + letters < 2 ^ 32
+      to-fits = omega (arith, to-other, letters-is, found-fits script number (sym finds ∙ found) (other side))
 
-      pub found-to : {y : ℕ} {reply : Carried} → y ≡ carryOver (x .reversed) from to letters position
-          → reply ≡ Carried.To y → reply ≡ carryingOf script number side position
-      found-to carried is =
-          is ∙ ap Carried.To (carried ∙ ap (λ (d : ℕ). carryOver (x .reversed) from to d position) letters-is)
-          ∙ sym (carrying-to script number side position (sym finds ∙ found) from-is to-other (tested on))
+      module _ {from-right to-right : ℕ} {spans : Bool} (from-right-is : from-right ≡ from + letters)
+          (to-right-is : to-right ≡ to + letters) (spans-is : spans ≡ between from from-right position)
+          (on : spans ≡ true) where
+        pub carry-room : (from ≤ position) × (to + (position - from) ≤ to-right)
+        carry-room =
+            let bounds = between-bounds from from-right position (sym spans-is ∙ on) in
+            (bounds .0, omega (arith, bounds .0, bounds .1))
+
+        pub found-to : {y : ℕ} {reply : Carried} → y ≡ carryTo (x .reversed) from to to-right position
+            → reply ≡ Carried.To y → reply ≡ carryingOf script number side position
+        found-to carried is =
+            is
+            ∙ ap Carried.To
+            (carried ∙ carry-ends (x .reversed) from to (x .length) position (rw letters-is at to-right-is))
+            ∙ sym (carrying-to script number side position (sym finds ∙ found) from-is to-other
+            (tested from-right-is spans-is on))

@@ -19,12 +19,14 @@ abbrev pub ScriptRefined : List ℕ → List ℕ → List ℕ → Refined → Li
 ScriptRefined script table work reply table′ work′ =
     record { reply = reply; table = table′; work = work′ } ≡ refiningOf script table work
 
--- columns with room for the matches of a script
-pub record Roomy (s a b d : List ℕ) (r : List Bool) : Type 0 where
+-- columns with room for the matches of a script, and for their right ends
+pub record Roomy (s a b d : List ℕ) (r : List Bool) (g u : List ℕ) : Type 0 where
   pub left-a : length (matchesRead (readScript s)) ≤ length a
   pub left-b : length (matchesRead (readScript s)) ≤ length b
   pub letters : length (matchesRead (readScript s)) ≤ length d
   pub reversed : length (matchesRead (readScript s)) ≤ length r
+  pub right-a : length (matchesRead (readScript s)) ≤ length g
+  pub right-b : length (matchesRead (readScript s)) ≤ length u
 
 -- lengths, 64 matches, end
 abbrev pub shortScript : ℕ

@@ -16,11 +16,13 @@ pub fn carry(script: &[u8], number: u32, side: Side, position: u32) -> Carried
         Finding::Found(found) => {
             let from = refinement::on_side(side, found.left_a, found.left_b);
             let to = refinement::on_side(refinement::opposite(side), found.left_a, found.left_b);
-            if refinement::spans(from, found.length, position) {
+            let from_right = from + found.length;
+            let to_right = to + found.length;
+            if refinement::spans(from, from_right, position) {
                 return Carried::To(refinement::carry(
                     from,
                     to,
-                    found.length,
+                    to_right,
                     found.reversed,
                     position,
                 ));

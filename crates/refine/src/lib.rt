@@ -3,7 +3,7 @@ pub mod carrying;
 
 use reader::columns::read_columns;
 use refining::answers::Refined;
-use refining_matches::refine_matches;
+use refining_matches::refine_read;
 use script::Verdict;
 use script::command::LENGTHS_WIDTH;
 use script::command::MATCH_WIDTH;
@@ -28,21 +28,27 @@ fn refine_in(
     left_b: &mut [u32],
     lengths: &mut [u32],
     reversed: &mut [bool],
+    right_a: &mut [u32],
+    right_b: &mut [u32],
     table: &mut [u32],
     work: &mut [u32],
 ) -> Refined
-    requires { ⌜ Roomy (now script) (now «left_a») (now «left_b») (now lengths) (now reversed) ⌝ }
+    requires { ⌜
+        Roomy (now script) (now «left_a») (now «left_b») (now lengths) (now reversed) (now «right_a»)
+        (now «right_b») ⌝ }
     ensures { λ r. ⌜
         ScriptRefined (now (script .entry)) (now (table .entry)) (now (work .entry)) r (now (table .exit))
         (now (work .exit)) ⌝ }
 {
     match read_columns(script, left_a, left_b, lengths, reversed) {
         Verdict::Refused(refusal) => Refined::Refused(refusal),
-        Verdict::Admitted { p: _, q: _, count } => refine_matches(
+        Verdict::Admitted { p: _, q: _, count } => refine_read(
             &left_a[..count],
             &left_b[..count],
             &lengths[..count],
             &reversed[..count],
+            right_a,
+            right_b,
             table,
             work,
         ),
@@ -60,12 +66,16 @@ fn refine_few(script: &[u8], table: &mut [u32], work: &mut [u32]) -> Refined
     let mut left_b = [0; FEW_MATCHES];
     let mut lengths = [0; FEW_MATCHES];
     let mut reversed = [false; FEW_MATCHES];
+    let mut right_a = [0; FEW_MATCHES];
+    let mut right_b = [0; FEW_MATCHES];
     refine_in(
         script,
         &mut left_a[..],
         &mut left_b[..],
         &mut lengths[..],
         &mut reversed[..],
+        &mut right_a[..],
+        &mut right_b[..],
         table,
         work,
     )
@@ -81,12 +91,16 @@ fn refine_many(script: &[u8], table: &mut [u32], work: &mut [u32]) -> Refined
     let mut left_b = [0; MOST_MATCHES];
     let mut lengths = [0; MOST_MATCHES];
     let mut reversed = [false; MOST_MATCHES];
+    let mut right_a = [0; MOST_MATCHES];
+    let mut right_b = [0; MOST_MATCHES];
     refine_in(
         script,
         &mut left_a[..],
         &mut left_b[..],
         &mut lengths[..],
         &mut reversed[..],
+        &mut right_a[..],
+        &mut right_b[..],
         table,
         work,
     )

@@ -9,7 +9,10 @@
 --     piece-unmeets, piece-end, piece-carry, piece-spans          a piece carries as its match does
 --     piece-of                 what is made between two positions of a match is a piece of it
 --     Faces, faces-..          the same for the letters x on A and y on B
---     spanned-below, -from, -bounds, -iff            the test of the code is Spans
+--     between-bounds, -below, -from                  the test of the code, given two ends
+--     spanned-iff, between-spanned, ends-span        .. and given a length: each is Spans, and they answer alike
+--     answer-kept              so the test's answer is kept for each match and position
+--     carry-ends               the formula of the code, given the ends that it carries to, is 01's
 -- Assumes nothing.
 use Prim.Native.Nat.{ℕ, suc, _+_, _-_, _≤_, _<_, min}
 use mathlib.Core.Path.{_≡_, refl, sym, subst, ap, _∙_}
@@ -22,6 +25,7 @@ use borrow.Author.Tests.{leb-true, le-leb, lt-leb}
 use Rattle.refinement.specs.declared.Side.{Side}
 use Rattle.refinement.specs.declared.Side.the-variants.{A, B}
 use Rattle.refinement.specs.Match.{Match, other, left, right, Spans, spanned, carryOver, carry}
+use Rattle.refinement.specs.Match.{between, AnswerKept, carryTo}
 use Rattle.refinement.specs.Refinement.{Piece, Holds, Inside, facingLeft, facingRight}
 use Rattle.refinement.specs.Least.{pieceOf}
 
@@ -197,22 +201,41 @@ piece-of m x y l n h =
       right-carries = ap (carry m A) stop ∙ f .3;
     }
 
--- The test of the code.
-pub spanned-bounds : (i d h : ℕ) → spanned i d h ≡ true → (i ≤ h) × (h ≤ i + d)
-spanned-bounds i d h e =
-    let both = and-eq-true-iff (leb i h) (leb h (i + d)) .0 e in
-    (leb-true i h (both .0), leb-true h (i + d) (both .1))
+-- The test of the code, and its formula. `spanned i d` is `between i (i + d)`.
+pub between-bounds : (i g h : ℕ) → between i g h ≡ true → (i ≤ h) × (h ≤ g)
+between-bounds i g h e =
+    let both = and-eq-true-iff (leb i h) (leb h g) .0 e in
+    (leb-true i h (both .0), leb-true h g (both .1))
 
-pub spanned-below : (i d h : ℕ) → h < i → false ≡ spanned i d h
-spanned-below i d h l = rw (lt-leb i h l)
+pub between-below : (i g h : ℕ) → h < i → false ≡ between i g h
+between-below i g h l = rw (lt-leb i h l)
 
-pub spanned-from : (i d h : ℕ) → i ≤ h → leb h (i + d) ≡ spanned i d h
-spanned-from i d h l = rw (le-leb i h l)
+pub between-from : (i g h : ℕ) → i ≤ h → leb h g ≡ between i g h
+between-from i g h l = rw (le-leb i h l)
 
 pub spanned-iff : (m : Match) (s : Side) (h : ℕ) → (spanned (left m s) (m .length) h ≡ true) ↔ Spans m s h
-spanned-iff m s h =
-    let d = m .length in
-    let forth : Spans m s h → spanned (left m s) d h ≡ true =
-    λ t. sym (spanned-from (left m s) d h (t .from-left)) ∙ le-leb h (right m s) (t .to-right)
-    in
-    (λ e. omega (arith, spanned-bounds (left m s) d h e), forth)
+spanned-iff m s h = (
+  λ e. omega (arith, between-bounds (left m s) (right m s) h e),
+  λ t. sym (between-from (left m s) (right m s) h (t .from-left)) ∙ le-leb h (right m s) (t .to-right),
+)
+
+pub between-spanned : (i d : ℕ) {g : ℕ} → g ≡ i + d → (h : ℕ) → between i g h ≡ spanned i d h
+between-spanned i d e h = ap (λ (z : ℕ). between i z h) e
+
+pub ends-span : (m : Match) (s : Side) (h : ℕ) {g : ℕ} → g ≡ right m s → (between (left m s) g h ≡ true) ↔ Spans m s h
+ends-span m s h e =
+    let same = between-spanned (left m s) (m .length) e h in
+    (λ t. spanned-iff m s h .0 (sym same ∙ t), λ t. same ∙ spanned-iff m s h .1 t)
+
+pub answer-kept : (i g h : ℕ) {answer : Bool} → answer ≡ between i g h → (answer ≡ between i g h) × AnswerKept i g h answer
+answer-kept i g h a = (
+  a,
+  record {
+    kept = λ d e. a ∙ between-spanned i d e h;
+    spans = λ m s e f. rw (a, e) (ends-span m s h f);
+  },
+)
+
+pub carry-ends : (b : Bool) (i k d h : ℕ) {l : ℕ} → l ≡ k + d → carryTo b i k l h ≡ carryOver b i k d h
+carry-ends false i k d h e = refl
+carry-ends true i k d h e = ap (λ (z : ℕ). z - (h - i)) e

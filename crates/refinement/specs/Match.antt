@@ -5,9 +5,15 @@
 --     Spans m s h      the position h lies on the side s of m, the two ends among them
 --     spanned i d h    the same as a test
 --     carry m s h      where m carries h to, which is on the other side
+-- and for #103 the same of a match whose right ends are worked out beforehand:
+--     between i g h    the test, given the two ends on the side
+--     AnswerKept       that its answer is the same for each match and position
+--     carryTo          where it carries h to, given the two ends there
 -- 01, "Positions and carrying". Differs: a match names its two tracks, where 01 has A (track 0) and B (track 1).
 -- Assumes nothing.
 use Prim.Native.Nat.{ℕ, _+_, _-_, _≤_}
+use mathlib.Core.Path.{_≡_}
+use mathlib.Core.Logic.{_↔_}
 use mathlib.Core.Bool.{Bool, true, false, _&&_}
 use lib.Dec.{leb}
 use Rattle.refinement.specs.declared.Side.{Side}
@@ -70,3 +76,19 @@ carryOver true i k d h = k + d - (h - i)
 -- SCOPE, "Carrying": the way back is the same formula with the sides exchanged (law carry-back)
 abbrev pub carry : Match → Side → ℕ → ℕ
 carry m s h = carryOver (m .reversed) (left m s) (left m (other s)) (m .length) h
+
+-- #103: the test gets the match's two ends on that side, i and g, and adds nothing
+abbrev pub between : ℕ → ℕ → ℕ → Bool
+between i g h = leb i h && leb h g
+
+-- #103: "this test's answer for each match and position" is kept: what the test of the ends i and g answers on h ..
+pub record AnswerKept (i g h : ℕ) (answer : Bool) : Type 0 where
+  -- .. is what the test of the left end and the length answers
+  pub kept : (d : ℕ) → g ≡ i + d → answer ≡ spanned i d h
+  -- .. and so, if they are a match's two ends on a side, whether it spans h there
+  pub spans : (m : Match) (s : Side) → i ≡ left m s → g ≡ right m s → (answer ≡ true) ↔ Spans m s h
+
+-- #103: as far behind k as h is behind i; reversed, as far before l, the right end there (law carry-ends)
+abbrev pub carryTo : Bool → ℕ → ℕ → ℕ → ℕ → ℕ
+carryTo false i k l h = k + (h - i)
+carryTo true i k l h = l - (h - i)

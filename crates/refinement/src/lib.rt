@@ -1,9 +1,8 @@
-// The leaves of refining: whether a match spans a position, and where it carries it. Nothing wraps: the right end that
-// `spans` compares with is a 64-bit sum, and `carry` adds only what stays on a match whose right end fits.
+// The leaves of refining: whether a match spans a position, and where it carries it. Both are given the ends of the
+// match, and know of no length: `spans` adds nothing, and `carry` adds only what stays on the match.
 ghost use mathlib.Core.Path.{_≡_};
-ghost use mathlib.Core.Bool.{true};
-ghost use Prim.Native.Nat.{_+_, _<_, _^_};
-ghost use Rattle.refinement.specs.Match.{other, onSide, spanned, carryOver};
+ghost use Prim.Native.Nat.{_+_, _-_, _≤_};
+ghost use Rattle.refinement.specs.Match.{other, onSide, between, AnswerKept, carryTo};
 
 // SCOPE, "Sides": a choice of two.
 pub enum Side {
@@ -30,25 +29,27 @@ pub fn on_side(side: Side, a: u32, b: u32) -> u32
     }
 }
 
-// Whether a match spans the position, its two ends included, on the side where its left end is `left`.
-pub fn spans(left: u32, length: u32, position: u32) -> bool
-    ensures { λ r. ⌜ r ≡ spanned left length position ⌝ }
+// Whether a match spans the position, its two ends included, on the side where these are its ends.
+pub fn spans(left: u32, right: u32, position: u32) -> bool
+    ensures test { λ r. ⌜ r ≡ between left right position ⌝ }
+    ensures kept { λ r. ⌜ AnswerKept left right position r ⌝ }
 {
     if position < left {
         return false;
     }
-    position as u64 <= left as u64 + length as u64
+    position <= right
 }
 
-// Where a match carries the position to: from the side where its left end is `from` to the one where it is `to`.
-pub fn carry(from: u32, to: u32, length: u32, reversed: bool, position: u32) -> u32
-    requires { ⌜ spanned from length position ≡ true ⌝ }
-    requires { ⌜ to + length < 2 ^ 32 ⌝ }
-    ensures { λ r. ⌜ r ≡ carryOver reversed from to length position ⌝ }
+// Where a match carries the position to: from the side where its left end is `from` to the one where its ends are `to`
+// and `to_right`.
+pub fn carry(from: u32, to: u32, to_right: u32, reversed: bool, position: u32) -> u32
+    requires { ⌜ from ≤ position ⌝ }
+    requires { ⌜ to + (position - from) ≤ «to_right» ⌝ }
+    ensures { λ r. ⌜ r ≡ carryTo reversed from to «to_right» position ⌝ }
 {
     let past = position - from;
     if reversed {
-        to + (length - past)
+        to_right - past
     } else {
         to + past
     }

@@ -1,3 +1,4 @@
+pub mod RightEnds
 pub mod Numbered
 pub mod Standing
 pub mod RefiningCases

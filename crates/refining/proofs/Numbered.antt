@@ -4,7 +4,7 @@
 --     admitted-matches   each has a letter, and their numbers rise
 --     numbered-range     numbers from n on, as many as there are matches
 --     columns-numbered   columns of their fields hold them
---     columns-fit        and are Fit
+--     columns-fit        and are FitRead
 --     held-admitted, held-fit     both laws, by what the reader's reply tells of the matches
 -- Assumes nothing.
 use Prim.Native.Nat.{ℕ, zero, suc, _+_, _≤_, _<_}
@@ -23,9 +23,10 @@ use Rattle.script.proofs.Admitted.{Holds}
 use Rattle.refinement.specs.Order.{_∈_, Rising}
 use Rattle.refinement.specs.Match.{Match}
 use Rattle.refinement.specs.Refinement.{Matches}
-use Rattle.refining.specs.Columns.{Columns, columnsOf, countOf, Fit, upFrom, matchAt, matchesOf}
+use Rattle.refining.specs.Columns.{FitRead, columnsRead, lettersAt, upFrom, matchAt, matchesOf}
 use Rattle.refining.specs.Refining.{withNumber, numbered, Given, givenBy, heldIn}
 use Rattle.refining.specs.Demands.{Admitted, reads}
+use Rattle.refining.proofs.RightEnds.{rights-worked}
 
 -- ---- the theory's list
 
@@ -88,9 +89,9 @@ getD-∈ [] k d h = absurd (omega arith)
 getD-∈ (x ∷ xs) zero d h = here refl
 getD-∈ (x ∷ xs) (suc k) d h = there (getD-∈ xs k d (omega arith))
 
-module _ {c : Columns} (ms : List ScriptMatch) (left-a : c .from-lefts ≡ map (λ m. m .«left_a») ms)
-    (left-b : c .to-lefts ≡ map (λ m. m .«left_b») ms) (letters : c .lengths ≡ map (λ m. m .length) ms)
-    (reversed : c .ways ≡ map (λ m. m .reversed) ms) where
+module _ {a b d : List ℕ} {r : List Bool} (ms : List ScriptMatch) (left-a : a ≡ map (λ m. m .«left_a») ms)
+    (left-b : b ≡ map (λ m. m .«left_b») ms) (letters : d ≡ map (λ m. m .length) ms)
+    (reversed : r ≡ map (λ m. m .reversed) ms) where
   field-at : {X : Type 0} (field : ScriptMatch → X) {column : List X} → column ≡ map field ms → (k : ℕ)
       → getD column k (field blank) ≡ field (getD ms k blank)
   field-at field e k = ap (λ l. getD l k (field blank)) e ∙ List·getD-map field ms k blank
@@ -99,45 +100,58 @@ module _ {c : Columns} (ms : List ScriptMatch) (left-a : c .from-lefts ≡ map (
       {X : Type 0} (field : ScriptMatch → X) {column : List X} → column ≡ map field ms → length column ≡ length ms
   length-of field e = ap length e ∙ length-map ms field
 
-  pub columns-numbered : matchesOf c ≡ numbered 1 ms
+  count : length d ≡ length ms
+  count = length-of (λ m. m .length) letters
+
+  same-length : (field : ScriptMatch → ℕ) {column : List ℕ} → column ≡ map field ms → length column ≡ length d
+  same-length field e = length-of field e ∙ sym count
+
+  pub columns-numbered : matchesOf (columnsRead a b d r) ≡ numbered 1 ms
   unfolding matchesOf blank
   columns-numbered =
-      ap (λ (n : ℕ). map (matchAt c) (upFrom 0 n)) (length-of (λ m. m .length) letters)
-      ∙ numbered-map (matchAt c) 0 ms (λ k i e below.
+      let rights = rights-worked b d (same-length (λ m. m .«left_b») left-b) in
+      ap (λ (n : ℕ). map (matchAt (columnsRead a b d r)) (upFrom 0 n)) (length-of (λ m. m .reversed) reversed)
+      ∙ numbered-map (matchAt (columnsRead a b d r)) 0 ms (λ k i e below.
       let here : i ≡ k = omega arith in
+      let letters-at : lettersAt (columnsRead a b d r) k ≡ getD d k 0 =
+      omega (arith, rights .left-plus-length k (omega (arith, count, same-length (λ m. m .«left_b») left-b))) in
       rw (
         here,
+        letters-at,
         field-at (λ m. m .«left_a») left-a k,
         field-at (λ m. m .«left_b») left-b k,
         field-at (λ m. m .length) letters k,
         field-at (λ m. m .reversed) reversed k,
       ))
 
-  pub columns-fit : {p q : ℕ} → InRange p → InRange q → ((m : ScriptMatch) → m ∈ ms → Within p q m) → Fit c
+  pub columns-fit : {p q : ℕ} → InRange p → InRange q → ((m : ScriptMatch) → m ∈ ms → Within p q m) → FitRead a b d r
   unfolding blank
   columns-fit {p} {q} rp rq within =
-      let count = length-of (λ m. m .length) letters in
       let letters-at = field-at (λ m. m .length) letters in
-      let at : (k : ℕ) → k < countOf c → Within p q (getD ms k blank) =
+      let at : (k : ℕ) → k < length d → Within p q (getD ms k blank) =
       λ k below. within (getD ms k blank) (getD-∈ ms k blank (omega (arith, count))) in
       record {
-        from-length = length-of (λ m. m .«left_a») left-a ∙ sym count;
-        to-length = length-of (λ m. m .«left_b») left-b ∙ sym count;
+        on-a = record {
+          same-length = same-length (λ m. m .«left_a») left-a;
+          fits = λ k below.
+              omega (arith, at k below .in-a, rp .few, letters-at k, field-at (λ m. m .«left_a») left-a k);
+        };
+        on-b = record {
+          same-length = same-length (λ m. m .«left_b») left-b;
+          fits = λ k below.
+              omega (arith, at k below .in-b, rq .few, letters-at k, field-at (λ m. m .«left_b») left-b k);
+        };
         way-length = length-of (λ m. m .reversed) reversed ∙ sym count;
         lettered = λ k below. omega (arith, at k below .some, letters-at k);
-        from-fits = λ k below.
-            omega (arith, at k below .in-a, rp .few, letters-at k, field-at (λ m. m .«left_a») left-a k);
-        to-fits = λ k below.
-            omega (arith, at k below .in-b, rq .few, letters-at k, field-at (λ m. m .«left_b») left-b k);
       }
 
 -- columns of the fields of an admitted script's matches
 module _ {script : List ℕ} {p q count : ℕ} (held : Holds script p q count) {a b d : List ℕ} {r : List Bool}
     (left-a : a ≡ map (λ m. m .«left_a») (held .matches)) (left-b : b ≡ map (λ m. m .«left_b») (held .matches))
     (letters : d ≡ map (λ m. m .length) (held .matches)) (reversed : r ≡ map (λ m. m .reversed) (held .matches)) where
-  pub held-admitted : Admitted script (heldIn (columnsOf a b d r))
+  pub held-admitted : Admitted script (heldIn (columnsRead a b d r))
   held-admitted = rw (columns-numbered (held .matches) left-a left-b letters reversed) (admitted-of (held .read))
 
-  pub held-fit : Fit (columnsOf a b d r)
+  pub held-fit : FitRead a b d r
   held-fit =
       columns-fit (held .matches) left-a left-b letters reversed (held .p-range) (held .q-range) (λ m i. held .within i)

@@ -9,28 +9,30 @@ use mathlib.Core.List.{List, [], _∷_, _++_, map, flatMap, filter, append-nil, 
 use native.Mathlib.Omega.{arith}
 use Rattle.refinement.specs.declared.Side.the-variants.{A}
 use Rattle.refinement.specs.Order.{_∈_, Rising}
-use Rattle.refinement.specs.Match.{Match, left, Place, spanned}
+use Rattle.refinement.specs.Match.{Match, left, right, Place, between}
 use Rattle.refinement.specs.Least.{spans?, leastCuts, cutsWithin, piecesBetween, piecesOf, tableFrom, leastTable}
 use Rattle.refinement.proofs.Lists.{∈-filter, ∈-unfilter, rising-filter}
-use Rattle.refinement.proofs.Geometry.{spanned-iff}
+use Rattle.refinement.proofs.Geometry.{ends-span}
 use Rattle.refinement.proofs.Theorem.{cuts-of-match}
-use Rattle.refining.specs.Columns.{Columns, countOf, fromAt, lettersAt, Fit, upFrom, matchAt, matchesOf}
+use Rattle.refining.specs.Columns.{Columns, countOf, fromAt, fromRightAt, Fit, upFrom, matchAt, matchesOf}
+use Rattle.refining.proofs.RightEnds.{right-at}
 use Rattle.refining.specs.Refining.{heldIn, leastOf}
 use Rattle.refining.specs.Rows.{within, piecesCut}
 use Rattle.stepping.specs.Engine.{CutOn}
 use Rattle.stepping.proofs.Indexed.{matches-good}
 
 -- The numbers that a match spans, by the test and by the decision.
-within-filter : (m : Match) (xs : List ℕ) → within (left m A) (m .length) xs ≡ filter (spans? m A) xs
-within-filter m [] = refl
-within-filter m (x ∷ xs) = step (spanned (left m A) (m .length) x) refl (within-filter m xs)
+within-filter :
+    (m : Match) {g : ℕ} → g ≡ right m A → (xs : List ℕ) → within (left m A) g xs ≡ filter (spans? m A) xs
+within-filter m r [] = refl
+within-filter m {g} r (x ∷ xs) = step (between (left m A) g x) refl (within-filter m r xs)
   where
     step :
-        (b : Bool) → spanned (left m A) (m .length) x ≡ b → {ys zs : List ℕ} → ys ≡ zs
+        (b : Bool) → between (left m A) g x ≡ b → {ys zs : List ℕ} → ys ≡ zs
         → cond b (x ∷ ys) ys ≡ ite (spans? m A x) (x ∷ zs) zs
-    step true e {zs} same = ap (λ ws. x ∷ ws) same ∙ sym (if-pos (spans? m A x) (spanned-iff m A x .0 e) (x ∷ zs) zs)
+    step true e {zs} same = ap (λ ws. x ∷ ws) same ∙ sym (if-pos (spans? m A x) (ends-span m A x r .0 e) (x ∷ zs) zs)
     step false e {zs} same =
-        same ∙ sym (if-neg (spans? m A x) (λ t. false≢true (sym e ∙ spanned-iff m A x .1 t)) (x ∷ zs) zs)
+        same ∙ sym (if-neg (spans? m A x) (λ t. false≢true (sym e ∙ ends-span m A x r .1 t)) (x ∷ zs) zs)
 
 module _ {columns : Columns} (fit : Fit columns) where
   abbrev all-cuts : List Place
@@ -39,11 +41,11 @@ module _ {columns : Columns} (fit : Fit columns) where
   module _ {run : List ℕ} (rise : Rising _<_ run)
       (all : (x : ℕ) → (x ∈ run) ↔ CutOn (heldIn columns) A x) where
     match-cuts :
-        (k : ℕ)
-        → within (fromAt columns k) (lettersAt columns k) run ≡ cutsWithin all-cuts (matchAt columns k) A
-    match-cuts k =
+        {k : ℕ} → k < countOf columns
+        → within (fromAt columns k) (fromRightAt columns k) run ≡ cutsWithin all-cuts (matchAt columns k) A
+    match-cuts {k} l =
         let m = matchAt columns k in
-        within-filter m run
+        within-filter m (right-at fit A l) run
         ∙ cuts-of-match (matchesOf columns) (heldIn columns .marks) (matches-good columns fit) m
         (filter (spans? m A) run) (rising-filter (spans? m A) _<_ run rise) (λ h. (
           λ i. let t = ∈-unfilter (spans? m A) run i in (t .1, all h .0 (t .0)),
@@ -66,7 +68,7 @@ module _ {columns : Columns} (fit : Fit columns) where
         let cuts = cutsWithin all-cuts m A in
         let rest = flatMap (piecesOf all-cuts) (map (matchAt columns) (upFrom (suc k) n)) in
         rows-from n (suc k) (omega arith)
-        ∙ ap (λ xs. rows ++ piecesBetween m xs ++ rest) (match-cuts k)
+        ∙ ap (λ xs. rows ++ piecesBetween m xs ++ rest) (match-cuts {k = k} (omega arith))
         ∙ append-assoc rows (piecesBetween m cuts) rest
 
     pub rows-least : piecesCut columns run (countOf columns) ≡ leastOf (heldIn columns)

@@ -4,10 +4,14 @@
 --     cuts-writable      a set that holds all cuts of A, joined into one run, is what writing the rows needs
 --     rows-tabled        the rows written are the least table
 --     cleared-refined    the rows written and the work buffer cleared are the call's outcome
+--     worked-fit, worked-refined
+--                        the matches as they are read fit once their right ends are worked out, and it is they that are
+--                        refined
 -- Assumes nothing.
 use Prim.Native.Nat.{ℕ, _+_, _≤_, _<_}
 use mathlib.Core.Path.{_≡_, refl, sym, ap, subst, _∙_}
 use mathlib.Core.Logic.{_↔_}
+use mathlib.Core.Bool.{Bool}
 use mathlib.Core.List.{List}
 use native.Mathlib.Omega.{arith}
 use lib.ListN.{length, replicate}
@@ -23,7 +27,9 @@ use Rattle.cut_set.specs.Store.{Good, Joined}
 use Rattle.cut_set.specs.declared.CutSet.{CutSet}
 use Rattle.reading_cuts.specs.Reading.{AllPlaces}
 use Rattle.reading_cuts.specs.declared.Places.{Places}
-use Rattle.refining.specs.Columns.{Columns, countOf, fromAt, lettersAt, Fit}
+use Rattle.refining.specs.Columns.{Columns, columnsOf, columnsRead, countOf, fromAt, fromRightAt}
+use Rattle.refining.specs.Columns.{FitRead, rightsOf, Fit}
+use Rattle.refining.proofs.RightEnds.{read-fit, right-at}
 use Rattle.stepping.specs.Engine.{CutOn}
 use Rattle.closing.specs.AllCuts.{AllCuts, Closure}
 use Rattle.refining.specs.Rows.{piecesCut, pieceNumbers}
@@ -82,7 +88,9 @@ module _ {columns : Columns} (fit : Fit columns) (table : List ℕ) {xs ys : Lis
         run = places .run;
         left-in = λ k h. cut-in (fromAt columns k) (end (∈-matches columns h) (left-end Side.A));
         right-in = λ k h.
-            cut-in (fromAt columns k + lettersAt columns k) (end (∈-matches columns h) (right-end Side.A));
+            let i = ∈-matches columns h in
+            cut-in (fromRightAt columns k)
+            (subst (CutOn (heldIn columns) Side.A) (sym (right-at fit Side.A h)) (end i (right-end Side.A)));
         few = few;
         room = omega (arith, ap length rows-are, cuts .fits);
       }
@@ -115,3 +123,14 @@ pub cleared-refined :
 cleared-refined {columns} fit table table′ work work′ {r = r} room tabled same cleared =
     rw (cleared ∙ ap (λ (n : ℕ). replicate n 0) same)
     (tabled-refined (heldIn columns) (matches-good columns fit) table table′ work r room tabled)
+
+-- the matches as they are read, once their right ends are worked out
+module _ (f t d : List ℕ) (r : List Bool) {g u : List ℕ} (right-a : g ≡ rightsOf f d) (right-b : u ≡ rightsOf t d) where
+  pub worked-fit : FitRead f t d r → Fit (columnsOf f g t u r)
+  worked-fit read = rw (right-a, right-b) (read-fit read)
+
+  pub worked-refined :
+      (table work : List ℕ) {reply : Refined} {table′ work′ : List ℕ}
+      → MatchesRefined (heldIn (columnsOf f g t u r)) table work reply table′ work′
+      → MatchesRefined (heldIn (columnsRead f t d r)) table work reply table′ work′
+  worked-refined table work refined = rw (right-a, right-b) at refined

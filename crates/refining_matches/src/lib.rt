@@ -2,13 +2,14 @@
 use closing::Closed;
 use closing::close;
 use refining::answers::Refined;
+use right_ends::work_out;
 use rows::ROW_WIDTH;
 use script::Refusal;
 use writing_rows::write_rows;
 ghost use mathlib.Core.Path.{_≡_};
 ghost use Prim.Native.Nat.{_≤_, _<_};
-ghost use lib.ListN.{length};
-ghost use Rattle.refining.specs.Columns.{columnsOf, Fit};
+ghost use lib.ListN.{length, take};
+ghost use Rattle.refining.specs.Columns.{FitRead, RightEnds, columnsOf, columnsRead, Fit};
 ghost use Rattle.refining.specs.Refining.{heldIn, workNeeded, zeroed};
 ghost use Rattle.refining_matches.specs.Tabling.{Tabled, MatchesRefined};
 
@@ -26,25 +27,28 @@ fn clear(work: &mut [u32])
 // Finds the cuts and writes the rows, if the table has room for them. The table is not touched before that is known.
 fn cut_and_write(
     left_a: &[u32],
+    right_a: &[u32],
     left_b: &[u32],
-    lengths: &[u32],
+    right_b: &[u32],
     reversed: &[bool],
     table: &mut [u32],
     work: &mut [u32],
 ) -> Refined
-    requires { ⌜ Fit (columnsOf (now «left_a») (now «left_b») (now lengths) (now reversed)) ⌝ }
+    requires { ⌜ Fit (columnsOf (now «left_a») (now «right_a») (now «left_b») (now «right_b») (now reversed)) ⌝ }
     requires { ⌜ workNeeded (now table) ≤ length (now work) ⌝ }
-    requires { ⌜ length (now lengths) < 4294967296 ⌝ }
+    requires { ⌜ length (now reversed) < 4294967296 ⌝ }
     ensures { λ r. ⌜
         Tabled
         (heldIn
-        (columnsOf (now («left_a» .entry)) (now («left_b» .entry)) (now (lengths .entry)) (now (reversed .entry))))
+        (columnsOf (now («left_a» .entry)) (now («right_a» .entry)) (now («left_b» .entry)) (now («right_b» .entry))
+        (now (reversed .entry))))
         (now (table .entry)) (now (table .exit)) r ⌝ }
 {
     match close(
         left_a,
+        right_a,
         left_b,
-        lengths,
+        right_b,
         reversed,
         work,
         table.len() / ROW_WIDTH,
@@ -55,8 +59,9 @@ fn cut_and_write(
             let run = reading_cuts::all_places(work, cuts);
             Refined::Rows(write_rows(
                 left_a,
+                right_a,
                 left_b,
-                lengths,
+                right_b,
                 reversed,
                 work,
                 run.start,
@@ -67,27 +72,70 @@ fn cut_and_write(
     }
 }
 
-// The matches of an admitted script: 11, then 12, then the rows.
-pub fn refine_matches(
+// The matches of an admitted script, given by their ends: 11, then 12, then the rows.
+fn refine_matches(
     left_a: &[u32],
+    right_a: &[u32],
     left_b: &[u32],
-    lengths: &[u32],
+    right_b: &[u32],
     reversed: &[bool],
     table: &mut [u32],
     work: &mut [u32],
 ) -> Refined
-    requires { ⌜ Fit (columnsOf (now «left_a») (now «left_b») (now lengths) (now reversed)) ⌝ }
-    requires { ⌜ length (now lengths) < 4294967296 ⌝ }
+    requires { ⌜ Fit (columnsOf (now «left_a») (now «right_a») (now «left_b») (now «right_b») (now reversed)) ⌝ }
+    requires { ⌜ length (now reversed) < 4294967296 ⌝ }
     ensures { λ r. ⌜
         MatchesRefined
         (heldIn
-        (columnsOf (now («left_a» .entry)) (now («left_b» .entry)) (now (lengths .entry)) (now (reversed .entry))))
+        (columnsOf (now («left_a» .entry)) (now («right_a» .entry)) (now («left_b» .entry)) (now («right_b» .entry))
+        (now (reversed .entry))))
         (now (table .entry)) (now (work .entry)) r (now (table .exit)) (now (work .exit)) ⌝ }
 {
     if work.len() < 4 * (table.len() / ROW_WIDTH) {
         return Refined::Refused(Refusal::WorkTooShort);
     }
-    let answer = cut_and_write(left_a, left_b, lengths, reversed, table, work);
+    let answer = cut_and_write(left_a, right_a, left_b, right_b, reversed, table, work);
     clear(work);
     answer
+}
+
+// The matches of an admitted script as they are read. Their right ends are worked out here, once for each match and
+// before any position is tried. Behind this call no length is added to a left end again.
+pub fn refine_read(
+    left_a: &[u32],
+    left_b: &[u32],
+    lengths: &[u32],
+    reversed: &[bool],
+    right_a: &mut [u32],
+    right_b: &mut [u32],
+    table: &mut [u32],
+    work: &mut [u32],
+) -> Refined
+    requires { ⌜ FitRead (now «left_a») (now «left_b») (now lengths) (now reversed) ⌝ }
+    requires { ⌜ length (now reversed) < 4294967296 ⌝ }
+    requires { ⌜ length (now «left_a») ≤ length (now «right_a») ⌝ }
+    requires { ⌜ length (now «left_b») ≤ length (now «right_b») ⌝ }
+    ensures refined { λ r. ⌜
+        MatchesRefined
+        (heldIn
+        (columnsRead (now («left_a» .entry)) (now («left_b» .entry)) (now (lengths .entry)) (now (reversed .entry))))
+        (now (table .entry)) (now (work .entry)) r (now (table .exit)) (now (work .exit)) ⌝ }
+    ensures ends_a { λ _. ⌜
+        RightEnds (now («left_a» .entry)) (now (lengths .entry))
+        (take (length (now («left_a» .entry))) (now («right_a» .exit))) ⌝ }
+    ensures ends_b { λ _. ⌜
+        RightEnds (now («left_b» .entry)) (now (lengths .entry))
+        (take (length (now («left_b» .entry))) (now («right_b» .exit))) ⌝ }
+{
+    work_out(left_a, lengths, right_a);
+    work_out(left_b, lengths, right_b);
+    refine_matches(
+        left_a,
+        &right_a[..left_a.len()],
+        left_b,
+        &right_b[..left_b.len()],
+        reversed,
+        table,
+        work,
+    )
 }

@@ -1,7 +1,7 @@
 -- The matches of the columns, found by their index.
 --     upFrom-∈, ∈-upFrom, rising-upFrom, length-upFrom     the numbers from n on
 --     ∈-matches, matches-∈     a match of the columns is the one at an index
---     matches-length           there are as many as lengths
+--     matches-length           there are as many as directions
 --     matches-good             they are Matches: lettered, and numbered in order
 --     placed                   a position on a side of a match is one of that side's sequence
 --     alone                    no match joins a sequence to itself
@@ -20,12 +20,13 @@ use lib.ListN.{length, length-map}
 use Rattle.refinement.specs.declared.Side.{Side}
 use Rattle.refinement.specs.declared.Side.the-variants.{A, B}
 use Rattle.refinement.specs.Order.{_∈_, Rising}
-use Rattle.refinement.specs.Match.{Match, track, place, Spans, spanned, carryOver, carry}
+use Rattle.refinement.specs.Match.{Match, track, place, Spans, carry, between, carryTo}
 use Rattle.refinement.specs.Refinement.{Matches}
-use Rattle.refinement.proofs.Geometry.{spanned-iff}
+use Rattle.refinement.proofs.Geometry.{ends-span, carry-ends}
 use Rattle.refinement.proofs.Lists.{rising-map}
-use Rattle.refining.specs.Columns.{Columns, seenFrom, countOf, fromAt, toAt, lettersAt, wayAt, Fit, upFrom}
-use Rattle.refining.specs.Columns.{matchAt, matchesOf}
+use Rattle.refining.specs.Columns.{Columns, seenFrom, countOf, fromAt, fromRightAt, toAt, toRightAt, wayAt}
+use Rattle.refining.specs.Columns.{lettersAt, Fit, upFrom, matchAt, matchesOf}
+use Rattle.refining.proofs.RightEnds.{right-at}
 use Rattle.stepping.specs.Engine.{at}
 
 pub upFrom-∈ : (n count : ℕ) {k : ℕ} → k ∈ upFrom n count → (n ≤ k) × (k < n + count)
@@ -56,11 +57,12 @@ length-upFrom n (suc count) = ap suc (length-upFrom (suc n) count)
 pub fit-other : {columns : Columns} → Fit columns → Fit (seenFrom B columns)
 fit-other f = record {
   from-length = f .to-length;
+  from-right-length = f .to-right-length;
   to-length = f .from-length;
-  way-length = f .way-length;
-  lettered = f .lettered;
-  from-fits = f .to-fits;
-  to-fits = f .from-fits;
+  to-right-length = f .from-right-length;
+  lettered = λ k l. omega (arith, f .lettered k l, f .from-right k l);
+  from-right = λ k l. omega (arith, f .from-right k l, f .to-right k l);
+  to-right = λ k l. omega (arith, f .from-right k l);
 }
 
 module _ (columns : Columns) where
@@ -99,15 +101,19 @@ module _ (columns : Columns) where
       let g : 1 ≡ track m B = ap (λ (z : Match). track z B) p in
       omega (arith, e .0, e .1)
 
-  pub index-spans :
-      (u : Side) (k x : ℕ)
-      → (spanned (fromAt (seenFrom u columns) k) (lettersAt columns k) x ≡ true) ↔ Spans (matchAt columns k) u x
-  index-spans A k x = spanned-iff (matchAt columns k) A x
-  index-spans B k x = spanned-iff (matchAt columns k) B x
+  module _ (fit : Fit columns) where
+    pub index-spans :
+        (u : Side) {k : ℕ} → k < countOf columns → (x : ℕ)
+        → (between (fromAt (seenFrom u columns) k) (fromRightAt (seenFrom u columns) k) x ≡ true)
+        ↔ Spans (matchAt columns k) u x
+    index-spans A {k} l x = ends-span (matchAt columns k) A x (right-at fit A l)
+    index-spans B {k} l x = ends-span (matchAt columns k) B x (right-at fit B l)
 
-  pub index-carry :
-      (u : Side) (k x : ℕ)
-      → carryOver (wayAt columns k) (fromAt (seenFrom u columns) k) (toAt (seenFrom u columns) k) (lettersAt columns k)
-      x ≡ carry (matchAt columns k) u x
-  index-carry A k x = refl
-  index-carry B k x = refl
+    pub index-carry :
+        (u : Side) {k : ℕ} → k < countOf columns → (x : ℕ)
+        → carryTo (wayAt columns k) (fromAt (seenFrom u columns) k) (toAt (seenFrom u columns) k)
+        (toRightAt (seenFrom u columns) k) x ≡ carry (matchAt columns k) u x
+    index-carry A {k} l x =
+        carry-ends (wayAt columns k) (fromAt columns k) (toAt columns k) (lettersAt columns k) x (right-at fit B l)
+    index-carry B {k} l x =
+        carry-ends (wayAt columns k) (toAt columns k) (fromAt columns k) (lettersAt columns k) x (right-at fit A l)

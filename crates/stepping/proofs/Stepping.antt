@@ -57,7 +57,7 @@ less-unused :
 less-unused A c c′ l e h f = omega (arith, l A, l B)
 less-unused B c c′ l e h f = omega (arith, l A, l B)
 
-module _ {columns : Columns} {cap : ℕ} {xs : List ℕ} {c : Cuts} {s : Side}
+module _ {columns : Columns} (fit : Fit columns) {cap : ℕ} {xs : List ℕ} {c : Cuts} {s : Side}
     (o : Open columns cap xs c s) where
   room : (u : Side) → setOn u c .limit - setOn u c .base ≡ 2 * cap
   room A = omega (arith, o .a-base, o .a-limit)
@@ -70,8 +70,8 @@ module _ {columns : Columns} {cap : ℕ} {xs : List ℕ} {c : Cuts} {s : Side}
       let g = heldIn columns in
       let m = matchAt columns (p .index) in
       let i = ∈-matches columns (p .below) in
-      let spans = index-spans columns s (p .index) (p .x) .0 (p .image .spans) in
-      let is : y ≡ carry m s (p .x) = p .image .is ∙ index-carry columns s (p .index) (p .x) in
+      let spans = index-spans columns fit s (p .below) (p .x) .0 (p .image .spans) in
+      let is : y ≡ carry m s (p .x) = p .image .is ∙ index-carry columns fit s (p .below) (p .x) in
       let from = o .sound s (p .x) (found-member (o .good s) (p .carried)) in
       subst (Cut (g .matches) (g .marks)) (placed columns i (other s) (carry m s (p .x)) ∙ ap (at (other s)) (sym is))
       (carried i spans (subst (Cut (g .matches) (g .marks)) (sym (placed columns i s (p .x))) from))
@@ -106,11 +106,10 @@ module _ {columns : Columns} {cap : ℕ} {xs : List ℕ} {c : Cuts} {s : Side}
         )
 
   pub too-many :
-      Fit columns
-      → TurnedTooMany (seenFrom s columns) xs (setOn s c) (setOn (other s) c) (hitsAt s c)
+      TurnedTooMany (seenFrom s columns) xs (setOn s c) (setOn (other s) c) (hitsAt s c)
       (cap + countOf columns)
       → EveryExceeds (heldIn columns) cap
-  too-many fit t = go (t .why)
+  too-many t = go (t .why)
     where
       go :
           TooMuch xs (setOn (other s) c)
@@ -164,8 +163,8 @@ module _ {columns : Columns} {cap : ℕ} {xs : List ℕ} {c : Cuts} {s : Side}
             x = x;
             carried = f;
             image = record {
-              spans = index-spans columns s (v .0) x .1 (subst (λ (z : Match). Spans z s x) (sym (v .2)) h);
-              is = ap (λ (z : Match). carry z s x) (sym (v .2)) ∙ sym (index-carry columns s (v .0) x);
+              spans = index-spans columns fit s (v .1) x .1 (subst (λ (z : Match). Spans z s x) (sym (v .2)) h);
+              is = ap (λ (z : Match). carry z s x) (sym (v .2)) ∙ sym (index-carry columns fit s (v .1) x);
             };
           }
 
@@ -238,12 +237,14 @@ module _ {columns : Columns} {cap : ℕ} {xs : List ℕ} {c : Cuts} {s : Side}
 module _ {columns : Columns} {cap : ℕ} {xs ys : List ℕ} {c : Cuts} {answer : Turn} {from to : CutSet} {hits : ℕ}
     (told : answer ≡ Turn.Carried hits from to) where
   pub turn-told :
-      (s : Side) → Open columns cap xs c s
+      Fit columns → (s : Side) → Open columns cap xs c s
       → Turning (seenFrom s columns) xs (setOn s c) (setOn (other s) c) (hitsAt s c) (cap + countOf columns) ys answer
       → Open columns cap ys (after s c from to hits) (other s)
       × (¬ NothingFound to → unused (after s c from to hits) < unused c)
-  turn-told A o h = let t = rw told at h in (turned-open o _ t refl, turned-less o (after A c from to hits) t)
-  turn-told B o h = let t = rw told at h in (turned-open o _ t refl, turned-less o (after B c from to hits) t)
+  turn-told fit A o h =
+      let t = rw told at h in (turned-open fit o _ t refl, turned-less fit o (after A c from to hits) t)
+  turn-told fit B o h =
+      let t = rw told at h in (turned-open fit o _ t refl, turned-less fit o (after B c from to hits) t)
 
 pub turn-ready :
     {columns : Columns} {cap : ℕ} {xs : List ℕ} {c : Cuts} (s : Side) → Open columns cap xs c s

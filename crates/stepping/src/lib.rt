@@ -25,29 +25,33 @@ pub enum Closing {
 // SCOPE, "Least cuts": the new cuts on A are carried to B by every match that spans them. The budget bounds the stack.
 pub fn a_step(
     left_a: &[u32],
+    right_a: &[u32],
     left_b: &[u32],
-    lengths: &[u32],
+    right_b: &[u32],
     reversed: &[bool],
     work: &mut [u32],
     cuts: Cuts,
     capacity: usize,
     budget: u32,
 ) -> Closing
-    requires { ⌜ Fit (columnsOf (now «left_a») (now «left_b») (now lengths) (now reversed)) ⌝ }
+    requires { ⌜ Fit (columnsOf (now «left_a») (now «right_a») (now «left_b») (now «right_b») (now reversed)) ⌝ }
     requires { ⌜
-        Open (columnsOf (now «left_a») (now «left_b») (now lengths) (now reversed)) capacity (now work) cuts Side.A ⌝ }
+        Open (columnsOf (now «left_a») (now «right_a») (now «left_b») (now «right_b») (now reversed)) capacity
+        (now work) cuts Side.A ⌝ }
     ensures { λ r. ⌜
         Stepped
-        (columnsOf (now («left_a» .entry)) (now («left_b» .entry)) (now (lengths .entry)) (now (reversed .entry)))
+        (columnsOf (now («left_a» .entry)) (now («right_a» .entry)) (now («left_b» .entry)) (now («right_b» .entry))
+        (now (reversed .entry)))
         capacity cuts (now (work .exit)) r ⌝ }
 {
     let a = cuts.a;
     let b = cuts.b;
-    let most = capacity + lengths.len();
+    let most = capacity + reversed.len();
     match take_turn(
         left_a,
+        right_a,
         left_b,
-        lengths,
+        right_b,
         reversed,
         work,
         a,
@@ -71,8 +75,9 @@ pub fn a_step(
             }
             b_step(
                 left_a,
+                right_a,
                 left_b,
-                lengths,
+                right_b,
                 reversed,
                 work,
                 next,
@@ -86,29 +91,33 @@ pub fn a_step(
 // The new cuts on B are carried to A in the same way, until neither side gains one.
 pub fn b_step(
     left_a: &[u32],
+    right_a: &[u32],
     left_b: &[u32],
-    lengths: &[u32],
+    right_b: &[u32],
     reversed: &[bool],
     work: &mut [u32],
     cuts: Cuts,
     capacity: usize,
     budget: u32,
 ) -> Closing
-    requires { ⌜ Fit (columnsOf (now «left_a») (now «left_b») (now lengths) (now reversed)) ⌝ }
+    requires { ⌜ Fit (columnsOf (now «left_a») (now «right_a») (now «left_b») (now «right_b») (now reversed)) ⌝ }
     requires { ⌜
-        Open (columnsOf (now «left_a») (now «left_b») (now lengths) (now reversed)) capacity (now work) cuts Side.B ⌝ }
+        Open (columnsOf (now «left_a») (now «right_a») (now «left_b») (now «right_b») (now reversed)) capacity
+        (now work) cuts Side.B ⌝ }
     ensures { λ r. ⌜
         Stepped
-        (columnsOf (now («left_a» .entry)) (now («left_b» .entry)) (now (lengths .entry)) (now (reversed .entry)))
+        (columnsOf (now («left_a» .entry)) (now («right_a» .entry)) (now («left_b» .entry)) (now («right_b» .entry))
+        (now (reversed .entry)))
         capacity cuts (now (work .exit)) r ⌝ }
 {
     let a = cuts.a;
     let b = cuts.b;
-    let most = capacity + lengths.len();
+    let most = capacity + reversed.len();
     match take_turn(
         left_b,
+        right_b,
         left_a,
-        lengths,
+        right_a,
         reversed,
         work,
         b,
@@ -132,8 +141,9 @@ pub fn b_step(
             }
             a_step(
                 left_a,
+                right_a,
                 left_b,
-                lengths,
+                right_b,
                 reversed,
                 work,
                 next,

@@ -1,26 +1,26 @@
 -- Rows in the table, written one after the other.
---     spans-low           the match spans the end of a piece that is carried to its left end on B
+--     low-on              the end of a piece that is carried to its left end on B lies on the match
 --     five-stores         the five stores of a piece write its row
 --     Remaining, remaining-..   the loop over the cuts of one match: what remains to be written; a turn keeps it
 --     Done, done-..       the loop over the matches: what is written; a turn keeps it
 -- Assumes nothing.
-use Prim.Native.Nat.{ℕ, zero, suc, _+_, _-_, _*_, _^_, _≤_, _<_, min}
-use mathlib.Core.Path.{_≡_, refl, sym, ap, _∙_}
+use Prim.Native.Nat.{ℕ, zero, suc, _+_, _-_, _*_, _≤_, _<_, min}
+use mathlib.Core.Path.{_≡_, refl, sym, ap, ap₂, _∙_}
 use mathlib.Core.Bool.{Bool, true, false, cond}
 use mathlib.Core.List.{List, [], _∷_, _++_, map, map-append}
 use native.Mathlib.Omega.{arith}
 use lib.ListN.{length, getD, set, length-append}
 use lib.Seq.{slice, slice-cons, slice-empty, sets, length-sets}
-use borrow.Author.Tests.{le-leb}
 use Rattle.script.specs.Commands.{bitOf}
 use Rattle.script.proofs.Stores.{sets-append}
 use Rattle.rows.specs.Rows.{rowWidth, rowNumbers, numbersOf}
 use Rattle.rows.proofs.Numbers.{numbers-append}
-use Rattle.refinement.specs.Match.{Match, matchAB, spanned, carryOver}
+use Rattle.refinement.specs.Match.{Match, matchAB, carryOver, carryTo}
 use Rattle.refinement.specs.Least.{pieceOf, piecesBetween}
-use Rattle.refinement.proofs.Geometry.{spanned-from}
+use Rattle.refinement.proofs.Geometry.{carry-ends}
 use Rattle.runs.specs.Runs.{Bound}
-use Rattle.refining.specs.Columns.{Columns, countOf, fromAt, toAt, lettersAt, wayAt, Fit, matchAt}
+use Rattle.refining.specs.Columns.{Columns, countOf, fromAt, fromRightAt, toAt, toRightAt, lettersAt, wayAt}
+use Rattle.refining.specs.Columns.{Fit, matchAt}
 use Rattle.refining.specs.Rows.{rowOfPiece, pieceNumbers, within, piecesCut}
 use Rattle.refining.proofs.Standing.{length-numbers}
 use Rattle.writing_rows.specs.Writing.{Stretch, Cutting, Placed, Writable, Written}
@@ -41,32 +41,40 @@ sets-rows rs qs xs =
     ∙ ap (λ n. sets (sets xs 0 (pieceNumbers rs)) n (pieceNumbers qs)) e)
 
 -- One piece.
-pub spans-low : (b : Bool) {i k d x y : ℕ} → Stretch i k d x y → spanned i d (cond b y x) ≡ true
-spans-low false {i} {d = d} {x = x} s = sym (spanned-from i d x (s .from)) ∙ le-leb x (i + d) (omega arith)
-spans-low true {i} {d = d} {y = y} s = sym (spanned-from i d y (omega arith)) ∙ le-leb y (i + d) (s .to)
+pub low-on :
+    (b : Bool) {i k l x y : ℕ} → Stretch i k l x y → (i ≤ cond b y x) × (k + (cond b y x - i) ≤ l)
+low-on false s = (s .from, omega (arith, s .some, s .to))
+low-on true s = (omega (arith, s .from, s .some), s .to)
+
+low-of-ends :
+    (b : Bool) {i k l x y : ℕ} → Stretch i k l x y
+    → carryTo b i k l (cond b y x) ≡ min (carryTo b i k l x) (carryTo b i k l y)
+low-of-ends false s = omega (arith, s .some)
+low-of-ends true s = omega (arith, s .some)
 
 low-end :
-    (b : Bool) {i k d x y : ℕ} → Stretch i k d x y
-    → carryOver b i k d (cond b y x) ≡ min (carryOver b i k d x) (carryOver b i k d y)
-low-end false s = omega arith
-low-end true s = omega arith
+    (b : Bool) {i k l x y : ℕ} → Stretch i k l x y
+    → carryTo b i k l (cond b y x) ≡ min (carryOver b i k (l - k) x) (carryOver b i k (l - k) y)
+low-end b {i} {k} {l} {x} {y} s =
+    let e : l ≡ k + (l - k) = omega (arith, s .to) in
+    low-of-ends b s ∙ ap₂ min (carry-ends b i k (l - k) x e) (carry-ends b i k (l - k) y e)
 
 way : (b : Bool) → cond b 1 0 ≡ bitOf b
 way false = refl
 way true = refl
 
 pub five-stores :
-    (xs : List ℕ) (at n : ℕ) (b : Bool) {i k d x y low image turn : ℕ} → Stretch i k d x y → low ≡ cond b y x
-    → image ≡ carryOver b i k d low → turn ≡ cond b 1 0
+    (xs : List ℕ) (at n : ℕ) (b : Bool) {i k l x y low image turn : ℕ} → Stretch i k l x y → low ≡ cond b y x
+    → image ≡ carryTo b i k l low → turn ≡ cond b 1 0
     → set (set (set (set (set xs at n) (at + 1) x) (at + 2) image) (at + 3) (y - x)) (at + 4) turn
-    ≡ sets xs at (rowNumbers (rowOfPiece (pieceOf (matchAB n i k d b) x y)))
+    ≡ sets xs at (rowNumbers (rowOfPiece (pieceOf (matchAB n i k (l - k) b) x y)))
 unfolding pieceOf
-five-stores xs at n b {i} {k} {d} {x} {y} s is-low is-image is-turn =
+five-stores xs at n b {i} {k} {l} {x} {y} s is-low is-image is-turn =
     let e₁ : at + 1 ≡ suc at = omega arith in
     let e₂ : at + 2 ≡ suc (suc at) = omega arith in
     let e₃ : at + 3 ≡ suc (suc (suc at)) = omega arith in
     let e₄ : at + 4 ≡ suc (suc (suc (suc at))) = omega arith in
-    let to = is-image ∙ ap (carryOver b i k d) is-low ∙ low-end b s in
+    let to = is-image ∙ ap (carryTo b i k l) is-low ∙ low-end b s in
     let turned = is-turn ∙ way b in
     λ j. set (set (set (set (set xs at n) (e₁ j) x) (e₂ j) (to j)) (e₃ j) (y - x)) (e₄ j) (turned j)
 
@@ -75,10 +83,10 @@ abbrev rowsFrom : Match → List ℕ → ℕ → ℕ → List Match
 rowsFrom m work last at = piecesBetween m (slice at (suc last) work)
 
 -- the rows from the row `next` on are those between the cuts from `at` on, with what is written before them
-pub record Remaining (m : Match) (work : List ℕ) (first last row : ℕ) (before table : List ℕ)
+pub record Remaining (m : Match) (l : ℕ) (work : List ℕ) (first last row : ℕ) (before table : List ℕ)
     (at next : ℕ) : Type 0 where
-  pub cuts : Cutting work first last (m .leftA) (m .length)
-  pub fits : m .leftB + m .length < 2 ^ 32
+  pub cuts : Cutting work first last (m .leftA) (m .leftA + m .length)
+  pub facing : m .leftB + m .length ≡ l
   pub room : rowWidth * (row + length (rowsFrom m work last first)) ≤ length before
   pub from : first ≤ at
   pub to : at ≤ last
@@ -89,12 +97,13 @@ pub record Remaining (m : Match) (work : List ℕ) (first last row : ℕ) (befor
       ≡ sets table (rowWidth * next) (pieceNumbers (rowsFrom m work last at))
 
 pub remaining-start :
-    {m : Match} {work : List ℕ} {first last row : ℕ} {before : List ℕ} → Cutting work first last (m .leftA) (m .length)
-    → m .leftB + m .length < 2 ^ 32 → rowWidth * (row + length (rowsFrom m work last first)) ≤ length before
-    → Remaining m work first last row before before first row
-remaining-start cuts fits room = record {
+    {m : Match} {l : ℕ} {work : List ℕ} {first last row : ℕ} {before : List ℕ}
+    → Cutting work first last (m .leftA) (m .leftA + m .length) → m .leftB + m .length ≡ l
+    → rowWidth * (row + length (rowsFrom m work last first)) ≤ length before
+    → Remaining m l work first last row before before first row
+remaining-start cuts facing room = record {
   cuts = cuts;
-  fits = fits;
+  facing = facing;
   room = room;
   from = omega arith;
   to = cuts .order;
@@ -103,13 +112,13 @@ remaining-start cuts fits room = record {
   is = refl;
 }
 
-module _ {m : Match} {work : List ℕ} {first last row : ℕ} {before table : List ℕ} {at next : ℕ}
-    (left : Remaining m work first last row before table at next) where
+module _ {m : Match} {l : ℕ} {work : List ℕ} {first last row : ℕ} {before table : List ℕ} {at next : ℕ}
+    (left : Remaining m l work first last row before table at next) where
   rows-step :
       at < last
       → rowsFrom m work last at ≡ pieceOf m (getD work at 0) (getD work (suc at) 0) ∷ rowsFrom m work last (suc at)
   unfolding piecesBetween
-  rows-step l =
+  rows-step h =
       let x = getD work at 0 in
       let y = getD work (suc at) 0 in
       let inside = left .cuts .run .within in
@@ -119,7 +128,7 @@ module _ {m : Match} {work : List ℕ} {first last row : ℕ} {before table : Li
 
   rows-end : last ≤ at → rowsFrom m work last at ≡ []
   unfolding piecesBetween
-  rows-end l =
+  rows-end h =
       let e : at ≡ last = omega (arith, left .to) in
       ap (rowsFrom m work last) e
       ∙ ap (piecesBetween m)
@@ -127,41 +136,41 @@ module _ {m : Match} {work : List ℕ} {first last row : ℕ} {before table : Li
       ∙ ap (λ zs. getD work last 0 ∷ zs) (slice-empty (suc last) work))
 
   pub remaining-stretch :
-      at < last → Stretch (m .leftA) (m .leftB) (m .length) (getD work at 0) (getD work (at + 1) 0)
-  remaining-stretch = stretch (m .leftB) at (left .cuts) (left .fits) (left .from)
+      at < last → Stretch (m .leftA) (m .leftB) l (getD work at 0) (getD work (at + 1) 0)
+  remaining-stretch = stretch (m .leftB) l at (left .cuts) (omega (arith, left .facing)) (left .from)
 
   pub remaining-room : at < last → rowWidth * next + rowWidth ≤ length table
-  remaining-room l = omega (arith, left .room, left .count, left .long, ap length (rows-step l))
+  remaining-room h = omega (arith, left .room, left .count, left .long, ap length (rows-step h))
 
   pub remaining-step :
       at < last → {after : List ℕ}
       → after
       ≡ sets table (rowWidth * next) (rowNumbers (rowOfPiece (pieceOf m (getD work at 0) (getD work (at + 1) 0))))
-      → Remaining m work first last row before after (at + 1) (next + 1)
+      → Remaining m l work first last row before after (at + 1) (next + 1)
   unfolding numbersOf
-  remaining-step l {after} is =
+  remaining-step h {after} is =
       let e : at + 1 ≡ suc at = omega arith in
       let written = rowNumbers (rowOfPiece (pieceOf m (getD work at 0) (getD work (at + 1) 0))) in
       let rest = pieceNumbers (rowsFrom m work last (at + 1)) in
       let n : rowWidth * next + length written ≡ rowWidth * (next + 1) = omega arith in
       record {
         cuts = left .cuts;
-        fits = left .fits;
+        facing = left .facing;
         room = left .room;
         from = omega (arith, left .from);
         to = omega arith;
-        count = rw e (omega (arith, left .count, ap length (rows-step l)));
+        count = rw e (omega (arith, left .count, ap length (rows-step h)));
         long = ap length is ∙ length-sets table (rowWidth * next) written ∙ left .long;
         is =
-            left .is ∙ ap (λ rs. sets table (rowWidth * next) (pieceNumbers rs)) (rows-step l)
+            left .is ∙ ap (λ rs. sets table (rowWidth * next) (pieceNumbers rs)) (rows-step h)
             ∙ rw (← e) (sets-append written rest table (rowWidth * next) ∙ rw (is, ← n) refl);
       }
 
   pub remaining-end : last ≤ at → Placed (rowsFrom m work last first) row before table next
   unfolding numbersOf
-  remaining-end l = record {
-    count = omega (arith, left .count, ap length (rows-end l));
-    table = sym (left .is ∙ ap (λ rs. sets table (rowWidth * next) (pieceNumbers rs)) (rows-end l));
+  remaining-end h = record {
+    count = omega (arith, left .count, ap length (rows-end h));
+    table = sym (left .is ∙ ap (λ rs. sets table (rowWidth * next) (pieceNumbers rs)) (rows-end h));
   }
 
 -- All matches: the rows of the first k are written.
@@ -179,7 +188,7 @@ rows-grow :
 unfolding piecesCut
 rows-grow columns run zero k e = let same : k ≡ countOf columns = omega arith in rw same (omega arith)
 rows-grow columns run (suc n) k e =
-    let here = piecesBetween (matchAt columns k) (within (fromAt columns k) (lettersAt columns k) run) in
+    let here = piecesBetween (matchAt columns k) (within (fromAt columns k) (fromRightAt columns k) run) in
     omega (arith, rows-grow columns run n (suc k) (omega arith), length-append (piecesCut columns run k) here)
 
 module _ {columns : Columns} {work : List ℕ} {lo hi : ℕ} {before : List ℕ} where
@@ -203,11 +212,18 @@ module _ {columns : Columns} {work : List ℕ} {lo hi : ℕ} {before : List ℕ}
 
     -- the match at k, with the lower bounds of its ends
     module _ (less : k < countOf columns) {first last : ℕ} (left : Bound work lo hi (fromAt columns k) first)
-        (right : Bound work lo hi (fromAt columns k + lettersAt columns k) last) where
-      pub done-cuts : Cutting work first last (fromAt columns k) (lettersAt columns k)
+        (right : Bound work lo hi (fromRightAt columns k) last) where
+      ends : fromAt columns k ≤ fromRightAt columns k
+      ends = omega (arith, done .fit .from-right k less)
+
+      pub done-cuts : Cutting work first last (fromAt columns k) (fromAt columns k + lettersAt columns k)
       done-cuts =
           let w = done .writable in
-          cutting (lettersAt columns k) (w .run) (w .left-in k less) (w .right-in k less) left right
+          rw (done .fit .from-right k less) at
+          (cutting ends (w .run) (w .left-in k less) (w .right-in k less) left right)
+
+      pub done-ends : toAt columns k ≤ toRightAt columns k
+      done-ends = omega (arith, done .fit .to-right k less)
 
       -- its rows, numbered as the code does
       abbrev here : List Match
@@ -220,7 +236,7 @@ module _ {columns : Columns} {work : List ℕ} {lo hi : ℕ} {before : List ℕ}
       rows-here =
           let w = done .writable in
           let e : k + 1 ≡ suc k = omega arith in
-          let are = within-bounds (lettersAt columns k) (w .run) (w .left-in k less) (w .right-in k less) left right in
+          let are = within-bounds ends (w .run) (w .left-in k less) (w .right-in k less) left right in
           rw (e, are) refl
 
       pub done-room : rowWidth * (row + length here) ≤ length table

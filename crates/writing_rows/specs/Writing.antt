@@ -3,7 +3,7 @@
 --     Placed                some rows stand in the table from a row on
 --     Writable, Written     the same for the rows of all matches
 -- Assumes nothing.
-use Prim.Native.Nat.{ℕ, suc, _+_, _*_, _^_, _≤_, _<_}
+use Prim.Native.Nat.{ℕ, suc, _+_, _-_, _*_, _≤_, _<_}
 use mathlib.Core.Path.{_≡_}
 use mathlib.Core.List.{List}
 use lib.ListN.{length, getD}
@@ -11,22 +11,21 @@ use lib.Seq.{slice, sets}
 use Rattle.runs.specs.Runs.{In, Run}
 use Rattle.rows.specs.Rows.{rowWidth}
 use Rattle.refinement.specs.Match.{Match}
-use Rattle.refining.specs.Columns.{Columns, countOf, fromAt, lettersAt}
+use Rattle.refining.specs.Columns.{Columns, countOf, fromAt, fromRightAt}
 use Rattle.refining.specs.Rows.{piecesCut, pieceNumbers}
 
--- x to y is some stretch on A of a match with left ends i and k and countOf columns, which ends within 32 bits on B
-pub record Stretch (i k d x y : ℕ) : Type 0 where
+-- x to y is some stretch on A of a match with the left end i, which has the ends k and l on B
+pub record Stretch (i k l x y : ℕ) : Type 0 where
   pub from : i ≤ x
   pub some : x < y
-  pub to : y ≤ i + d
-  pub fits : k + d < 2 ^ 32
+  pub to : k + (y - i) ≤ l
 
--- the numbers at first to last, last included, rise from i to i + d
-pub record Cutting (work : List ℕ) (first last i d : ℕ) : Type 0 where
+-- the numbers at first to last, last included, rise from i to g
+pub record Cutting (work : List ℕ) (first last i g : ℕ) : Type 0 where
   pub order : first ≤ last
   pub run : Run work first (suc last)
   pub left-at : getD work first 0 ≡ i
-  pub right-at : getD work last 0 ≡ i + d
+  pub right-at : getD work last 0 ≡ g
 
 -- the rows rs are written from the row `row` on, and n is the row after them
 pub record Placed (rs : List Match) (row : ℕ) (before after : List ℕ) (n : ℕ) : Type 0 where
@@ -37,7 +36,7 @@ pub record Placed (rs : List Match) (row : ℕ) (before after : List ℕ) (n : �
 pub record Writable (columns : Columns) (work : List ℕ) (lo hi : ℕ) (table : List ℕ) : Type 0 where
   pub run : Run work lo hi
   pub left-in : (k : ℕ) → k < countOf columns → In work lo hi (fromAt columns k)
-  pub right-in : (k : ℕ) → k < countOf columns → In work lo hi (fromAt columns k + lettersAt columns k)
+  pub right-in : (k : ℕ) → k < countOf columns → In work lo hi (fromRightAt columns k)
   pub few : countOf columns < 4294967296
   pub room : rowWidth * length (piecesCut columns (slice lo hi work) (countOf columns)) ≤ length table
 

@@ -3,7 +3,7 @@ use rows::ROW_WIDTH;
 use runs::lower_bound;
 ghost use mathlib.Core.Path.{_≡_};
 ghost use mathlib.Core.Bool.{cond};
-ghost use Prim.Native.Nat.{suc, _+_, _*_, _^_, _≤_, _<_};
+ghost use Prim.Native.Nat.{suc, _+_, _-_, _*_, _≤_};
 ghost use lib.ListN.{length};
 ghost use lib.Seq.{slice, sets};
 ghost use Rattle.rows.specs.Rows.{rowWidth, rowNumbers};
@@ -31,20 +31,21 @@ fn write_piece(
     number: u32,
     left_a: u32,
     left_b: u32,
-    letters: u32,
+    right_b: u32,
     reversed: bool,
     x: u32,
     y: u32,
 )
-    requires { ⌜ Stretch «left_a» «left_b» letters x y ⌝ }
+    requires { ⌜ Stretch «left_a» «left_b» «right_b» x y ⌝ }
     requires { ⌜ at + rowWidth ≤ length (now table) ⌝ }
     ensures { λ _. ⌜
         now (table .exit)
         ≡ sets (now (table .entry)) at
-        (rowNumbers (rowOfPiece (pieceOf (matchAB number «left_a» «left_b» letters reversed) x y))) ⌝ }
+        (rowNumbers
+        (rowOfPiece (pieceOf (matchAB number «left_a» «left_b» («right_b» - «left_b») reversed) x y))) ⌝ }
 {
     let low = by_direction(reversed, y, x);
-    let image = refinement::carry(left_a, left_b, letters, reversed, low);
+    let image = refinement::carry(left_a, left_b, right_b, reversed, low);
     table[at] = number;
     table[at + 1] = x;
     table[at + 2] = image;
@@ -61,20 +62,22 @@ fn write_match(
     number: u32,
     left_a: u32,
     left_b: u32,
-    letters: u32,
+    right_b: u32,
     reversed: bool,
     table: &mut [u32],
     row: usize,
 ) -> usize
-    requires { ⌜ Cutting (now work) first last «left_a» letters ⌝ }
-    requires { ⌜ «left_b» + letters < 2 ^ 32 ⌝ }
+    requires { ⌜ Cutting (now work) first last «left_a» («left_a» + («right_b» - «left_b»)) ⌝ }
+    requires { ⌜ «left_b» ≤ «right_b» ⌝ }
     requires { ⌜
         rowWidth * (row + length
-        (piecesBetween (matchAB number «left_a» «left_b» letters reversed) (slice first (suc last) (now work))))
+        (piecesBetween (matchAB number «left_a» «left_b» («right_b» - «left_b») reversed)
+        (slice first (suc last) (now work))))
         ≤ length (now table) ⌝ }
     ensures { λ n. ⌜
         Placed
-        (piecesBetween (matchAB number «left_a» «left_b» letters reversed) (slice first (suc last) (now (work .entry))))
+        (piecesBetween (matchAB number «left_a» «left_b» («right_b» - «left_b») reversed)
+        (slice first (suc last) (now (work .entry))))
         row (now (table .entry)) (now (table .exit)) n ⌝ }
 {
     let mut at = first;
@@ -86,7 +89,7 @@ fn write_match(
             number,
             left_a,
             left_b,
-            letters,
+            right_b,
             reversed,
             work[at],
             work[at + 1],
@@ -100,29 +103,31 @@ fn write_match(
 // Writes the rows of every match from the table's start, and returns how many they are. [lo, hi) holds the cuts of A.
 pub fn write_rows(
     left_a: &[u32],
+    right_a: &[u32],
     left_b: &[u32],
-    lengths: &[u32],
+    right_b: &[u32],
     reversed: &[bool],
     work: &[u32],
     lo: usize,
     hi: usize,
     table: &mut [u32],
 ) -> usize
-    requires { ⌜ Fit (columnsOf (now «left_a») (now «left_b») (now lengths) (now reversed)) ⌝ }
+    requires { ⌜ Fit (columnsOf (now «left_a») (now «right_a») (now «left_b») (now «right_b») (now reversed)) ⌝ }
     requires { ⌜
-        Writable (columnsOf (now «left_a») (now «left_b») (now lengths) (now reversed)) (now work) lo hi (now table) ⌝ }
+        Writable (columnsOf (now «left_a») (now «right_a») (now «left_b») (now «right_b») (now reversed)) (now work)
+        lo hi (now table) ⌝ }
     ensures { λ n. ⌜
         Written
-        (columnsOf (now («left_a» .entry)) (now («left_b» .entry)) (now (lengths .entry)) (now (reversed .entry)))
+        (columnsOf (now («left_a» .entry)) (now («right_a» .entry)) (now («left_b» .entry)) (now («right_b» .entry))
+        (now (reversed .entry)))
         (slice lo hi (now (work .entry))) (now (table .entry)) (now (table .exit)) n ⌝ }
 {
     let mut row = 0;
     let mut k = 0;
-    while k < lengths.len() {
+    while k < reversed.len() {
         let left = left_a[k];
-        let letters = lengths[k];
         let first = lower_bound(work, lo, hi, left);
-        let last = lower_bound(work, lo, hi, left + letters);
+        let last = lower_bound(work, lo, hi, right_a[k]);
         row = write_match(
             work,
             first,
@@ -130,7 +135,7 @@ pub fn write_rows(
             (k + 1) as u32,
             left,
             left_b[k],
-            letters,
+            right_b[k],
             reversed[k],
             table,
             row,

@@ -1,8 +1,10 @@
 -- `carry_found` meets its contract. The loop keeps `Passed`; its measure is the matches that are left. Assumes nothing.
 use Prim.Native.Nat.{_-_}
+use mathlib.Core.Path.{sym, _∙_}
 use native.Mathlib.Omega.{arith}
 use lib.ListN as List
 use Rattle.refining.specs.Columns.{columnsOf}
+use Rattle.refining.proofs.RightEnds.{facing}
 use Rattle.carrying_cuts.proofs.Passing.{Passed, pass-start, pass-step, pass-too-much, pass-end, pass-ready}
 use Rattle.carrying_cuts.proofs.Passing.{pass-run, pass-over, pass-none}
 use borrow.Author.Needs.{needs}
@@ -10,12 +12,16 @@ use Rattle.carrying_cuts.proofs.carry_found.Statement.{statement}
 use Rattle.carrying_cuts.proofs.carry_found.Tie as tie
 
 abbrev Inv-loop : tie.InvT-loop
-Inv-loop lefts others lengths reversed work₀ from hits most lowest highest set₀ count₀ k₀ work set count k =
-    Passed (columnsOf lefts others lengths reversed) work₀ from set₀ hits most work set count k
+Inv-loop lefts rights other-lefts other-rights reversed work₀ from hits most lowest highest set₀ count₀ k₀ work set count k =
+    Passed (columnsOf lefts rights other-lefts other-rights reversed) work₀ from set₀ hits most work set count k
 
 abbrev μ-loop : tie.MeasureT-loop
-μ-loop lefts others lengths reversed work₀ from hits most lowest highest set₀ count₀ k₀ work set count k =
-    List.length lengths - k
+μ-loop lefts rights other-lefts other-rights reversed work₀ from hits most lowest highest set₀ count₀ k₀ work set count k =
+    List.length reversed - k
+
+-- the start, from the place where the lowest cut is known
+start-of : tie.After-lowest-found Inv-loop μ-loop → tie.Start Inv-loop μ-loop
+start-of low = search
 
 none-found-requires : tie.Need-none-found-requires Inv-loop μ-loop
 none-found-requires c κs = search needs
@@ -44,7 +50,7 @@ loop-holds c =
     let low : tie.After-lowest-found Inv-loop μ-loop = search in
     let start : tie.Start Inv-loop μ-loop = search in
     pass-over (start .pre .1 .0) (pass-start (start .pre .1 .0) (start .pre .1 .1 .1)) (low .lowest-found .ensures)
-    (c .before .highest-found .ensures) (c .next-near .ensures)
+    (c .before .highest-found .ensures) (start .pre .0 .from-length) (c .next-near .ensures)
 
 mul-carry-match : tie.Need-mul-carry-match Inv-loop μ-loop
 mul-carry-match c = search needs
@@ -64,8 +70,14 @@ mul-carry-match-3 c = search needs
 shared-slice-read-carry-match-3 : tie.Need-shared-slice-read-carry-match-3 Inv-loop μ-loop
 shared-slice-read-carry-match-3 c = search needs
 
+mul-carry-match-4 : tie.Need-mul-carry-match-4 Inv-loop μ-loop
+mul-carry-match-4 c = search needs
+
 shared-slice-read-carry-match-4 : tie.Need-shared-slice-read-carry-match-4 Inv-loop μ-loop
 shared-slice-read-carry-match-4 c = search needs
+
+shared-slice-read-carry-match-5 : tie.Need-shared-slice-read-carry-match-5 Inv-loop μ-loop
+shared-slice-read-carry-match-5 c = search needs
 
 carry-match-requires : tie.Need-carry-match-requires Inv-loop μ-loop
 carry-match-requires c κs =
@@ -74,7 +86,7 @@ carry-match-requires c κs =
     let pre = start .pre in
     let loop = in-loop .before .loop in (
       pass-ready (pre .1 .0) (loop .inv),
-      (pass-run (pre .1 .0) (loop .inv) (pre .1 .1 .0), (pre .0 .to-fits (loop .k) (search needs), loop .inv .few)),
+      (pass-run (pre .1 .0) (loop .inv) (pre .1 .1 .0), (facing (pre .0) (search needs), loop .inv .few)),
     )
 
 enum-known-h : tie.Need-enum-known-h Inv-loop μ-loop
@@ -107,7 +119,7 @@ next-near-requires-2 c κs =
     let in-loop : tie.In-loop Inv-loop μ-loop = search in
     let test : tie.After-none-found Inv-loop μ-loop = search in
     let start : tie.Start Inv-loop μ-loop = search in
-    (record { same-length = start .pre .0 .from-length; fits = start .pre .0 .from-fits }, search needs)
+    (start .pre .0 .from-length ∙ sym (start .pre .0 .from-right-length), search needs)
 
 loop-less : tie.Need-loop-less Inv-loop μ-loop
 loop-less c =
@@ -115,18 +127,18 @@ loop-less c =
     omega (arith, c .next-near2 .ensures .from, in-loop .loop-test .taken)
 
 loop-again : tie.Need-loop-again Inv-loop μ-loop
+unfolding start-of
 loop-again c =
     let counted : tie.After-h Inv-loop μ-loop = search in
     let called : tie.After-carry-match Inv-loop μ-loop = search in
     let in-loop : tie.In-loop Inv-loop μ-loop = search in
     let high : tie.After-highest-found Inv-loop μ-loop = search in
     let low : tie.After-lowest-found Inv-loop μ-loop = search in
-    let test : tie.After-none-found Inv-loop μ-loop = search in
-    let start : tie.Start Inv-loop μ-loop = search in
+    let start = start-of low in
     let held = rw (counted .h .given .1) at (called .carry-match .ensures) in
     let passed = pass-step (start .pre .1 .0) (in-loop .before .loop .inv) (search needs) (search needs) held in
     pass-over (start .pre .1 .0) passed (low .lowest-found .ensures) (high .highest-found .ensures)
-    (c .next-near2 .ensures)
+    (start .pre .0 .from-length) (c .next-near2 .ensures)
 
 same-length-2 : tie.Need-same-length-2 Inv-loop μ-loop
 same-length-2 c = search needs
@@ -154,7 +166,9 @@ carry-found-spec =
     shared-slice-read-carry-match-2
     mul-carry-match-3
     shared-slice-read-carry-match-3
+    mul-carry-match-4
     shared-slice-read-carry-match-4
+    shared-slice-read-carry-match-5
     carry-match-requires
     enum-known-h
     enum-told

@@ -7,16 +7,17 @@ use borrow.Author.Tests.{not-true, not-false}
 use Rattle.cut_set.proofs.Laws.{stored-same}
 use Rattle.carrying_match.specs.OneMatch.{TooMuch}
 use Rattle.carrying_match.proofs.Storing.{too-much-crowded}
+use Rattle.carrying_match.proofs.Walking.{image-room}
 use Rattle.carrying_match.proofs.Walking.{Walked, walk-start, walk-step, walk-too-much, walk-over, walk-break}
 use Rattle.carrying_match.proofs.carry_match.Statement.{statement}
 use Rattle.carrying_match.proofs.carry_match.Tie as tie
 
 abbrev Inv-loop : tie.InvT-loop
-Inv-loop work₀ from left other length reversed hits most end set₀ count₀ at₀ work set count at =
-    Walked left other length reversed work₀ from set₀ hits most at₀ end work set count at
+Inv-loop work₀ from left right other-left other-right reversed hits most end set₀ count₀ at₀ work set count at =
+    Walked left right other-left other-right reversed work₀ from set₀ hits most at₀ end work set count at
 
 abbrev μ-loop : tie.MeasureT-loop
-μ-loop work₀ from left other length reversed hits most end set₀ count₀ at₀ work set count at = end - at
+μ-loop work₀ from left right other-left other-right reversed hits most end set₀ count₀ at₀ work set count at = end - at
 
 found-end-requires : tie.Need-found-end-requires Inv-loop μ-loop
 found-end-requires c κs = search needs
@@ -48,13 +49,16 @@ returns c =
     let spans = test .before .spans in
     walk-too-much (start .pre .0) (start .pre .1 .0) (found .first-found .ensures) (in-loop .before .loop .inv)
     (in-loop .loop-test .taken) (found-at .found-at .ensures)
-    (sym (spans .ensures) ∙ not-false (spans .result) (test .if1 .left))
+    (sym (spans .ensures .0) ∙ not-false (spans .result) (test .if1 .left))
     (TooMuch.excess (omega (arith, c .if2 .taken)))
 
 carry-requires : tie.Need-carry-requires Inv-loop μ-loop
 carry-requires c κs =
+    let start : tie.Start Inv-loop μ-loop = search in
+    let a = start .args in
     let spans = c .before .before .spans in
-    (sym (spans .ensures) ∙ not-false (spans .result) (c .before .if1 .left), search needs)
+    image-room (a .left) (a .right) (a .other-left) (a .other-right) _ (start .pre .1 .1 .0)
+    (sym (spans .ensures .0) ∙ not-false (spans .result) (c .before .if1 .left))
 
 add-requires : tie.Need-add-requires Inv-loop μ-loop
 add-requires c κs = search needs
@@ -82,11 +86,15 @@ returns-2 c =
     let full = rw (c .enum-told .given .1) at (called .add .ensures) in
     walk-too-much (start .pre .0) (start .pre .1 .0) (found .first-found .ensures) inv
     (in-loop .loop-test .taken) (found-at .found-at .ensures)
-    (sym (spans .ensures) ∙ not-false (spans .result) (test .if1 .left))
+    (sym (spans .ensures .0) ∙ not-false (spans .result) (test .if1 .left))
     (too-much-crowded (λ y e. e ∙ image) (inv .stored .good) (full .0))
 
 add-count : tie.Need-add-count Inv-loop μ-loop
-add-count c = search needs
+add-count c =
+    let fewer : tie.Else2 Inv-loop μ-loop = search in
+    let in-loop : tie.In-loop Inv-loop μ-loop = search in
+    let start : tie.Start Inv-loop μ-loop = search in
+    search (needs, in-loop .before .loop .inv .few, fewer .if2 .left, start .good)
 
 add-at : tie.Need-add-at Inv-loop μ-loop
 add-at c = search needs
@@ -109,7 +117,7 @@ loop-again c =
     let added = rw (c .before .s .given .1) at (called .add .ensures) in
     walk-step (start .pre .0) (start .pre .1 .0) (found .first-found .ensures) inv
     (in-loop .loop-test .taken) (found-at .found-at .ensures)
-    (sym (spans .ensures) ∙ not-false (spans .result) (test .if1 .left))
+    (sym (spans .ensures .0) ∙ not-false (spans .result) (test .if1 .left))
     (search needs) (
       stored-same (λ y. (λ e. e ∙ image, λ e. e ∙ sym image)) (added .stored),
       refl,
@@ -138,7 +146,7 @@ returns-4 c =
     let spans = c .before .spans in
     walk-break (start .pre .0) (start .pre .1 .0) (found .first-found .ensures) (in-loop .before .loop .inv)
     (in-loop .loop-test .taken) (found-at .found-at .ensures)
-    (sym (spans .ensures) ∙ not-true (spans .result) (c .if1 .taken))
+    (sym (spans .ensures .0) ∙ not-true (spans .result) (c .if1 .taken))
 
 pub carry-match-spec : {M : Type 1} → statement M
 carry-match-spec =

@@ -29,16 +29,21 @@ enum-told c = search needs
 enum-known-seeded : tie.Need-enum-known-seeded
 enum-known-seeded c = search needs
 
+-- the start, from the place where the set of A is empty
+start-of : tie.After-empty → tie.Start
+start-of empty-a = search
+
 drive-requires : tie.Need-drive-requires
+unfolding start-of
 drive-requires c κs =
-    let start : tie.Start = search in
     let at-seed : tie.After-seed = search in
     let empty-b : tie.After-empty2 = search in
     let empty-a : tie.After-empty = search in
+    let start = start-of empty-a in
     let stored = rw (c .before .before .seeded .given .1) at (at-seed .seed .ensures) in (
       start .pre .0,
-      seeded-open (columnsOf (start .args .left-a .now) (start .args .left-b .now) (start .args .lengths .now)
-          (start .args .reversed .now)) (start .args .capacity)
+      seeded-open (columnsOf (start .args .left-a .now) (start .args .right-a .now) (start .args .left-b .now)
+          (start .args .right-b .now) (start .args .reversed .now)) (start .pre .0) (start .args .capacity)
           (empty-a .empty .ensures) (empty-b .empty2 .ensures) stored (at-seed .seed .kept .1 .1 .0),
     )
 
@@ -46,13 +51,14 @@ same-length : tie.Need-same-length
 same-length c = search needs
 
 returns : tie.Need-returns
+unfolding start-of
 returns c =
     let at-seed : tie.After-seed = search in
     let empty-a : tie.After-empty = search in
-    let start : tie.Start = search in
+    let start = start-of empty-a in
     let full = rw (c .enum-told .given .1) at (at-seed .seed .ensures) in
-    seeded-exceeds (columnsOf (start .args .left-a .now) (start .args .left-b .now) (start .args .lengths .now)
-    (start .args .reversed .now)) (start .pre .0) (empty-a .empty .ensures) full
+    seeded-exceeds (columnsOf (start .args .left-a .now) (start .args .right-a .now) (start .args .left-b .now)
+    (start .args .right-b .now) (start .args .reversed .now)) (start .pre .0) (empty-a .empty .ensures) full
 
 same-length-2 : tie.Need-same-length-2
 same-length-2 c = search needs

@@ -10,11 +10,11 @@ use Rattle.closing.proofs.drive.Statement.{statement}
 use Rattle.closing.proofs.drive.Tie as tie
 
 abbrev Inv-loop : tie.InvT-loop
-Inv-loop left-a left-b lengths reversed work₀ capacity closing₀ work closing =
-    (List.length work ≡ List.length work₀) × Driving (columnsOf left-a left-b lengths reversed) capacity work closing
+Inv-loop left-a right-a left-b right-b reversed work₀ capacity closing₀ work closing =
+    (List.length work ≡ List.length work₀) × Driving (columnsOf left-a right-a left-b right-b reversed) capacity work closing
 
 abbrev μ-loop : tie.MeasureT-loop
-μ-loop left-a left-b lengths reversed work₀ capacity closing₀ work closing = pending closing
+μ-loop left-a right-a left-b right-b reversed work₀ capacity closing₀ work closing = pending closing
 
 loop-holds : tie.Need-loop-holds Inv-loop μ-loop
 loop-holds c =
@@ -63,8 +63,9 @@ loop-less c =
     let due = at-due .now2 .given in
     let args = start .args in
     rw (due .1)
-    (stepped-less (columnsOf (args .left-a .now) (args .left-b .now) (args .lengths .now) (args .reversed .now))
-    (args .capacity) (due .0 .0) (step .last .1 .1 .1 .1 .0) (step .result) (step .ensures))
+    (stepped-less (columnsOf (args .left-a .now) (args .right-a .now) (args .left-b .now) (args .right-b .now)
+    (args .reversed .now))
+    (args .capacity) (due .0 .0) (step .last .1 .1 .1 .1 .1 .0) (step .result) (step .ensures))
 
 loop-again : tie.Need-loop-again Inv-loop μ-loop
 loop-again c =
@@ -74,8 +75,9 @@ loop-again c =
     let due = at-due .now2 .given in
     let args = start .args in (
       search needs,
-      stepped-driving (columnsOf (args .left-a .now) (args .left-b .now) (args .lengths .now) (args .reversed .now))
-          (args .capacity) (due .0 .0) (step .last .1 .1 .1 .1 .0) (step .result) (step .ensures),
+      stepped-driving (columnsOf (args .left-a .now) (args .right-a .now) (args .left-b .now) (args .right-b .now)
+    (args .reversed .now))
+          (args .capacity) (due .0 .0) (step .last .1 .1 .1 .1 .1 .0) (step .result) (step .ensures),
     )
 
 enum-known-now-3 : tie.Need-enum-known-now-3 Inv-loop μ-loop
@@ -96,8 +98,9 @@ loop-less-2 c =
     let due = at-due .now3 .given in
     let args = start .args in
     rw (due .1)
-    (stepped-less (columnsOf (args .left-a .now) (args .left-b .now) (args .lengths .now) (args .reversed .now))
-    (args .capacity) (due .0 .0) (step .last .1 .1 .1 .1 .0) (step .result) (step .ensures))
+    (stepped-less (columnsOf (args .left-a .now) (args .right-a .now) (args .left-b .now) (args .right-b .now)
+    (args .reversed .now))
+    (args .capacity) (due .0 .0) (step .last .1 .1 .1 .1 .1 .0) (step .result) (step .ensures))
 
 loop-again-2 : tie.Need-loop-again-2 Inv-loop μ-loop
 loop-again-2 c =
@@ -107,8 +110,9 @@ loop-again-2 c =
     let due = at-due .now3 .given in
     let args = start .args in (
       search needs,
-      stepped-driving (columnsOf (args .left-a .now) (args .left-b .now) (args .lengths .now) (args .reversed .now))
-          (args .capacity) (due .0 .0) (step .last .1 .1 .1 .1 .0) (step .result) (step .ensures),
+      stepped-driving (columnsOf (args .left-a .now) (args .right-a .now) (args .left-b .now) (args .right-b .now)
+    (args .reversed .now))
+          (args .capacity) (due .0 .0) (step .last .1 .1 .1 .1 .1 .0) (step .result) (step .ensures),
     )
 
 pub drive-spec : {M : Type 1} → statement M

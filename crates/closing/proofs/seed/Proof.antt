@@ -9,10 +9,10 @@ use Rattle.closing.proofs.seed.Statement.{statement}
 use Rattle.closing.proofs.seed.Tie as tie
 
 abbrev Inv-loop : tie.InvT-loop
-Inv-loop left-a lengths work₀ a₀ k₀ work a k = Sown left-a lengths work₀ a₀ k work a
+Inv-loop left-a right-a work₀ a₀ k₀ work a k = Sown left-a right-a work₀ a₀ k work a
 
 abbrev μ-loop : tie.MeasureT-loop
-μ-loop left-a lengths work₀ a₀ k₀ work a k = List.length lengths - k
+μ-loop left-a right-a work₀ a₀ k₀ work a k = List.length left-a - k
 
 loop-holds : tie.Need-loop-holds Inv-loop μ-loop
 loop-holds c =
@@ -23,9 +23,7 @@ mul-seed-match : tie.Need-mul-seed-match Inv-loop μ-loop
 mul-seed-match c = search needs
 
 shared-slice-read-seed-match : tie.Need-shared-slice-read-seed-match Inv-loop μ-loop
-shared-slice-read-seed-match c =
-    let start : tie.Start Inv-loop μ-loop = search in
-    omega (arith, start .pre .0 .same-length)
+shared-slice-read-seed-match c = search needs
 
 mul-seed-match-2 : tie.Need-mul-seed-match-2 Inv-loop μ-loop
 mul-seed-match-2 c = search needs
@@ -36,9 +34,7 @@ shared-slice-read-seed-match-2 c = search needs
 seed-match-requires : tie.Need-seed-match-requires Inv-loop μ-loop
 seed-match-requires c κs =
     let in-loop : tie.In-loop Inv-loop μ-loop = search in
-    let start : tie.Start Inv-loop μ-loop = search in
-    let now = in-loop .before .loop in
-    (now .inv .stored .good, start .pre .0 .fits (now .k) (in-loop .loop-test .taken))
+    in-loop .before .loop .inv .stored .good
 
 enum-known-s : tie.Need-enum-known-s Inv-loop μ-loop
 enum-known-s c = search needs

@@ -10,9 +10,6 @@ add-requires c κs = search needs
 enum-known-s : tie.Need-enum-known-s
 enum-known-s c = search needs
 
-add-add : tie.Need-add-add
-add-add c = search needs
-
 add-requires-2 : tie.Need-add-requires-2
 add-requires-2 c κs =
     let at-add : tie.After-add = search in
@@ -33,7 +30,7 @@ returns c =
     let added = rw (held .s .given .1) at (at-add .add .ensures) in
     let second = c .before .before .add2 in
     two-added (start .args .work .now) (start .args .set) (second .last .0) (start .args .left)
-    (start .args .length) (start .pre .0) added (second .result) (second .ensures)
+    (start .args .right) (start .pre) added (second .result) (second .ensures)
 
 same-length-2 : tie.Need-same-length-2
 same-length-2 c = search needs
@@ -43,7 +40,7 @@ returns-2 c =
     let at-add : tie.After-add = search in
     let start : tie.Start = search in
     let full = rw (c .enum-told .given .1) at (at-add .add .ensures) in
-    one-full (start .args .length) (start .pre .0) (full .0)
+    one-full (start .args .right) (start .pre) (full .0)
 
 pub seed-match-spec : {M : Type 1} → statement M
 seed-match-spec =
@@ -51,7 +48,6 @@ seed-match-spec =
     (tie.spec
     add-requires
     enum-known-s
-    add-add
     add-requires-2
     enum-told
     same-length

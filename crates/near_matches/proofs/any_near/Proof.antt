@@ -6,10 +6,10 @@ use Rattle.near_matches.proofs.any_near.Statement.{statement}
 use Rattle.near_matches.proofs.any_near.Tie as tie
 
 abbrev Inv-loop : tie.InvT-loop
-Inv-loop lefts lengths k lowest highest any₀ at₀ any at = Sifted lefts lengths lowest highest k any at
+Inv-loop lefts rights k lowest highest any₀ at₀ any at = Sifted lefts rights lowest highest k any at
 
 abbrev μ-loop : tie.MeasureT-loop
-μ-loop lefts lengths k lowest highest any₀ at₀ any at = k + 32 - at
+μ-loop lefts rights k lowest highest any₀ at₀ any at = k + 32 - at
 
 loop-holds : tie.Need-loop-holds Inv-loop μ-loop
 loop-holds c = sift-start (c .before .before .pre .1)
@@ -30,10 +30,7 @@ shared-slice-read-reaches-2 : tie.Need-shared-slice-read-reaches-2 Inv-loop μ-l
 shared-slice-read-reaches-2 c = search needs
 
 reaches-requires : tie.Need-reaches-requires Inv-loop μ-loop
-reaches-requires c κs =
-    let start : tie.Start Inv-loop μ-loop = search in
-    let at-loop : tie.At-loop Inv-loop μ-loop = search in
-    start .pre .0 .fits (at-loop .loop .at) (search needs)
+reaches-requires c κs = search needs
 
 add-at : tie.Need-add-at Inv-loop μ-loop
 add-at c = search needs

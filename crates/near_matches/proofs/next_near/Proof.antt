@@ -9,10 +9,10 @@ use Rattle.near_matches.proofs.next_near.Statement.{statement}
 use Rattle.near_matches.proofs.next_near.Tie as tie
 
 abbrev Inv-loop : tie.InvT-loop
-Inv-loop lefts lengths k lowest highest near₀ near = Passable lefts lengths lowest highest k near
+Inv-loop lefts rights k lowest highest near₀ near = Passable lefts rights lowest highest k near
 
 abbrev μ-loop : tie.MeasureT-loop
-μ-loop lefts lengths k lowest highest near₀ near = List.length lengths - near
+μ-loop lefts rights k lowest highest near₀ near = List.length lefts - near
 
 returns : tie.Need-returns Inv-loop μ-loop
 returns c = passable-start (search needs)
@@ -30,9 +30,7 @@ shared-slice-read-reaches-2 : tie.Need-shared-slice-read-reaches-2 Inv-loop μ-l
 shared-slice-read-reaches-2 c = search needs
 
 reaches-requires : tie.Need-reaches-requires Inv-loop μ-loop
-reaches-requires c κs =
-    let start : tie.Start Inv-loop μ-loop = search in
-    start .pre .0 .fits (start .args .k) (search needs)
+reaches-requires c κs = search needs
 
 returns-2 : tie.Need-returns-2 Inv-loop μ-loop
 returns-2 c = passable-start (search needs)
@@ -56,10 +54,7 @@ shared-slice-read-reaches-4 : tie.Need-shared-slice-read-reaches-4 Inv-loop μ-l
 shared-slice-read-reaches-4 c = search needs
 
 reaches-requires-2 : tie.Need-reaches-requires-2 Inv-loop μ-loop
-reaches-requires-2 c κs =
-    let start : tie.Start Inv-loop μ-loop = search in
-    let at-loop : tie.At-loop Inv-loop μ-loop = search in
-    start .pre .0 .fits (at-loop .loop .near) (search needs)
+reaches-requires-2 c κs = search needs
 
 add-near : tie.Need-add-near Inv-loop μ-loop
 add-near c = search needs

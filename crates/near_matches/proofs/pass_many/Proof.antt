@@ -8,10 +8,10 @@ use Rattle.near_matches.proofs.pass_many.Statement.{statement}
 use Rattle.near_matches.proofs.pass_many.Tie as tie
 
 abbrev Inv-loop : tie.InvT-loop
-Inv-loop lefts lengths k lowest highest at₀ at = Passable lefts lengths lowest highest k at
+Inv-loop lefts rights k lowest highest at₀ at = Passable lefts rights lowest highest k at
 
 abbrev μ-loop : tie.MeasureT-loop
-μ-loop lefts lengths k lowest highest at₀ at = List.length lengths - at
+μ-loop lefts rights k lowest highest at₀ at = List.length lefts - at
 
 loop-holds : tie.Need-loop-holds Inv-loop μ-loop
 loop-holds c = passable-start (search needs)

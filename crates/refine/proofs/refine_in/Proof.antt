@@ -1,9 +1,11 @@
 -- `refine_in` meets its contract: a refused script is refused; the columns of an admitted one begin with the fields of
--- its matches, and `refine_matches` does the rest. Assumes nothing.
-use Rattle.refine.proofs.Calls.{reaches, prefix-length, columns-fit, columns-few, read-refused, read-refined}
+-- its matches, and `refine_read` does the rest. Assumes nothing.
+use Rattle.refine.proofs.Calls.{reaches, prefix-length, columns-fit, read-refused, read-refined}
 use borrow.Author.Needs.{needs}
 use Rattle.refine.proofs.refine_in.Statement.{statement}
 use Rattle.refine.proofs.refine_in.Tie as tie
+use Rattle.reader.proofs.columns.read_columns.Reads as read-columns-reads
+use Rattle.refining_matches.proofs.refine_read.Reads as refine-read-reads
 
 read-columns-requires : tie.Need-read-columns-requires
 read-columns-requires c κs = search needs
@@ -14,32 +16,42 @@ enum-known-refusal c = search needs
 enum-known-count : tie.Need-enum-known-count
 enum-known-count c = search needs
 
-slice-reshare-prefix-refine-matches : tie.Need-slice-reshare-prefix-refine-matches
-slice-reshare-prefix-refine-matches c = search (needs, reaches)
+slice-reshare-prefix-refine-read : tie.Need-slice-reshare-prefix-refine-read
+slice-reshare-prefix-refine-read c = search (needs, reaches)
 
-slice-aggregate-refine-matches : tie.Need-slice-aggregate-refine-matches
-slice-aggregate-refine-matches c = search (needs, prefix-length)
+slice-aggregate-refine-read : tie.Need-slice-aggregate-refine-read
+slice-aggregate-refine-read c = search (needs, prefix-length)
 
-slice-reshare-prefix-refine-matches-2 : tie.Need-slice-reshare-prefix-refine-matches-2
-slice-reshare-prefix-refine-matches-2 c = search (needs, reaches)
+slice-reshare-prefix-refine-read-2 : tie.Need-slice-reshare-prefix-refine-read-2
+slice-reshare-prefix-refine-read-2 c = search (needs, reaches)
 
-slice-aggregate-refine-matches-2 : tie.Need-slice-aggregate-refine-matches-2
-slice-aggregate-refine-matches-2 c = search (needs, prefix-length)
+slice-aggregate-refine-read-2 : tie.Need-slice-aggregate-refine-read-2
+slice-aggregate-refine-read-2 c = search (needs, prefix-length)
 
-slice-reshare-prefix-refine-matches-3 : tie.Need-slice-reshare-prefix-refine-matches-3
-slice-reshare-prefix-refine-matches-3 c = search (needs, reaches)
+slice-reshare-prefix-refine-read-3 : tie.Need-slice-reshare-prefix-refine-read-3
+slice-reshare-prefix-refine-read-3 c = search (needs, reaches)
 
-slice-aggregate-refine-matches-3 : tie.Need-slice-aggregate-refine-matches-3
-slice-aggregate-refine-matches-3 c = search (needs, prefix-length)
+slice-aggregate-refine-read-3 : tie.Need-slice-aggregate-refine-read-3
+slice-aggregate-refine-read-3 c = search (needs, prefix-length)
 
-slice-reshare-prefix-refine-matches-4 : tie.Need-slice-reshare-prefix-refine-matches-4
-slice-reshare-prefix-refine-matches-4 c = search (needs, reaches)
+slice-reshare-prefix-refine-read-4 : tie.Need-slice-reshare-prefix-refine-read-4
+slice-reshare-prefix-refine-read-4 c = search (needs, reaches)
 
-slice-aggregate-refine-matches-4 : tie.Need-slice-aggregate-refine-matches-4
-slice-aggregate-refine-matches-4 c = search (needs, prefix-length)
+slice-aggregate-refine-read-4 : tie.Need-slice-aggregate-refine-read-4
+slice-aggregate-refine-read-4 c = search (needs, prefix-length)
 
-refine-matches-requires : tie.Need-refine-matches-requires
-refine-matches-requires c κs = search (needs, columns-fit, columns-few)
+-- the start, from the place where the script is read
+start-of : tie.After-read-columns → tie.Start
+start-of read = search
+
+refine-read-requires : tie.Need-refine-read-requires
+unfolding start-of
+refine-read-requires c κs =
+    let counted : tie.After-count = search in
+    let read : tie.After-read-columns = search in
+    let start = start-of read in
+    let told = read .read-columns .ensures in
+    columns-fit (start .args .script .now) (told .0) (counted .count .given .1) (start .pre) (told .1 .0)
 
 same-length : tie.Need-same-length
 same-length c = search needs
@@ -74,8 +86,23 @@ same-length-9 c = search needs
 same-length-10 : tie.Need-same-length-10
 same-length-10 c = search needs
 
+same-length-11 : tie.Need-same-length-11
+same-length-11 c = search needs
+
+same-length-12 : tie.Need-same-length-12
+same-length-12 c = search needs
+
 returns-2 : tie.Need-returns-2
-returns-2 c = search (needs, read-refined)
+unfolding start-of
+returns-2 c =
+    let refined : tie.After-refine-read = search in
+    let counted : tie.After-count = search in
+    let read : tie.After-read-columns = search in
+    let start = start-of read in
+    let told = read .read-columns .ensures in
+    let a = start .args in
+    read-refined (a .script .now) (told .0) (counted .count .given .1) (start .pre) (told .1 .0) (a .table .now)
+    (a .work .now) (refined .refine-read .ensures .0)
 
 pub refine-in-spec : {M : Type 1} → statement M
 refine-in-spec =
@@ -84,15 +111,15 @@ refine-in-spec =
     read-columns-requires
     enum-known-refusal
     enum-known-count
-    slice-reshare-prefix-refine-matches
-    slice-aggregate-refine-matches
-    slice-reshare-prefix-refine-matches-2
-    slice-aggregate-refine-matches-2
-    slice-reshare-prefix-refine-matches-3
-    slice-aggregate-refine-matches-3
-    slice-reshare-prefix-refine-matches-4
-    slice-aggregate-refine-matches-4
-    refine-matches-requires
+    slice-reshare-prefix-refine-read
+    slice-aggregate-refine-read
+    slice-reshare-prefix-refine-read-2
+    slice-aggregate-refine-read-2
+    slice-reshare-prefix-refine-read-3
+    slice-aggregate-refine-read-3
+    slice-reshare-prefix-refine-read-4
+    slice-aggregate-refine-read-4
+    refine-read-requires
     same-length
     same-length-2
     same-length-3
@@ -104,4 +131,6 @@ refine-in-spec =
     same-length-8
     same-length-9
     same-length-10
+    same-length-11
+    same-length-12
     returns-2)

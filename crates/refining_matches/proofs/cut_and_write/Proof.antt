@@ -21,14 +21,11 @@ all-places-requires : tie.Need-all-places-requires
 all-places-requires c κs = search needs
 
 -- the start, from the place where the closure has answered
-abbrev start-of : tie.After-close → tie.Start
-start-of closed =
-    let work-known = closed .before .before in
-    let reversed-known = work-known .before .before in
-    let left-b-known = reversed-known .before .before in
-    left-b-known .before .before
+start-of : tie.After-close → tie.Start
+start-of closed = search
 
 write-rows-requires : tie.Need-write-rows-requires
+unfolding start-of
 write-rows-requires c κs =
     let placed : tie.After-all-places = search in
     let joined : tie.After-join = search in
@@ -54,6 +51,7 @@ same-length-3 : tie.Need-same-length-3
 same-length-3 c = search needs
 
 returns-2 : tie.Need-returns-2
+unfolding start-of
 returns-2 c =
     let written : tie.After-write-rows = search in
     let placed : tie.After-all-places = search in

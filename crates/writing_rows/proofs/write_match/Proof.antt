@@ -10,14 +10,14 @@ use Rattle.writing_rows.proofs.write_match.Statement.{statement}
 use Rattle.writing_rows.proofs.write_match.Tie as tie
 
 abbrev Inv-loop : tie.InvT-loop
-Inv-loop work first last number left-a left-b letters reversed table₀ row at₀ next₀ table at next =
-    Remaining (matchAB number left-a left-b letters reversed) work first last row table₀ table at next
+Inv-loop work first last number left-a left-b right-b reversed table₀ row at₀ next₀ table at next =
+    Remaining (matchAB number left-a left-b (right-b - left-b) reversed) right-b work first last row table₀ table at next
 
 abbrev μ-loop : tie.MeasureT-loop
-μ-loop work first last number left-a left-b letters reversed table₀ row at₀ next₀ table at next = last - at
+μ-loop work first last number left-a left-b right-b reversed table₀ row at₀ next₀ table at next = last - at
 
 loop-holds : tie.Need-loop-holds Inv-loop μ-loop
-loop-holds c = let pre = c .before .before .pre in remaining-start (pre .0) (pre .1 .0) (pre .1 .1)
+loop-holds c = let pre = c .before .before .pre in remaining-start (pre .0) (omega (arith, pre .1 .0)) (pre .1 .1)
 
 mul-write-piece : tie.Need-mul-write-piece Inv-loop μ-loop
 mul-write-piece c =

@@ -1,7 +1,7 @@
 -- The five stores of a piece write its row. The end that is carried lies on the match. Assumes nothing.
 use native.Mathlib.Omega.{arith}
 use lib.ListN.{length-set}
-use Rattle.writing_rows.proofs.Placing.{spans-low, five-stores}
+use Rattle.writing_rows.proofs.Placing.{low-on, five-stores}
 use borrow.Author.Needs.{needs}
 use Rattle.writing_rows.proofs.write_piece.Statement.{statement}
 use Rattle.writing_rows.proofs.write_piece.Tie as tie
@@ -12,8 +12,7 @@ by-direction-requires c κs = search needs
 carry-requires : tie.Need-carry-requires
 carry-requires c κs =
     let start : tie.Start = search in
-    let on = start .pre .0 in
-    (rw (c .by-direction .ensures) (spans-low (start .args .reversed) on), on .fits)
+    rw (c .by-direction .ensures) (low-on (start .args .reversed) (start .pre .0))
 
 mul-table : tie.Need-mul-table
 mul-table c = search needs

@@ -1,0 +1,76 @@
+-- `refine_read` meets its contract: with the right ends worked out the columns are Fit, and they hold the matches that
+-- were read. Assumes nothing.
+use Rattle.refining_matches.proofs.Tabling.{worked-fit, worked-refined}
+use borrow.Author.Needs.{needs}
+use Rattle.refining_matches.proofs.refine_read.Statement.{statement}
+use Rattle.refining_matches.proofs.refine_read.Tie as tie
+
+work-out-requires : tie.Need-work-out-requires
+work-out-requires c κs = search needs
+
+work-out-requires-2 : tie.Need-work-out-requires-2
+work-out-requires-2 c κs = search needs
+
+slice-reshare-prefix-refine-matches : tie.Need-slice-reshare-prefix-refine-matches
+slice-reshare-prefix-refine-matches c = search needs
+
+slice-aggregate-refine-matches : tie.Need-slice-aggregate-refine-matches
+slice-aggregate-refine-matches c = search needs
+
+slice-reshare-prefix-refine-matches-2 : tie.Need-slice-reshare-prefix-refine-matches-2
+slice-reshare-prefix-refine-matches-2 c = search needs
+
+slice-aggregate-refine-matches-2 : tie.Need-slice-aggregate-refine-matches-2
+slice-aggregate-refine-matches-2 c = search needs
+
+refine-matches-requires : tie.Need-refine-matches-requires
+refine-matches-requires c κs =
+    let on-b : tie.After-work-out2 = search in
+    let on-a : tie.After-work-out = search in
+    let start : tie.Start = search in
+    let a = start .args in (
+      worked-fit (a .left-a .now) (a .left-b .now) (a .lengths .now) (a .reversed .now) (on-a .work-out .ensures .0)
+          (on-b .work-out2 .ensures .0) (start .pre .0),
+      start .pre .1 .0,
+    )
+
+same-length : tie.Need-same-length
+same-length c = search needs
+
+same-length-2 : tie.Need-same-length-2
+same-length-2 c = search needs
+
+same-length-3 : tie.Need-same-length-3
+same-length-3 c = search needs
+
+same-length-4 : tie.Need-same-length-4
+same-length-4 c = search needs
+
+returns : tie.Need-returns
+returns c =
+    let on-b : tie.After-work-out2 = search in
+    let on-a : tie.After-work-out = search in
+    let start : tie.Start = search in
+    let a = start .args in
+    let refined : tie.After-refine-matches = search in (
+      worked-refined (a .left-a .now) (a .left-b .now) (a .lengths .now) (a .reversed .now) (on-a .work-out .ensures .0)
+          (on-b .work-out2 .ensures .0) (a .table .now) (a .work .now) (refined .refine-matches .ensures),
+      (on-a .work-out .ensures .1, on-b .work-out2 .ensures .1),
+    )
+
+pub refine-read-spec : {M : Type 1} → statement M
+refine-read-spec =
+    tie.close
+    (tie.spec
+    work-out-requires
+    work-out-requires-2
+    slice-reshare-prefix-refine-matches
+    slice-aggregate-refine-matches
+    slice-reshare-prefix-refine-matches-2
+    slice-aggregate-refine-matches-2
+    refine-matches-requires
+    same-length
+    same-length-2
+    same-length-3
+    same-length-4
+    returns)
