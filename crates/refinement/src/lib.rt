@@ -34,10 +34,7 @@ pub fn spans(left: u32, right: u32, position: u32) -> bool
     ensures test { λ r. ⌜ r ≡ between left right position ⌝ }
     ensures kept { λ r. ⌜ AnswerKept left right position r ⌝ }
 {
-    if position < left {
-        return false;
-    }
-    position <= right
+    (left <= position) & (position <= right)
 }
 
 // Where a match carries the position to: from the side where its left end is `from` to the one where its ends are `to`
