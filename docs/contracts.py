@@ -19,7 +19,7 @@ TOTAL = {
     ("writer/src/lib.rt", "write"),
     ("record_reader/src/lib.rt", "read_records"),
     ("refine/src/lib.rt", "refine"),
-    ("refine/src/carrying.rt", "carry"),
+    ("carrying/src/lib.rt", "carry"),
     ("match_rows/src/lib.rt", "rows_of"),
     ("match_rows/src/lib.rt", "span_of"),
     ("summary/src/lib.rt", "sum_up"),

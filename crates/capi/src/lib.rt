@@ -219,7 +219,7 @@ fn carry_from(
         record { number = r; place = now (place .exit); given = now (carried .exit) }
         ≡ carryDoor side (now (script .entry)) number position (now (place .entry)) (now (carried .entry)) ⌝ }
 {
-    match refine::carrying::carry(script, number, side, position) {
+    match carrying::carry(script, number, side, position) {
         Carried::To(x) => {
             *carried = x;
             0

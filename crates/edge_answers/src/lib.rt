@@ -97,7 +97,7 @@ pub fn put_carried(
     ensures { λ r. ⌜ r ≤ at + 71 ⌝ }
 {
     let next = put_bytes(text, at, heading);
-    match refine::carrying::carry(script, number, side, position) {
+    match carrying::carry(script, number, side, position) {
         Carried::To(position) => {
             let next = put_entry(text, next, b" to ", position as u64);
             put_byte(text, next, b'\n')

@@ -3,7 +3,7 @@
 --                        the columns of an admitted script hold as many numbers as there are matches, and they fit
 --     refining-met, read-refused, read-refined
 --                        the contract, by one equation, which holds of a refused script and of an admitted one
---     few-roomy, many-roomy     columns with room for the matches of a short script, and of any
+--     short-roomy, many-roomy   columns with room for the matches of a script of so many bytes, and of any
 -- Assumes nothing.
 use Prim.Native.Nat.{ℕ, _≤_, _<_}
 use mathlib.Core.Path.{_≡_, sym, ap, _∙_}
@@ -21,7 +21,7 @@ use Rattle.refining.specs.Columns.{FitRead, columnsRead}
 use Rattle.refining.specs.Refining.{heldIn, refiningOf}
 use Rattle.refining.specs.Demands.{answerOf, Demand1, Demand2, Demand3}
 use Rattle.refining_matches.specs.Tabling.{MatchesRefined}
-use Rattle.refine.specs.Calls.{ScriptRefined, Roomy, shortScript}
+use Rattle.refine.specs.Calls.{ScriptRefined, Roomy, bytesOf}
 use Rattle.refining.specs.declared.answers.Refined.{Refined}
 use Rattle.script.proofs.Admitted.{Holds, holds-admitted, reading-refused, matches-few}
 use Rattle.script.proofs.Columns.{column-filled}
@@ -54,38 +54,43 @@ module _ (script : List ℕ) {told : Verdict} {p q count : ℕ} (e : told ≡ ve
   room-reaches : {n : ℕ} → length (matchesRead (readScript script)) ≤ n → count ≤ n
   room-reaches room = omega (arith, rw (held .read) at room, held .counted)
 
-  module _ {a b d a′ b′ d′ g u : List ℕ} {r r′ : List Bool} (roomy : Roomy script a b d r g u)
-      (columns : ColumnsRead script a b d r a′ b′ d′ r′) where
-    left-a-begins : take count a′ ≡ map (λ m. m .«left_a») (held .matches)
-    left-a-begins = begins (λ m. m .«left_a») a (columns .left-a) (roomy .left-a)
+  module _ {f g t u f′ t′ u′ : List ℕ} {r r′ : List Bool} (roomy : Roomy script f g t u r)
+      (columns : ColumnsRead script f t u r f′ t′ u′ r′) where
+    left-a-begins : take count f′ ≡ map (λ m. m .«left_a») (held .matches)
+    left-a-begins = begins (λ m. m .«left_a») f (columns .left-a) (roomy .left-a)
 
-    left-b-begins : take count b′ ≡ map (λ m. m .«left_b») (held .matches)
-    left-b-begins = begins (λ m. m .«left_b») b (columns .left-b) (roomy .left-b)
+    left-b-begins : take count t′ ≡ map (λ m. m .«left_b») (held .matches)
+    left-b-begins = begins (λ m. m .«left_b») t (columns .left-b) (roomy .left-b)
 
-    letters-begin : take count d′ ≡ map (λ m. m .length) (held .matches)
-    letters-begin = begins (λ m. m .length) d (columns .letters) (roomy .letters)
+    -- the lengths stand in the column of the right ends on B, as many as there are left ends on A
+    on-a : length (take count f′) ≡ count
+    on-a = sym (prefix-length (λ m. m .«left_a») f (columns .left-a) (roomy .left-a))
+
+    letters-begin : take (length (take count f′)) u′ ≡ map (λ m. m .length) (held .matches)
+    letters-begin =
+        ap (λ (n : ℕ). take n u′) on-a ∙ begins (λ m. m .length) u (columns .letters) (roomy .right-b)
 
     reversed-begins : take count r′ ≡ map (λ m. m .reversed) (held .matches)
     reversed-begins = begins (λ m. m .reversed) r (columns .reversed) (roomy .reversed)
 
-    -- what the matches are read into fits, and the right ends have room beside the left ends
+    -- what the matches are read into fits, and there is room for the right ends
     pub columns-fit :
-        FitRead (take count a′) (take count b′) (take count d′) (take count r′)
+        FitRead (take count f′) (take count t′) (take (length (take count f′)) u′) (take count r′)
         × ((length (take count r′) < 4294967296)
-        × ((length (take count a′) ≤ length g) × (length (take count b′) ≤ length u)))
+        × ((length (take count f′) ≤ length g) × (length (take count f′) ≤ length u′)))
     columns-fit =
-        let on-a = prefix-length (λ m. m .«left_a») a (columns .left-a) (roomy .left-a) in
-        let on-b = prefix-length (λ m. m .«left_b») b (columns .left-b) (roomy .left-b) in
-        let ways = prefix-length (λ m. m .reversed) r (columns .reversed) (roomy .reversed) in (
+        let ways = prefix-length (λ m. m .reversed) r (columns .reversed) (roomy .reversed) in
+        let letters = reaches (λ m. m .length) u (columns .letters) (roomy .right-b) in (
           held-fit held left-a-begins left-b-begins letters-begin reversed-begins,
           (
             omega (arith, ways, held .few),
-            (omega (arith, on-a, room-reaches (roomy .right-a)), omega (arith, on-b, room-reaches (roomy .right-b))),
+            (omega (arith, on-a, room-reaches (roomy .right-a)), omega (arith, on-a, letters)),
           ),
         )
 
     pub read-refined : (table work : List ℕ) {reply : Refined} {table′ work′ : List ℕ}
-        → MatchesRefined (heldIn (columnsRead (take count a′) (take count b′) (take count d′) (take count r′))) table
+        → MatchesRefined
+        (heldIn (columnsRead (take count f′) (take count t′) (take (length (take count f′)) u′) (take count r′))) table
         work reply table′ work′
         → ScriptRefined script table work reply table′ work′
     read-refined table work refined =
@@ -113,30 +118,24 @@ pub read-refused :
 read-refused script table work e v is =
     rw is (sym (refining-refused script table work (reading-refused script e v)))
 
--- columns of 64 have room for the matches of a short script, and columns of 2,048 for those of any
-pub few-roomy : {s a b d g u : List ℕ} {r : List Bool} → length s ≤ shortScript → length a ≡ 64 → length b ≡ 64
-    → length d ≡ 64 → length r ≡ 64 → length g ≡ 64 → length u ≡ 64 → Roomy s a b d r g u
-few-roomy {s} short ea eb ed er eg eu =
-    let few : length (matchesRead (readScript s)) ≤ 64 = omega (arith, matches-few s) in
-    record {
-      left-a = omega arith;
-      left-b = omega arith;
-      letters = omega arith;
-      reversed = omega arith;
-      right-a = omega arith;
-      right-b = omega arith;
-    }
+-- columns of n have room for n matches: for those of a script with the bytes of n, and where n is 2,048 for those of any
+roomy-in :
+    (n : ℕ) {s f g t u : List ℕ} {r : List Bool} → length (matchesRead (readScript s)) ≤ n → length f ≡ n
+    → length g ≡ n → length t ≡ n → length u ≡ n → length r ≡ n → Roomy s f g t u r
+roomy-in n few ef eg et eu er = record {
+  left-a = omega arith;
+  right-a = omega arith;
+  left-b = omega arith;
+  right-b = omega arith;
+  reversed = omega arith;
+}
 
-pub many-roomy : {s a b d g u : List ℕ} {r : List Bool} → length a ≡ mostMatches → length b ≡ mostMatches
-    → length d ≡ mostMatches → length r ≡ mostMatches → length g ≡ mostMatches → length u ≡ mostMatches
-    → Roomy s a b d r g u
-many-roomy {s} ea eb ed er eg eu =
-    let few : length (matchesRead (readScript s)) ≤ mostMatches = matches-few s .1 in
-    record {
-      left-a = omega arith;
-      left-b = omega arith;
-      letters = omega arith;
-      reversed = omega arith;
-      right-a = omega arith;
-      right-b = omega arith;
-    }
+pub short-roomy :
+    (n : ℕ) {s f g t u : List ℕ} {r : List Bool} → length s ≤ bytesOf n → length f ≡ n → length g ≡ n → length t ≡ n
+    → length u ≡ n → length r ≡ n → Roomy s f g t u r
+short-roomy n {s} short = roomy-in n (omega (arith, matches-few s))
+
+pub many-roomy :
+    {s f g t u : List ℕ} {r : List Bool} → length f ≡ mostMatches → length g ≡ mostMatches → length t ≡ mostMatches
+    → length u ≡ mostMatches → length r ≡ mostMatches → Roomy s f g t u r
+many-roomy {s} = roomy-in mostMatches (matches-few s .1)

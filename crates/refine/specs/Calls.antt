@@ -1,7 +1,7 @@
 -- What the inner functions of the refining call do.
 --     ScriptRefined      the whole call
 --     Roomy              columns with room for the matches of a script
---     shortScript        the bytes of a script of 64 matches
+--     bytesOf n          the bytes of a script of n matches
 -- Assumes nothing.
 use Prim.Native.Nat.{ℕ, _+_, _*_, _≤_}
 use mathlib.Core.Path.{_≡_}
@@ -19,15 +19,14 @@ abbrev pub ScriptRefined : List ℕ → List ℕ → List ℕ → Refined → Li
 ScriptRefined script table work reply table′ work′ =
     record { reply = reply; table = table′; work = work′ } ≡ refiningOf script table work
 
--- columns with room for the matches of a script, and for their right ends
-pub record Roomy (s a b d : List ℕ) (r : List Bool) (g u : List ℕ) : Type 0 where
-  pub left-a : length (matchesRead (readScript s)) ≤ length a
-  pub left-b : length (matchesRead (readScript s)) ≤ length b
-  pub letters : length (matchesRead (readScript s)) ≤ length d
-  pub reversed : length (matchesRead (readScript s)) ≤ length r
+-- columns with room for the matches of a script: left and right ends on A, on B, and directions
+pub record Roomy (s f g t u : List ℕ) (r : List Bool) : Type 0 where
+  pub left-a : length (matchesRead (readScript s)) ≤ length f
   pub right-a : length (matchesRead (readScript s)) ≤ length g
+  pub left-b : length (matchesRead (readScript s)) ≤ length t
   pub right-b : length (matchesRead (readScript s)) ≤ length u
+  pub reversed : length (matchesRead (readScript s)) ≤ length r
 
--- lengths, 64 matches, end
-abbrev pub shortScript : ℕ
-shortScript = lengthsWidth + matchWidth * 64 + 1
+-- lengths, n matches, end
+abbrev pub bytesOf : ℕ → ℕ
+bytesOf n = lengthsWidth + matchWidth * n + 1

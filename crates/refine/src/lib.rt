@@ -1,6 +1,4 @@
-// Refining and carrying: the calls that stand above the reader, the theory and the store of cuts.
-pub mod carrying;
-
+// The refining call, which stands above the reader, the theory and the store of cuts.
 use reader::columns::read_columns;
 use refining::answers::Refined;
 use refining_matches::refine_read;
@@ -12,70 +10,92 @@ ghost use mathlib.Core.Path.{_≡_};
 ghost use Prim.Native.Nat.{_≤_};
 ghost use lib.ListN.{length};
 ghost use Rattle.refining.specs.Refining.{refiningOf};
-ghost use Rattle.refine.specs.Calls.{Roomy, ScriptRefined, shortScript};
+ghost use Rattle.refine.specs.Calls.{Roomy, ScriptRefined, bytesOf};
 ghost use Rattle.refining.specs.Demands.{answerOf, Demand1, Demand2, Demand3};
 
-// Columns of this length take a script of a few matches; to make longer ones would be most of the work on it.
-const FEW_MATCHES: usize = 64;
+// Columns of these lengths take scripts of few and of some matches: to make longer ones would be most of the work on them.
+const FEW_MATCHES: usize = 32;
+const SOME_MATCHES: usize = 256;
 
 // Lengths, that many matches, end.
 const SHORT_SCRIPT: usize = LENGTHS_WIDTH + MATCH_WIDTH * FEW_MATCHES + 1;
+const MEDIUM_SCRIPT: usize = LENGTHS_WIDTH + MATCH_WIDTH * SOME_MATCHES + 1;
 
-// Reads the script into columns that have room for its matches, and refines them.
+// Reads the script into columns that have room for its matches, and refines them. The lengths come into the column of
+// the right ends on B, and these in their place.
 fn refine_in(
     script: &[u8],
     left_a: &mut [u32],
-    left_b: &mut [u32],
-    lengths: &mut [u32],
-    reversed: &mut [bool],
     right_a: &mut [u32],
+    left_b: &mut [u32],
     right_b: &mut [u32],
+    reversed: &mut [bool],
     table: &mut [u32],
     work: &mut [u32],
 ) -> Refined
     requires { ⌜
-        Roomy (now script) (now «left_a») (now «left_b») (now lengths) (now reversed) (now «right_a»)
-        (now «right_b») ⌝ }
+        Roomy (now script) (now «left_a») (now «right_a») (now «left_b») (now «right_b») (now reversed) ⌝ }
     ensures { λ r. ⌜
         ScriptRefined (now (script .entry)) (now (table .entry)) (now (work .entry)) r (now (table .exit))
         (now (work .exit)) ⌝ }
 {
-    match read_columns(script, left_a, left_b, lengths, reversed) {
+    match read_columns(script, left_a, left_b, right_b, reversed) {
         Verdict::Refused(refusal) => Refined::Refused(refusal),
         Verdict::Admitted { p: _, q: _, count } => refine_read(
             &left_a[..count],
-            &left_b[..count],
-            &lengths[..count],
-            &reversed[..count],
             right_a,
+            &left_b[..count],
             right_b,
+            &reversed[..count],
             table,
             work,
         ),
     }
 }
 
-// A script whose bytes have room for few matches: no more columns are made than they can fill.
+// A script whose bytes have room for few matches: no longer columns are made than they can fill.
 fn refine_few(script: &[u8], table: &mut [u32], work: &mut [u32]) -> Refined
-    requires { ⌜ length (now script) ≤ shortScript ⌝ }
+    requires { ⌜ length (now script) ≤ bytesOf 32 ⌝ }
     ensures { λ r. ⌜
         ScriptRefined (now (script .entry)) (now (table .entry)) (now (work .entry)) r (now (table .exit))
         (now (work .exit)) ⌝ }
 {
     let mut left_a = [0; FEW_MATCHES];
-    let mut left_b = [0; FEW_MATCHES];
-    let mut lengths = [0; FEW_MATCHES];
-    let mut reversed = [false; FEW_MATCHES];
     let mut right_a = [0; FEW_MATCHES];
+    let mut left_b = [0; FEW_MATCHES];
     let mut right_b = [0; FEW_MATCHES];
+    let mut reversed = [false; FEW_MATCHES];
     refine_in(
         script,
         &mut left_a[..],
-        &mut left_b[..],
-        &mut lengths[..],
-        &mut reversed[..],
         &mut right_a[..],
+        &mut left_b[..],
         &mut right_b[..],
+        &mut reversed[..],
+        table,
+        work,
+    )
+}
+
+// One with room for some matches.
+fn refine_some(script: &[u8], table: &mut [u32], work: &mut [u32]) -> Refined
+    requires { ⌜ length (now script) ≤ bytesOf 256 ⌝ }
+    ensures { λ r. ⌜
+        ScriptRefined (now (script .entry)) (now (table .entry)) (now (work .entry)) r (now (table .exit))
+        (now (work .exit)) ⌝ }
+{
+    let mut left_a = [0; SOME_MATCHES];
+    let mut right_a = [0; SOME_MATCHES];
+    let mut left_b = [0; SOME_MATCHES];
+    let mut right_b = [0; SOME_MATCHES];
+    let mut reversed = [false; SOME_MATCHES];
+    refine_in(
+        script,
+        &mut left_a[..],
+        &mut right_a[..],
+        &mut left_b[..],
+        &mut right_b[..],
+        &mut reversed[..],
         table,
         work,
     )
@@ -88,19 +108,17 @@ fn refine_many(script: &[u8], table: &mut [u32], work: &mut [u32]) -> Refined
         (now (work .exit)) ⌝ }
 {
     let mut left_a = [0; MOST_MATCHES];
-    let mut left_b = [0; MOST_MATCHES];
-    let mut lengths = [0; MOST_MATCHES];
-    let mut reversed = [false; MOST_MATCHES];
     let mut right_a = [0; MOST_MATCHES];
+    let mut left_b = [0; MOST_MATCHES];
     let mut right_b = [0; MOST_MATCHES];
+    let mut reversed = [false; MOST_MATCHES];
     refine_in(
         script,
         &mut left_a[..],
-        &mut left_b[..],
-        &mut lengths[..],
-        &mut reversed[..],
         &mut right_a[..],
+        &mut left_b[..],
         &mut right_b[..],
+        &mut reversed[..],
         table,
         work,
     )
@@ -123,6 +141,9 @@ pub fn refine(script: &[u8], table: &mut [u32], work: &mut [u32]) -> Refined
 {
     if script.len() <= SHORT_SCRIPT {
         return refine_few(script, table, work);
+    }
+    if script.len() <= MEDIUM_SCRIPT {
+        return refine_some(script, table, work);
     }
     refine_many(script, table, work)
 }

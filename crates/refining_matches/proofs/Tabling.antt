@@ -28,8 +28,8 @@ use Rattle.cut_set.specs.declared.CutSet.{CutSet}
 use Rattle.reading_cuts.specs.Reading.{AllPlaces}
 use Rattle.reading_cuts.specs.declared.Places.{Places}
 use Rattle.refining.specs.Columns.{Columns, columnsOf, columnsRead, countOf, fromAt, fromRightAt}
-use Rattle.refining.specs.Columns.{FitRead, rightsOf, Fit}
-use Rattle.refining.proofs.RightEnds.{read-fit, right-at}
+use Rattle.refining.specs.Columns.{FitRead, RightEnds, Fit}
+use Rattle.refining.proofs.RightEnds.{rights-alone, read-fit, right-at}
 use Rattle.stepping.specs.Engine.{CutOn}
 use Rattle.closing.specs.AllCuts.{AllCuts, Closure}
 use Rattle.refining.specs.Rows.{piecesCut, pieceNumbers}
@@ -125,12 +125,16 @@ cleared-refined {columns} fit table table′ work work′ {r = r} room tabled sa
     (tabled-refined (heldIn columns) (matches-good columns fit) table table′ work r room tabled)
 
 -- the matches as they are read, once their right ends are worked out
-module _ (f t d : List ℕ) (r : List Bool) {g u : List ℕ} (right-a : g ≡ rightsOf f d) (right-b : u ≡ rightsOf t d) where
-  pub worked-fit : FitRead f t d r → Fit (columnsOf f g t u r)
-  worked-fit read = rw (right-a, right-b) (read-fit read)
+module _ (f t d : List ℕ) (r : List Bool) {g u : List ℕ} (read : FitRead f t d r) (right-a : RightEnds f d g)
+    (right-b : RightEnds t d u) where
+  worked-columns : columnsOf f g t u r ≡ columnsRead f t d r
+  worked-columns = rw (rights-alone (read .on-a .same-length) right-a, rights-alone (read .on-b .same-length) right-b)
+
+  pub worked-fit : Fit (columnsOf f g t u r)
+  worked-fit = rw worked-columns (read-fit read)
 
   pub worked-refined :
       (table work : List ℕ) {reply : Refined} {table′ work′ : List ℕ}
       → MatchesRefined (heldIn (columnsOf f g t u r)) table work reply table′ work′
       → MatchesRefined (heldIn (columnsRead f t d r)) table work reply table′ work′
-  worked-refined table work refined = rw (right-a, right-b) at refined
+  worked-refined table work refined = rw worked-columns at refined

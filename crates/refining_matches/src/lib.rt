@@ -99,41 +99,40 @@ fn refine_matches(
     answer
 }
 
-// The matches of an admitted script as they are read. Their right ends are worked out here, once for each match and
-// before any position is tried. Behind this call no length is added to a left end again.
+// The matches of an admitted script as they are read, with their lengths in the front of `right_b`. Their right ends are
+// worked out here, once for each match and before any position is tried. Behind this call there are no lengths.
 pub fn refine_read(
     left_a: &[u32],
-    left_b: &[u32],
-    lengths: &[u32],
-    reversed: &[bool],
     right_a: &mut [u32],
+    left_b: &[u32],
     right_b: &mut [u32],
+    reversed: &[bool],
     table: &mut [u32],
     work: &mut [u32],
 ) -> Refined
-    requires { ⌜ FitRead (now «left_a») (now «left_b») (now lengths) (now reversed) ⌝ }
+    requires { ⌜ FitRead (now «left_a») (now «left_b») (take (length (now «left_a»)) (now «right_b»)) (now reversed) ⌝ }
     requires { ⌜ length (now reversed) < 4294967296 ⌝ }
     requires { ⌜ length (now «left_a») ≤ length (now «right_a») ⌝ }
-    requires { ⌜ length (now «left_b») ≤ length (now «right_b») ⌝ }
+    requires { ⌜ length (now «left_a») ≤ length (now «right_b») ⌝ }
     ensures refined { λ r. ⌜
         MatchesRefined
         (heldIn
-        (columnsRead (now («left_a» .entry)) (now («left_b» .entry)) (now (lengths .entry)) (now (reversed .entry))))
+        (columnsRead (now («left_a» .entry)) (now («left_b» .entry))
+        (take (length (now («left_a» .entry))) (now («right_b» .entry))) (now (reversed .entry))))
         (now (table .entry)) (now (work .entry)) r (now (table .exit)) (now (work .exit)) ⌝ }
     ensures ends_a { λ _. ⌜
-        RightEnds (now («left_a» .entry)) (now (lengths .entry))
+        RightEnds (now («left_a» .entry)) (take (length (now («left_a» .entry))) (now («right_b» .entry)))
         (take (length (now («left_a» .entry))) (now («right_a» .exit))) ⌝ }
     ensures ends_b { λ _. ⌜
-        RightEnds (now («left_b» .entry)) (now (lengths .entry))
-        (take (length (now («left_b» .entry))) (now («right_b» .exit))) ⌝ }
+        RightEnds (now («left_b» .entry)) (take (length (now («left_a» .entry))) (now («right_b» .entry)))
+        (take (length (now («left_a» .entry))) (now («right_b» .exit))) ⌝ }
 {
-    work_out(left_a, lengths, right_a);
-    work_out(left_b, lengths, right_b);
+    work_out(left_a, left_b, right_a, right_b);
     refine_matches(
         left_a,
         &right_a[..left_a.len()],
         left_b,
-        &right_b[..left_b.len()],
+        &right_b[..left_a.len()],
         reversed,
         table,
         work,

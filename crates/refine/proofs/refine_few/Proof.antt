@@ -1,9 +1,8 @@
 -- `refine_few` meets its contract: its columns have room for the matches. Assumes nothing.
-use Rattle.refine.proofs.Calls.{few-roomy}
+use Rattle.refine.proofs.Calls.{short-roomy}
 use borrow.Author.Needs.{needs}
 use Rattle.refine.proofs.refine_few.Statement.{statement}
 use Rattle.refine.proofs.refine_few.Tie as tie
-use Rattle.refine.proofs.refine_in.Reads as refine-in-reads
 
 slice-aggregate-refine-in : tie.Need-slice-aggregate-refine-in
 slice-aggregate-refine-in c = search needs
@@ -20,11 +19,8 @@ slice-aggregate-refine-in-4 c = search needs
 slice-aggregate-refine-in-5 : tie.Need-slice-aggregate-refine-in-5
 slice-aggregate-refine-in-5 c = search needs
 
-slice-aggregate-refine-in-6 : tie.Need-slice-aggregate-refine-in-6
-slice-aggregate-refine-in-6 c = search needs
-
 refine-in-requires : tie.Need-refine-in-requires
-refine-in-requires c κs = search (needs, few-roomy)
+refine-in-requires c κs = search (needs, short-roomy 32)
 
 same-length : tie.Need-same-length
 same-length c = search needs
@@ -44,7 +40,6 @@ refine-few-spec =
     slice-aggregate-refine-in-3
     slice-aggregate-refine-in-4
     slice-aggregate-refine-in-5
-    slice-aggregate-refine-in-6
     refine-in-requires
     same-length
     same-length-2

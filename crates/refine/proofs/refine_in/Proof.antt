@@ -4,8 +4,6 @@ use Rattle.refine.proofs.Calls.{reaches, prefix-length, columns-fit, re
 use borrow.Author.Needs.{needs}
 use Rattle.refine.proofs.refine_in.Statement.{statement}
 use Rattle.refine.proofs.refine_in.Tie as tie
-use Rattle.reader.proofs.columns.read_columns.Reads as read-columns-reads
-use Rattle.refining_matches.proofs.refine_read.Reads as refine-read-reads
 
 read-columns-requires : tie.Need-read-columns-requires
 read-columns-requires c κs = search needs
@@ -33,12 +31,6 @@ slice-reshare-prefix-refine-read-3 c = search (needs, reaches)
 
 slice-aggregate-refine-read-3 : tie.Need-slice-aggregate-refine-read-3
 slice-aggregate-refine-read-3 c = search (needs, prefix-length)
-
-slice-reshare-prefix-refine-read-4 : tie.Need-slice-reshare-prefix-refine-read-4
-slice-reshare-prefix-refine-read-4 c = search (needs, reaches)
-
-slice-aggregate-refine-read-4 : tie.Need-slice-aggregate-refine-read-4
-slice-aggregate-refine-read-4 c = search (needs, prefix-length)
 
 -- the start, from the place where the script is read
 start-of : tie.After-read-columns → tie.Start
@@ -89,9 +81,6 @@ same-length-10 c = search needs
 same-length-11 : tie.Need-same-length-11
 same-length-11 c = search needs
 
-same-length-12 : tie.Need-same-length-12
-same-length-12 c = search needs
-
 returns-2 : tie.Need-returns-2
 unfolding start-of
 returns-2 c =
@@ -117,8 +106,6 @@ refine-in-spec =
     slice-aggregate-refine-read-2
     slice-reshare-prefix-refine-read-3
     slice-aggregate-refine-read-3
-    slice-reshare-prefix-refine-read-4
-    slice-aggregate-refine-read-4
     refine-read-requires
     same-length
     same-length-2
@@ -132,5 +119,4 @@ refine-in-spec =
     same-length-9
     same-length-10
     same-length-11
-    same-length-12
     returns-2)

@@ -3,7 +3,6 @@ use Rattle.refine.proofs.Calls.{many-roomy}
 use borrow.Author.Needs.{needs}
 use Rattle.refine.proofs.refine_many.Statement.{statement}
 use Rattle.refine.proofs.refine_many.Tie as tie
-use Rattle.refine.proofs.refine_in.Reads as refine-in-reads
 
 slice-aggregate-refine-in : tie.Need-slice-aggregate-refine-in
 slice-aggregate-refine-in c = search needs
@@ -19,9 +18,6 @@ slice-aggregate-refine-in-4 c = search needs
 
 slice-aggregate-refine-in-5 : tie.Need-slice-aggregate-refine-in-5
 slice-aggregate-refine-in-5 c = search needs
-
-slice-aggregate-refine-in-6 : tie.Need-slice-aggregate-refine-in-6
-slice-aggregate-refine-in-6 c = search needs
 
 refine-in-requires : tie.Need-refine-in-requires
 refine-in-requires c κs = search (needs, many-roomy)
@@ -44,7 +40,6 @@ refine-many-spec =
     slice-aggregate-refine-in-3
     slice-aggregate-refine-in-4
     slice-aggregate-refine-in-5
-    slice-aggregate-refine-in-6
     refine-in-requires
     same-length
     same-length-2

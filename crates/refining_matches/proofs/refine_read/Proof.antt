@@ -6,10 +6,10 @@ use Rattle.refining_matches.proofs.refine_read.Statement.{statement}
 use Rattle.refining_matches.proofs.refine_read.Tie as tie
 
 work-out-requires : tie.Need-work-out-requires
-work-out-requires c κs = search needs
-
-work-out-requires-2 : tie.Need-work-out-requires-2
-work-out-requires-2 c κs = search needs
+work-out-requires c κs =
+    let start : tie.Start = search in
+    let pre = start .pre in
+    (pre .0 .on-a, (pre .0 .on-b, pre .1 .1))
 
 slice-reshare-prefix-refine-matches : tie.Need-slice-reshare-prefix-refine-matches
 slice-reshare-prefix-refine-matches c = search needs
@@ -25,14 +25,11 @@ slice-aggregate-refine-matches-2 c = search needs
 
 refine-matches-requires : tie.Need-refine-matches-requires
 refine-matches-requires c κs =
-    let on-b : tie.After-work-out2 = search in
-    let on-a : tie.After-work-out = search in
+    let worked : tie.After-work-out = search in
     let start : tie.Start = search in
-    let a = start .args in (
-      worked-fit (a .left-a .now) (a .left-b .now) (a .lengths .now) (a .reversed .now) (on-a .work-out .ensures .0)
-          (on-b .work-out2 .ensures .0) (start .pre .0),
-      start .pre .1 .0,
-    )
+    let a = start .args in
+    let ends = worked .work-out .ensures in
+    (worked-fit (a .left-a .now) (a .left-b .now) _ (a .reversed .now) (start .pre .0) (ends .0) (ends .1), start .pre .1 .0)
 
 same-length : tie.Need-same-length
 same-length c = search needs
@@ -48,14 +45,14 @@ same-length-4 c = search needs
 
 returns : tie.Need-returns
 returns c =
-    let on-b : tie.After-work-out2 = search in
-    let on-a : tie.After-work-out = search in
+    let refined : tie.After-refine-matches = search in
+    let worked : tie.After-work-out = search in
     let start : tie.Start = search in
     let a = start .args in
-    let refined : tie.After-refine-matches = search in (
-      worked-refined (a .left-a .now) (a .left-b .now) (a .lengths .now) (a .reversed .now) (on-a .work-out .ensures .0)
-          (on-b .work-out2 .ensures .0) (a .table .now) (a .work .now) (refined .refine-matches .ensures),
-      (on-a .work-out .ensures .1, on-b .work-out2 .ensures .1),
+    let ends = worked .work-out .ensures in (
+      worked-refined (a .left-a .now) (a .left-b .now) _ (a .reversed .now) (start .pre .0) (ends .0) (ends .1)
+          (a .table .now) (a .work .now) (refined .refine-matches .ensures),
+      ends,
     )
 
 pub refine-read-spec : {M : Type 1} → statement M
@@ -63,7 +60,6 @@ refine-read-spec =
     tie.close
     (tie.spec
     work-out-requires
-    work-out-requires-2
     slice-reshare-prefix-refine-matches
     slice-aggregate-refine-matches
     slice-reshare-prefix-refine-matches-2

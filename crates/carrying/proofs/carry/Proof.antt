@@ -1,15 +1,10 @@
 -- `carry` meets its contract: it refuses what finding the match refuses and a position off the match, and carries any
 -- other. Assumes nothing.
-use Rattle.refine.proofs.Carried.{replied, found-refused, found-off, found-to, from-fits, to-fits, carry-room}
+use Rattle.carrying.proofs.Carried.{replied, found-refused, found-off, found-to, from-fits, to-fits, carry-room}
 use mathlib.Core.Path.{refl}
 use borrow.Author.Needs.{needs}
-use Rattle.refine.proofs.carrying.carry.Statement.{statement}
-use Rattle.refine.proofs.carrying.carry.Tie as tie
-use Rattle.reader.proofs.find.find_match.Reads as find-match-reads
-use Rattle.refinement.proofs.carry.Reads as carry-reads
-use Rattle.refinement.proofs.on_side.Reads as on-side-reads
-use Rattle.refinement.proofs.opposite.Reads as opposite-reads
-use Rattle.refinement.proofs.spans.Reads as spans-reads
+use Rattle.carrying.proofs.carry.Statement.{statement}
+use Rattle.carrying.proofs.carry.Tie as tie
 
 find-match-requires : tie.Need-find-match-requires
 find-match-requires c κs = search needs

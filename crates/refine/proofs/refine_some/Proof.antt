@@ -1,0 +1,46 @@
+-- `refine_some` meets its contract: its columns have room for the matches. Assumes nothing.
+use Rattle.refine.proofs.Calls.{short-roomy}
+use borrow.Author.Needs.{needs}
+use Rattle.refine.proofs.refine_some.Statement.{statement}
+use Rattle.refine.proofs.refine_some.Tie as tie
+
+slice-aggregate-refine-in : tie.Need-slice-aggregate-refine-in
+slice-aggregate-refine-in c = search needs
+
+slice-aggregate-refine-in-2 : tie.Need-slice-aggregate-refine-in-2
+slice-aggregate-refine-in-2 c = search needs
+
+slice-aggregate-refine-in-3 : tie.Need-slice-aggregate-refine-in-3
+slice-aggregate-refine-in-3 c = search needs
+
+slice-aggregate-refine-in-4 : tie.Need-slice-aggregate-refine-in-4
+slice-aggregate-refine-in-4 c = search needs
+
+slice-aggregate-refine-in-5 : tie.Need-slice-aggregate-refine-in-5
+slice-aggregate-refine-in-5 c = search needs
+
+refine-in-requires : tie.Need-refine-in-requires
+refine-in-requires c κs = search (needs, short-roomy 256)
+
+same-length : tie.Need-same-length
+same-length c = search needs
+
+same-length-2 : tie.Need-same-length-2
+same-length-2 c = search needs
+
+returns : tie.Need-returns
+returns c = search needs
+
+pub refine-some-spec : {M : Type 1} → statement M
+refine-some-spec =
+    tie.close
+    (tie.spec
+    slice-aggregate-refine-in
+    slice-aggregate-refine-in-2
+    slice-aggregate-refine-in-3
+    slice-aggregate-refine-in-4
+    slice-aggregate-refine-in-5
+    refine-in-requires
+    same-length
+    same-length-2
+    returns)
