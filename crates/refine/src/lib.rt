@@ -124,6 +124,19 @@ fn refine_many(script: &[u8], table: &mut [u32], work: &mut [u32]) -> Refined
     )
 }
 
+// Any script, in columns that are made for long ones. It is called from two places, so that its columns are in a frame of
+// their own: a short script has no use for it.
+pub fn refine_long(script: &[u8], table: &mut [u32], work: &mut [u32]) -> Refined
+    ensures { λ r. ⌜
+        ScriptRefined (now (script .entry)) (now (table .entry)) (now (work .entry)) r (now (table .exit))
+        (now (work .exit)) ⌝ }
+{
+    if script.len() <= MEDIUM_SCRIPT {
+        return refine_some(script, table, work);
+    }
+    refine_many(script, table, work)
+}
+
 // Makes the piece table of a script. Success gives the count of rows, which stand from the table's start.
 pub fn refine(script: &[u8], table: &mut [u32], work: &mut [u32]) -> Refined
     ensures reply { λ r. ⌜ r ≡ refiningOf (now (script .entry)) (now (table .entry)) (now (work .entry)) .reply ⌝ }
@@ -142,8 +155,5 @@ pub fn refine(script: &[u8], table: &mut [u32], work: &mut [u32]) -> Refined
     if script.len() <= SHORT_SCRIPT {
         return refine_few(script, table, work);
     }
-    if script.len() <= MEDIUM_SCRIPT {
-        return refine_some(script, table, work);
-    }
-    refine_many(script, table, work)
+    refine_long(script, table, work)
 }

@@ -1,18 +1,22 @@
 -- What refining in the lent buffers brings to the report.
+--     lent-room         no more rows than the lent table has
 --     report-refined    the report by the reply of refining and the table after it
 --     brief-reported    the reply of a try with a small table, and what line two ends in
 --     brief-admits      without one the script is admitted ..
 --     large-reported    .. and the reply is that of the large table
 -- Assumes nothing.
-use Prim.Native.Nat.{ℕ}
+use Prim.Native.Nat.{ℕ, _≤_}
 use mathlib.Core.Path.{_≡_, refl, sym, ap, ap₂, subst, _∙_}
 use mathlib.Core.List.{List}
 use Rattle.script.specs.Reading.{readScript, verdictOf}
 use Rattle.script.specs.declared.Verdict.{Verdict}
 use Rattle.script.proofs.Admitted.{holds-admitted}
-use Rattle.refining.specs.Refining.{refiningOf}
+use Rattle.refining.specs.Refining.{Refining, refiningOf}
 use Rattle.refining.specs.declared.answers.Refined.{Refined}
-use Rattle.reporting.specs.Reporting.{lentTable, lentWork, reportOf, reportOfReply, reportOfRefining}
+use Rattle.refine.specs.Calls.{ScriptRefined}
+use Rattle.refine.proofs.Calls.{refining-met}
+use Rattle.brief_report.proofs.Trying.{rows-room}
+use Rattle.reporting.specs.Reporting.{lentRows, lentTable, lentWork, reportOf, reportOfReply, reportOfRefining}
 use Rattle.reporting.specs.Reporting.{Reporting, reportingOfText, reportingOf, Briefly}
 use Rattle.reporting.specs.Covers.{CoversPrinted}
 use Rattle.reporting.specs.declared.Reported.{Reported}
@@ -27,17 +31,24 @@ report-admits script v =
     let held = holds-admitted script refl v in
     rw (held .read, held .counted)
 
+pub lent-room :
+    (script table work : List ℕ) {reply : Refined} {table′ work′ : List ℕ} {n : ℕ}
+    → ScriptRefined script table work reply table′ work′ → table ≡ lentTable → reply ≡ Refined.Rows n → n ≤ lentRows
+lent-room script table work refined t e = rows-room lentRows t (refining-met refined .1 .1 .1 .0 .stated) e
+
 pub report-refined :
-    (script text : List ℕ) (p q count : ℕ) {table work table′ : List ℕ} {reply told : Refined} {answer : Reporting}
+    (script text : List ℕ) (p q count : ℕ) {table work table′ work′ : List ℕ} {reply told : Refined}
+    {answer : Reporting}
     → verdictOf (readScript script) ≡ Verdict.Admitted p q count
     → table ≡ lentTable
     → work ≡ lentWork
-    → reply ≡ refiningOf script table work .reply
-    → table′ ≡ refiningOf script table work .table
+    → ScriptRefined script table work reply table′ work′
     → reply ≡ told
     → reportingOfText (reportOfReply p q count table′ told) text ≡ answer
     → reportingOf script text ≡ answer
-report-refined script text p q count admits t w replied wrote e printed =
+report-refined script text p q count admits t w refined e printed =
+    let replied = ap (λ (y : Refining). y .reply) refined in
+    let wrote = ap (λ (y : Refining). y .table) refined in
     let lent = ap₂ (λ (t w : List ℕ). reportOfRefining p q count (refiningOf script t w)) t w in
     let told = ap₂ (reportOfReply p q count) wrote (sym e ∙ replied) in
     ap (λ (b : List ℕ). reportingOfText b text) (report-admits script admits ∙ sym (told ∙ lent)) ∙ printed

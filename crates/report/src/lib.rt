@@ -2,7 +2,7 @@
 use brief_report::report_brief;
 use printing::print_refusal;
 use printing::print_table;
-use refine::refine;
+use refine::refine_long;
 use refining::answers::Refined;
 use reporting::Brief;
 use reporting::Reported;
@@ -38,7 +38,7 @@ fn report_admitted(script: &[u8], p: u32, q: u32, count: usize, text: &mut [u8])
 {
     let mut table = lent_table();
     let mut work = lent_work();
-    match refine(script, &mut table[..], &mut work[..]) {
+    match refine_long(script, &mut table[..], &mut work[..]) {
         Refined::Refused(refusal) => print_refusal(refusal, text),
         Refined::Rows(n) => print_table(p, q, count, &table[..ROW_WIDTH * n], text),
     }

@@ -17,8 +17,8 @@ same-length-2 c = search needs
 returns : tie.Need-returns
 returns c = search (needs, refining-met)
 
-refine-some-requires : tie.Need-refine-some-requires
-refine-some-requires c κs = search needs
+refine-long-requires : tie.Need-refine-long-requires
+refine-long-requires c κs = search needs
 
 same-length-3 : tie.Need-same-length-3
 same-length-3 c = search needs
@@ -29,18 +29,6 @@ same-length-4 c = search needs
 returns-2 : tie.Need-returns-2
 returns-2 c = search (needs, refining-met)
 
-refine-many-requires : tie.Need-refine-many-requires
-refine-many-requires c κs = search needs
-
-same-length-5 : tie.Need-same-length-5
-same-length-5 c = search needs
-
-same-length-6 : tie.Need-same-length-6
-same-length-6 c = search needs
-
-returns-3 : tie.Need-returns-3
-returns-3 c = search (needs, refining-met)
-
 pub refine-spec : {M : Type 1} → statement M
 refine-spec =
     tie.close
@@ -49,11 +37,7 @@ refine-spec =
     same-length
     same-length-2
     returns
-    refine-some-requires
+    refine-long-requires
     same-length-3
     same-length-4
-    returns-2
-    refine-many-requires
-    same-length-5
-    same-length-6
-    returns-3)
+    returns-2)

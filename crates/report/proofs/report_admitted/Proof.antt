@@ -5,8 +5,7 @@ use lib.ListN.{length-take}
 use borrow.Author.Needs.{needs}
 use Rattle.rows.proofs.TableRows.{rows-length}
 use Rattle.reporting.specs.Reporting.{lentRows}
-use Rattle.brief_report.proofs.Trying.{rows-room}
-use Rattle.report.proofs.Answers.{report-refined}
+use Rattle.report.proofs.Answers.{lent-room, report-refined}
 use Rattle.report.proofs.report_admitted.Statement.{statement}
 use Rattle.report.proofs.report_admitted.Tie as tie
 
@@ -16,14 +15,14 @@ lent-table-requires c κs = search needs
 lent-work-requires : tie.Need-lent-work-requires
 lent-work-requires c κs = search needs
 
-slice-aggregate-refine : tie.Need-slice-aggregate-refine
-slice-aggregate-refine c = search needs
+slice-aggregate-refine-long : tie.Need-slice-aggregate-refine-long
+slice-aggregate-refine-long c = search needs
 
-slice-aggregate-refine-2 : tie.Need-slice-aggregate-refine-2
-slice-aggregate-refine-2 c = search needs
+slice-aggregate-refine-long-2 : tie.Need-slice-aggregate-refine-long-2
+slice-aggregate-refine-long-2 c = search needs
 
-refine-requires : tie.Need-refine-requires
-refine-requires c κs = search needs
+refine-long-requires : tie.Need-refine-long-requires
+refine-long-requires c κs = search needs
 
 enum-known-refusal : tie.Need-enum-known-refusal
 enum-known-refusal c = search needs
@@ -35,20 +34,20 @@ enum-known-n : tie.Need-enum-known-n
 enum-known-n c = search needs
 
 mul-table : tie.Need-mul-table
-mul-table c = let few : c .before .n .given .0 .0 ≤ lentRows = search (needs, rows-room lentRows) in omega arith
+mul-table c = let few : c .before .n .given .0 .0 ≤ lentRows = search (needs, lent-room) in omega arith
 
 array-share-prefix-table : tie.Need-array-share-prefix-table
-array-share-prefix-table c = let few : c .before .n .given .0 .0 ≤ lentRows = search (needs, rows-room lentRows) in omega arith
+array-share-prefix-table c = let few : c .before .n .given .0 .0 ≤ lentRows = search (needs, lent-room) in omega arith
 
 slice-aggregate-print-table : tie.Need-slice-aggregate-print-table
 slice-aggregate-print-table c =
-    let few : c .before .before .n .given .0 .0 ≤ lentRows = search (needs, rows-room lentRows) in
+    let few : c .before .before .n .given .0 .0 ≤ lentRows = search (needs, lent-room) in
     simp length-take (omega arith)
 
 print-table-requires : tie.Need-print-table-requires
 print-table-requires c κs =
     let lent : tie.After-n = search in
-    let few : lent .n .given .0 .0 ≤ lentRows = search (needs, rows-room lentRows) in
+    let few : lent .n .given .0 .0 ≤ lentRows = search (needs, lent-room) in
     simp (rows-length, length-take) (omega arith)
 
 same-length : tie.Need-same-length
@@ -69,9 +68,9 @@ report-admitted-spec =
     (tie.spec
     lent-table-requires
     lent-work-requires
-    slice-aggregate-refine
-    slice-aggregate-refine-2
-    refine-requires
+    slice-aggregate-refine-long
+    slice-aggregate-refine-long-2
+    refine-long-requires
     enum-known-refusal
     print-refusal-requires
     enum-known-n
