@@ -4,6 +4,7 @@
 pub mod calls;
 pub mod door;
 pub mod draft;
+pub mod ends;
 pub mod groups;
 pub mod kinds;
 pub mod part;

@@ -1,7 +1,9 @@
 //! The slow program refines: the lines of 01 with their rows, the buffers, the order of refusals.
 
 use compare::draft::Draft;
+use compare::ends;
 use compare::slow::refusal::{Refusal, Word};
+use compare::slow::script::Match;
 use compare::slow::table::{refine, summary};
 
 const RUBBISH: u32 = 0xDEAD_BEEF;
@@ -214,4 +216,31 @@ fn too_many_pieces_are_refused_early() {
     });
     let (answer, _, _) = refined(&nested.end(), 15_000, 12_000);
     assert_eq!(answer, refused(Word::TooManyPieces, 0));
+}
+
+/// Each kind by a pair of matches that is of it, and by one that is not.
+#[test]
+fn right_ends_that_tell() {
+    let kinds = |matches: &[Match]| ends::of(matches);
+    let of = |left_a, left_b, length| Match {
+        left_a,
+        left_b,
+        length,
+        reversed: false,
+    };
+    let apart = [of(0, 0, 4), of(10, 10, 4)];
+    assert!(kinds(&apart).is_empty());
+    let touching = [of(0, 0, 4), of(4, 10, 4)];
+    assert_eq!(kinds(&touching), [ends::AT_AN_END]);
+    let on_a = [of(0, 0, 4), of(2, 10, 4)];
+    assert_eq!(kinds(&on_a), [ends::INSIDE_ON_A]);
+    let on_a_by_the_last = [of(2, 10, 4), of(0, 0, 4)];
+    assert_eq!(
+        kinds(&on_a_by_the_last),
+        [ends::INSIDE_ON_A, ends::OF_THE_LAST]
+    );
+    let on_b = [of(20, 0, 4), of(0, 2, 4)];
+    assert_eq!(kinds(&on_b), [ends::INSIDE_ON_B, ends::APART_ON_B]);
+    let met_by_two = [of(2, 10, 4), of(0, 20, 4), of(1, 30, 3)];
+    assert_eq!(kinds(&met_by_two), [ends::INSIDE_ON_A, ends::AT_AN_END]);
 }

@@ -1,6 +1,7 @@
 //! `notchergrey_refine` beside the slow program.
 
 use crate::door::{self, Refining};
+use crate::ends;
 use crate::groups;
 use crate::part::{same, same_all, Part};
 use crate::random::Random;
@@ -9,7 +10,7 @@ use crate::slow::refusal::Refusal;
 use crate::slow::report::ROWS;
 use crate::slow::script;
 use crate::slow::table::{self, NUMBERS_OF_A_ROW, WORK_OF_A_ROW};
-use crate::tally::{Need, Tally, REFUSALS_OF_SCRIPTS};
+use crate::tally::{Need, Outcome, Tally, REFUSALS_OF_SCRIPTS};
 
 pub const PART: Part<u8> = Part {
     name: "notchergrey_refine",
@@ -24,6 +25,11 @@ pub const PART: Part<u8> = Part {
             Need::success_with(ROWS),
             Need::refused(11, 10_000, 1),
             Need::refused(12, 10_000, 1),
+            Need::kind(ends::INSIDE_ON_A, 10_000, 8),
+            Need::kind(ends::INSIDE_ON_B, 10_000, 8),
+            Need::kind(ends::AT_AN_END, 10_000, 8),
+            Need::kind(ends::OF_THE_LAST, 5_000, 8),
+            Need::kind(ends::APART_ON_B, 2_000, 8),
         ],
         REFUSALS_OF_SCRIPTS,
     ],
@@ -56,6 +62,11 @@ fn compare_around_the_rows(
 ) -> Result<(), String> {
     for lengths in lengths_around_the_rows(bytes, random) {
         compare_one(bytes, lengths, random, tally)?;
+    }
+    if let Ok(script) = script::read(bytes) {
+        for kind in ends::of(&script.matches) {
+            tally.met_outcome(Outcome::Kind(kind), script.matches.len());
+        }
     }
     Ok(())
 }

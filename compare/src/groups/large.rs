@@ -38,6 +38,21 @@ pub fn staircases(random: &mut Random) -> Vec<Vec<u8>> {
     sizes.into_iter().map(&mut staircase).collect()
 }
 
+/// As many matches as the columns of a short and of a middling script hold, one more and one less. The
+/// last one cuts all others.
+pub fn around_the_columns(random: &mut Random) -> Vec<Vec<u8>> {
+    let counts = [31, 32, 33, 63, 64, 65, 255, 256, 257];
+    let mut cut_by_the_last = |count: u32| {
+        let length = random.between(3, 12);
+        let steps = count - 1;
+        let mut matches = staircase(random, steps, length);
+        matches.push(cutter(random, length, steps * length));
+        script(&matches)
+    };
+    let twice = counts.into_iter().cycle().take(2 * counts.len());
+    twice.map(&mut cut_by_the_last).collect()
+}
+
 /// Matches and zigzags that stand apart, with just so many rows in all.
 pub fn blocks(random: &mut Random) -> Vec<Vec<u8>> {
     let any = [(); 3].map(|()| random.count_between(1_000, ROWS));

@@ -124,6 +124,10 @@ pub const FEW_ROWS: Groups<u8> = &[
 pub const LARGE: Groups<u8> = &[
     group("zigzags of up to 3,000 rows", large::zigzags),
     group("staircases of up to 2,048 matches", large::staircases),
+    group(
+        "31 to 33, 63 to 65 and 255 to 257 matches, cut by the last",
+        large::around_the_columns,
+    ),
     group("1,000 to 3,001 rows in blocks", large::blocks),
     group("many matches, few overlaps", large::few_overlaps),
     group("2,048 matches that share no letter", large::no_overlaps),

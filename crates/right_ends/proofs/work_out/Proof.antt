@@ -35,7 +35,7 @@ add-right-a c =
     let in-loop : tie.In-loop Inv-loop μ-loop = search in
     let start : tie.Start Inv-loop μ-loop = search in
     let inv = in-loop .before .loop .inv in
-    record { fits = end-fits inv (in-loop .loop-test .taken) (start .pre .0) (inv .on-a .for-each) }
+    record { fits = end-fits inv (search needs) (start .pre .0) (inv .on-a .for-each) }
 
 mul-right-a-2 : tie.Need-mul-right-a-2 Inv-loop μ-loop
 mul-right-a-2 c = search needs
@@ -54,7 +54,7 @@ add-right-b c =
     let in-loop : tie.In-loop Inv-loop μ-loop = search in
     let start : tie.Start Inv-loop μ-loop = search in
     let inv = in-loop .before .loop .inv in
-    record { fits = end-fits inv (in-loop .loop-test .taken) (start .pre .1 .0) (inv .on-b .for-each) }
+    record { fits = end-fits inv (search needs) (start .pre .1 .0) (inv .on-b .for-each) }
 
 mul-right-b-2 : tie.Need-mul-right-b-2 Inv-loop μ-loop
 mul-right-b-2 c = search needs
@@ -71,7 +71,7 @@ loop-less c = search needs
 loop-again : tie.Need-loop-again Inv-loop μ-loop
 loop-again c =
     let in-loop : tie.In-loop Inv-loop μ-loop = search in
-    both-step (in-loop .before .loop .inv) (in-loop .loop-test .taken)
+    both-step (in-loop .before .loop .inv) (search needs)
 
 same-length : tie.Need-same-length Inv-loop μ-loop
 same-length c = c .before .loop .inv .on-a .long
