@@ -19,13 +19,7 @@ pub fn carry(script: &[u8], number: u32, side: Side, position: u32) -> Carried
             let from_right = from + found.length;
             let to_right = to + found.length;
             if refinement::spans(from, from_right, position) {
-                return Carried::To(refinement::carry(
-                    from,
-                    to,
-                    to_right,
-                    found.reversed,
-                    position,
-                ));
+                return Carried::To(refinement::carry(from, to, to_right, found.reversed, position));
             }
             Carried::Refused(Refusal::OffTheMatch)
         }

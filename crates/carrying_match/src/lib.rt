@@ -14,7 +14,7 @@ pub enum Worked {
 }
 
 // Carries the newly found cuts that one match spans: they follow each other in the run. The match is given by its ends
-// on the two sides, which are equally far apart. The hits are tested before they are counted, so they never pass `most`.
+// on the two sides, which are equally far apart. The hits are tested before they are counted: they never pass `most`.
 pub fn carry_match(
     work: &mut [u32],
     from: CutSet,

@@ -86,10 +86,30 @@ fn drive(
             }
             Closing::TooMany => return Closed::TooMany,
             Closing::MoreA(c) => {
-                closing = a_step(left_a, right_a, left_b, right_b, reversed, work, c, capacity, BUDGET);
+                closing = a_step(
+                    left_a,
+                    right_a,
+                    left_b,
+                    right_b,
+                    reversed,
+                    work,
+                    c,
+                    capacity,
+                    BUDGET,
+                );
             }
             Closing::MoreB(c) => {
-                closing = b_step(left_a, right_a, left_b, right_b, reversed, work, c, capacity, BUDGET);
+                closing = b_step(
+                    left_a,
+                    right_a,
+                    left_b,
+                    right_b,
+                    reversed,
+                    work,
+                    c,
+                    capacity,
+                    BUDGET,
+                );
             }
         }
     }
@@ -126,7 +146,16 @@ pub fn close(
                 hits_a: 0,
                 hits_b: 0,
             };
-            drive(left_a, right_a, left_b, right_b, reversed, work, cuts, capacity)
+            drive(
+                left_a,
+                right_a,
+                left_b,
+                right_b,
+                reversed,
+                work,
+                cuts,
+                capacity,
+            )
         }
     }
 }

@@ -118,7 +118,7 @@ pub read-refused :
 read-refused script table work e v is =
     rw is (sym (refining-refused script table work (reading-refused script e v)))
 
--- columns of n have room for n matches: for those of a script with the bytes of n, and where n is 2,048 for those of any
+-- columns of n have room for n matches: those of a script with the bytes of n, and where n is 2,048 those of any
 roomy-in :
     (n : ℕ) {s f g t u : List ℕ} {r : List Bool} → length (matchesRead (readScript s)) ≤ n → length f ≡ n
     → length g ≡ n → length t ≡ n → length u ≡ n → length r ≡ n → Roomy s f g t u r

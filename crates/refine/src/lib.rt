@@ -13,12 +13,14 @@ ghost use Rattle.refining.specs.Refining.{refiningOf};
 ghost use Rattle.refine.specs.Calls.{Roomy, ScriptRefined, bytesOf};
 ghost use Rattle.refining.specs.Demands.{answerOf, Demand1, Demand2, Demand3};
 
-// Columns of these lengths take scripts of few and of some matches: to make longer ones would be most of the work on them.
+// Columns of these lengths take scripts of few and of some matches: to make longer ones would be most of the work.
 const FEW_MATCHES: usize = 32;
+
 const SOME_MATCHES: usize = 256;
 
 // Lengths, that many matches, end.
 const SHORT_SCRIPT: usize = LENGTHS_WIDTH + MATCH_WIDTH * FEW_MATCHES + 1;
+
 const MEDIUM_SCRIPT: usize = LENGTHS_WIDTH + MATCH_WIDTH * SOME_MATCHES + 1;
 
 // Reads the script into columns that have room for its matches, and refines them. The lengths come into the column of
@@ -124,8 +126,8 @@ fn refine_many(script: &[u8], table: &mut [u32], work: &mut [u32]) -> Refined
     )
 }
 
-// Any script, in columns that are made for long ones. It is called from two places, so that its columns are in a frame of
-// their own: a short script has no use for it.
+// Any script, in columns that are made for long ones. It is called from two places, so that these are in a frame of its
+// own: a short script has no use for it.
 pub fn refine_long(script: &[u8], table: &mut [u32], work: &mut [u32]) -> Refined
     ensures { λ r. ⌜
         ScriptRefined (now (script .entry)) (now (table .entry)) (now (work .entry)) r (now (table .exit))

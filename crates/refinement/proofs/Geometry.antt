@@ -227,7 +227,8 @@ ends-span m s h e =
     let same = between-spanned (left m s) (m .length) e h in
     (λ t. spanned-iff m s h .0 (sym same ∙ t), λ t. same ∙ spanned-iff m s h .1 t)
 
-pub answer-kept : (i g h : ℕ) {answer : Bool} → answer ≡ between i g h → (answer ≡ between i g h) × AnswerKept i g h answer
+pub answer-kept :
+    (i g h : ℕ) {answer : Bool} → answer ≡ between i g h → (answer ≡ between i g h) × AnswerKept i g h answer
 answer-kept i g h a = (
   a,
   record {

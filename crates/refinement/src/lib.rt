@@ -45,9 +45,5 @@ pub fn carry(from: u32, to: u32, to_right: u32, reversed: bool, position: u32) -
     ensures { λ r. ⌜ r ≡ carryTo reversed from to «to_right» position ⌝ }
 {
     let past = position - from;
-    if reversed {
-        to_right - past
-    } else {
-        to + past
-    }
+    if reversed { to_right - past } else { to + past }
 }

@@ -99,8 +99,8 @@ fn refine_matches(
     answer
 }
 
-// The matches of an admitted script as they are read, with their lengths in the front of `right_b`. Their right ends are
-// worked out here, once for each match and before any position is tried. Behind this call there are no lengths.
+// The matches of an admitted script as they are read, with their lengths in the front of `right_b`. Their right ends
+// are worked out here, once for each match and before any position is tried. Behind this call there are no lengths.
 pub fn refine_read(
     left_a: &[u32],
     right_a: &mut [u32],

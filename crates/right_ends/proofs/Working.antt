@@ -1,5 +1,5 @@
--- The loop that works out the right ends of one match after the other. The lengths stand in the front of the column on B,
--- where each gives way to the right end of its match.
+-- The loop that works out the right ends of one match after the other. The lengths stand in the front of the column on
+-- B, where each gives way to the right end of its match.
 --     Worked          of either side's column: the first k are left plus length
 --     Waiting         of the column on B: from k on it has the lengths yet
 --     worked-start, worked-step, worked-end     where a column begins, one match more, and the end

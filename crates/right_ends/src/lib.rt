@@ -1,5 +1,4 @@
 // The right ends of the matches on both sides, worked out once for each match, before any position is tried.
-ghost use mathlib.Core.Path.{_≡_};
 ghost use Prim.Native.Nat.{_≤_};
 ghost use lib.ListN.{length, take};
 ghost use Rattle.refining.specs.Columns.{Ends, RightEnds};

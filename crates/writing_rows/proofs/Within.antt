@@ -84,7 +84,8 @@ module _ {work : List ℕ} {lo hi i g first last : ℕ} (ends : i ≤ g) (run : 
       ap (within i g) (slice-cons p hi work 0 (omega arith) (run .within))
       ∙ elim (decLt last p) [
         | yes h ↦
-            within-above i g rest least (omega (arith, at-right .1, run .rising last p (right-bound .from) h (omega arith)))
+            within-above i g rest least
+            (omega (arith, at-right .1, run .rising last p (right-bound .from) h (omega arith)))
             ∙ later ∙ slice-past (suc p) (suc last) work (omega arith) ∙ sym (slice-past p (suc last) work h)
         | no h ↦
             within-on i g rest least (elim (decLt p last) [

@@ -46,7 +46,6 @@ carry-requires c κs =
     (at-found .found .given .1) (on-from .on-side .ensures) refl (flipped .opposite .ensures) (on-to .on-side2 .ensures)
     refl refl (c .before .spans .ensures .0) (c .if1 .taken)
 
-
 returns : tie.Need-returns
 returns c =
     let carried : tie.After-carry = search in
@@ -76,7 +75,6 @@ returns-3 c =
     replied
     (found-off (a .script .now) (a .number) (a .side) (a .position) (told .find-match .ensures .0)
     (at-found .found .given .1) (on-from .on-side .ensures) refl refl (c .before .spans .ensures .0) (c .if1 .left))
-
 
 pub carry-spec : {M : Type 1} → statement M
 carry-spec =

@@ -12,11 +12,11 @@ use Rattle.carrying_cuts.proofs.carry_found.Statement.{statement}
 use Rattle.carrying_cuts.proofs.carry_found.Tie as tie
 
 abbrev Inv-loop : tie.InvT-loop
-Inv-loop lefts rights other-lefts other-rights reversed work₀ from hits most lowest highest set₀ count₀ k₀ work set count k =
+Inv-loop lefts rights other-lefts other-rights reversed work₀ from hits most low high set₀ count₀ k₀ work set count k =
     Passed (columnsOf lefts rights other-lefts other-rights reversed) work₀ from set₀ hits most work set count k
 
 abbrev μ-loop : tie.MeasureT-loop
-μ-loop lefts rights other-lefts other-rights reversed work₀ from hits most lowest highest set₀ count₀ k₀ work set count k =
+μ-loop lefts rights other-lefts other-rights reversed work₀ from hits most low high set₀ count₀ k₀ work set count k =
     List.length reversed - k
 
 -- the start, from the place where the lowest cut is known

@@ -11,7 +11,8 @@ use Rattle.closing.proofs.drive.Tie as tie
 
 abbrev Inv-loop : tie.InvT-loop
 Inv-loop left-a right-a left-b right-b reversed work₀ capacity closing₀ work closing =
-    (List.length work ≡ List.length work₀) × Driving (columnsOf left-a right-a left-b right-b reversed) capacity work closing
+    (List.length work ≡ List.length work₀)
+    × Driving (columnsOf left-a right-a left-b right-b reversed) capacity work closing
 
 abbrev μ-loop : tie.MeasureT-loop
 μ-loop left-a right-a left-b right-b reversed work₀ capacity closing₀ work closing = pending closing
@@ -76,7 +77,7 @@ loop-again c =
     let args = start .args in (
       search needs,
       stepped-driving (columnsOf (args .left-a .now) (args .right-a .now) (args .left-b .now) (args .right-b .now)
-    (args .reversed .now))
+          (args .reversed .now))
           (args .capacity) (due .0 .0) (step .last .1 .1 .1 .1 .1 .0) (step .result) (step .ensures),
     )
 
@@ -111,7 +112,7 @@ loop-again-2 c =
     let args = start .args in (
       search needs,
       stepped-driving (columnsOf (args .left-a .now) (args .right-a .now) (args .left-b .now) (args .right-b .now)
-    (args .reversed .now))
+          (args .reversed .now))
           (args .capacity) (due .0 .0) (step .last .1 .1 .1 .1 .1 .0) (step .result) (step .ensures),
     )
 

@@ -1,7 +1,6 @@
 -- `seed` meets its contract. The loop keeps `Sown`: the ends of the first k matches are added. Assumes nothing.
 use Prim.Native.Nat.{_-_}
 use mathlib.Core.Path.{_∙_}
-use native.Mathlib.Omega.{arith}
 use lib.ListN as List
 use borrow.Author.Needs.{needs}
 use Rattle.closing.proofs.Seeds.{Sown, sown-start, sown-step, sown-full, sown-end}

@@ -29,7 +29,8 @@ refine-matches-requires c κs =
     let start : tie.Start = search in
     let a = start .args in
     let ends = worked .work-out .ensures in
-    (worked-fit (a .left-a .now) (a .left-b .now) _ (a .reversed .now) (start .pre .0) (ends .0) (ends .1), start .pre .1 .0)
+    let fit = worked-fit (a .left-a .now) (a .left-b .now) _ (a .reversed .now) (start .pre .0) (ends .0) (ends .1) in
+    (fit, start .pre .1 .0)
 
 same-length : tie.Need-same-length
 same-length c = search needs

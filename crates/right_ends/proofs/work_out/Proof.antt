@@ -1,4 +1,5 @@
--- `work_out` meets its contract. The loop keeps `BothWorked`; its measure is the matches that are left. Assumes nothing.
+-- `work_out` meets its contract. The loop keeps `BothWorked`; its measure is the matches that are left.
+-- Assumes nothing.
 use Prim.Native.Nat.{_-_}
 use lib.ListN as List
 use borrow.Author.Needs.{needs}
@@ -7,7 +8,8 @@ use Rattle.right_ends.proofs.work_out.Statement.{statement}
 use Rattle.right_ends.proofs.work_out.Tie as tie
 
 abbrev Inv-loop : tie.InvT-loop
-Inv-loop left-a left-b right-a₀ right-b₀ k₀ right-a right-b k = BothWorked left-a left-b right-a₀ right-b₀ right-a right-b k
+Inv-loop left-a left-b right-a₀ right-b₀ k₀ right-a right-b k =
+    BothWorked left-a left-b right-a₀ right-b₀ right-a right-b k
 
 abbrev μ-loop : tie.MeasureT-loop
 μ-loop left-a left-b right-a₀ right-b₀ k₀ right-a right-b k = List.length left-a - k

@@ -11,7 +11,8 @@ use Rattle.writing_rows.proofs.write_match.Tie as tie
 
 abbrev Inv-loop : tie.InvT-loop
 Inv-loop work first last number left-a left-b right-b reversed table₀ row at₀ next₀ table at next =
-    Remaining (matchAB number left-a left-b (right-b - left-b) reversed) right-b work first last row table₀ table at next
+    Remaining (matchAB number left-a left-b (right-b - left-b) reversed) right-b work first last row table₀ table at
+    next
 
 abbrev μ-loop : tie.MeasureT-loop
 μ-loop work first last number left-a left-b right-b reversed table₀ row at₀ next₀ table at next = last - at

@@ -1,11 +1,11 @@
 -- The loop over the matches keeps `Done`: the rows of the matches so far are written. The cuts that a match spans stand
 -- between the lower bounds of its ends. The measure is how many matches are left. Assumes nothing.
 use Prim.Native.Nat.{_-_}
-use native.Mathlib.Omega.{arith}
 use borrow.Author.Needs.{needs}
 use lib.ListN.{length}
 use Rattle.refining.specs.Columns.{columnsOf}
-use Rattle.writing_rows.proofs.Placing.{Done, done-start, done-long, done-cuts, done-ends, done-room, done-step, done-end}
+use Rattle.writing_rows.proofs.Placing.{Done, done-start, done-long, done-cuts, done-ends, done-room}
+use Rattle.writing_rows.proofs.Placing.{done-step, done-end}
 use Rattle.writing_rows.proofs.write_rows.Statement.{statement}
 use Rattle.writing_rows.proofs.write_rows.Tie as tie
 
