@@ -4,9 +4,8 @@
 --     found-off         a position off the match is 14
 --     found-to          a position that the match spans is carried
 --     from-fits, to-fits    the right ends of a match that is found fit 32 bits
---     carry-room        a position that it spans is carried no further than its right end
 -- Assumes nothing.
-use Prim.Native.Nat.{ℕ, _+_, _-_, _^_, _≤_, _<_}
+use Prim.Native.Nat.{ℕ, _+_, _^_, _<_}
 use mathlib.Core.Path.{_≡_, sym, ap, _∙_}
 use mathlib.Core.Bool.{Bool, true, false}
 use mathlib.Core.List.{List}
@@ -19,7 +18,7 @@ use Rattle.script.specs.declared.refusal.Refusal.{Refusal}
 use Rattle.script.specs.declared.refusal.Refusal.the-variants.{OffTheMatch}
 use Rattle.refinement.specs.declared.Side.{Side}
 use Rattle.refinement.specs.Match.{other, onSide, spanned, between, carryTo}
-use Rattle.refinement.proofs.Geometry.{between-bounds, between-spanned, carry-ends}
+use Rattle.refinement.proofs.Geometry.{between-spanned, carry-ends}
 use Rattle.refining.specs.Carrying.{carryingOf, carriedAnswer, CarryingDemand}
 use Rattle.refining.specs.declared.answers.Carried.{Carried}
 use Rattle.refining.proofs.CarryingOutcome.{carrying-refused, carrying-off, carrying-to, carrying-demand, found-fits}
@@ -61,11 +60,6 @@ module _ (script : List ℕ) (number : ℕ) (side : Side) (position : ℕ) {find
       module _ {from-right to-right : ℕ} {spans : Bool} (from-right-is : from-right ≡ from + letters)
           (to-right-is : to-right ≡ to + letters) (spans-is : spans ≡ between from from-right position)
           (on : spans ≡ true) where
-        pub carry-room : (from ≤ position) × (to + (position - from) ≤ to-right)
-        carry-room =
-            let bounds = between-bounds from from-right position (sym spans-is ∙ on) in
-            (bounds .0, omega (arith, bounds .0, bounds .1))
-
         pub found-to : {y : ℕ} {reply : Carried} → y ≡ carryTo (x .reversed) from to to-right position
             → reply ≡ Carried.To y → reply ≡ carryingOf script number side position
         found-to carried is =

@@ -2,9 +2,8 @@
 --     Walked              the invariant: the cuts at [lo, at) are carried
 --     walk-start, walk-step, walk-too-much     where it begins, one cut more, and no room for one more
 --     walk-over, walk-break                    the run is at its end, or its next cut is not spanned
---     image-room          a spanned cut is carried no further than the right end on the other side
 -- Assumes nothing.
-use Prim.Native.Nat.{ℕ, suc, _+_, _-_, _≤_, _<_}
+use Prim.Native.Nat.{ℕ, suc, _+_, _≤_, _<_}
 use native.Mathlib.Omega.{arith}
 use mathlib.Core.Path.{_≡_, refl, sym, ap, _∙_}
 use mathlib.Core.Bool.{Bool, true, false, true≢false}
@@ -40,10 +39,6 @@ module _ {i g k l : ℕ} {b : Bool} {xs : List ℕ} where
       {lo hi low high y : ℕ} → low ≤ lo → hi ≤ high → ImageBy i g k l b (In xs lo hi) y
       → ImageBy i g k l b (In xs low high) y
   image-wide p q m = record { x = m .x; carried = in-wide p q (m .carried); spans = m .spans; is = m .is }
-
-pub image-room :
-    (i g k l h : ℕ) → k + (g - i) ≡ l → between i g h ≡ true → (i ≤ h) × (k + (h - i) ≤ l)
-image-room i g k l h e s = let on = between-bounds i g h s in (on .0, omega (arith, on .0, on .1))
 
 pub walk-start :
     {i g k l : ℕ} {b : Bool} {xs : List ℕ} {from to : CutSet} {lo end hits most : ℕ} → Ready xs from to

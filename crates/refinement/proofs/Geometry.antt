@@ -12,7 +12,7 @@
 --     between-bounds, -below, -from                  the test of the code, given two ends
 --     spanned-iff, between-spanned, ends-span        .. and given a length: each is Spans, and they answer alike
 --     answer-kept              so the test's answer is kept for each match and position
---     carry-ends               the formula of the code, given the ends that it carries to, is 01's
+--     carry-ends, carry-room   the code's formula, given the ends there, is 01's, and goes no further than these
 -- Assumes nothing.
 use Prim.Native.Nat.{ℕ, suc, _+_, _-_, _≤_, _<_, min}
 use mathlib.Core.Path.{_≡_, refl, sym, subst, ap, _∙_}
@@ -240,3 +240,7 @@ answer-kept i g h a = (
 pub carry-ends : (b : Bool) (i k d h : ℕ) {l : ℕ} → l ≡ k + d → carryTo b i k l h ≡ carryOver b i k d h
 carry-ends false i k d h e = refl
 carry-ends true i k d h e = ap (λ (z : ℕ). z - (h - i)) e
+
+pub carry-room :
+    (i g k l h : ℕ) → k + (g - i) ≡ l → between i g h ≡ true → (i ≤ h) × (k + (h - i) ≤ l)
+carry-room i g k l h e s = let on = between-bounds i g h s in (on .0, omega (arith, on .0, on .1))

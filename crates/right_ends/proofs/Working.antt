@@ -76,7 +76,7 @@ module _ {f t before-a before-b : List ℕ} where
 
   module _ {a b : List ℕ} {k : ℕ} (w : BothWorked f t before-a before-b a b k) (l : k < length f) where
     -- the length that waits is that of the match
-    pub waits : getD b k 0 ≡ getD (front f before-b) k 0
+    waits : getD b k 0 ≡ getD (front f before-b) k 0
     waits = w .yet .yet k (omega arith) l
 
     pub end-fits : {e : List ℕ} → Ends e (front f before-b) → length f ≡ length e → getD e k 0 + getD b k 0 < 2 ^ 32

@@ -1,8 +1,10 @@
 -- `carry` meets its contract: it refuses what finding the match refuses and a position off the match, and carries any
 -- other. Assumes nothing.
-use Rattle.carrying.proofs.Carried.{replied, found-refused, found-off, found-to, from-fits, to-fits, carry-room}
-use mathlib.Core.Path.{refl}
+use Rattle.carrying.proofs.Carried.{replied, found-refused, found-off, found-to, from-fits, to-fits}
+use native.Mathlib.Omega.{arith}
+use mathlib.Core.Path.{refl, sym, _∙_}
 use borrow.Author.Needs.{needs}
+use Rattle.refinement.proofs.Geometry.{carry-room}
 use Rattle.carrying.proofs.carry.Statement.{statement}
 use Rattle.carrying.proofs.carry.Tie as tie
 
@@ -35,16 +37,8 @@ spans-requires c κs = search needs
 
 carry-requires : tie.Need-carry-requires
 carry-requires c κs =
-    let at-found : tie.After-found = search in
-    let told : tie.After-find-match = search in
-    let on-from : tie.After-on-side = search in
-    let flipped : tie.After-opposite = search in
-    let on-to : tie.After-on-side2 = search in
     let start : tie.Start = search in
-    let a = start .args in
-    carry-room (a .script .now) (a .number) (a .side) (a .position) (told .find-match .ensures .0)
-    (at-found .found .given .1) (on-from .on-side .ensures) refl (flipped .opposite .ensures) (on-to .on-side2 .ensures)
-    refl refl (c .before .spans .ensures .0) (c .if1 .taken)
+    carry-room _ _ _ _ (start .args .position) (omega arith) (sym (c .before .spans .ensures .0) ∙ c .if1 .taken)
 
 returns : tie.Need-returns
 returns c =

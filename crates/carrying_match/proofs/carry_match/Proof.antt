@@ -4,10 +4,10 @@ use native.Mathlib.Omega.{arith}
 use mathlib.Core.Path.{refl, sym, _∙_}
 use borrow.Author.Needs.{needs}
 use borrow.Author.Tests.{not-true, not-false}
+use Rattle.refinement.proofs.Geometry.{carry-room}
 use Rattle.cut_set.proofs.Laws.{stored-same}
 use Rattle.carrying_match.specs.OneMatch.{TooMuch}
 use Rattle.carrying_match.proofs.Storing.{too-much-crowded}
-use Rattle.carrying_match.proofs.Walking.{image-room}
 use Rattle.carrying_match.proofs.Walking.{Walked, walk-start, walk-step, walk-too-much, walk-over, walk-break}
 use Rattle.carrying_match.proofs.carry_match.Statement.{statement}
 use Rattle.carrying_match.proofs.carry_match.Tie as tie
@@ -57,7 +57,7 @@ carry-requires c κs =
     let start : tie.Start Inv-loop μ-loop = search in
     let a = start .args in
     let spans = c .before .before .spans in
-    image-room (a .left) (a .right) (a .other-left) (a .other-right) _ (start .pre .1 .1 .0)
+    carry-room (a .left) (a .right) (a .other-left) (a .other-right) _ (start .pre .1 .1 .0)
     (sym (spans .ensures .0) ∙ not-false (spans .result) (c .before .if1 .left))
 
 add-requires : tie.Need-add-requires Inv-loop μ-loop
