@@ -1,9 +1,8 @@
 -- The loop that works out the right ends of one match after the other. The lengths stand in the front of the column on
 -- B, where each gives way to the right end of its match.
 --     Worked          of either side's column: the first k are left plus length
---     Waiting         of the column on B: from k on it has the lengths yet
 --     worked-start, worked-step, worked-end     where a column begins, one match more, and the end
---     BothWorked      the loop's invariant: all three
+--     BothWorked      the loop's invariant: so it is of both columns, and from k on that on B has the lengths yet
 --     both-start, both-step, both-end           where the loop begins, one match more, and the end
 --     end-fits        a right end that is due fits 32 bits
 -- Assumes nothing.
@@ -22,9 +21,6 @@ pub record Worked (f d before g : List ℕ) (n k : ℕ) : Type 0 where
   pub room : n ≤ length before
   pub long : length g ≡ length before
   pub so-far : (j : ℕ) → j < k → getD g j 0 ≡ getD f j 0 + getD d j 0
-
-pub record Waiting (d g : List ℕ) (n k : ℕ) : Type 0 where
-  pub yet : (j : ℕ) → k ≤ j → j < n → getD g j 0 ≡ getD d j 0
 
 module _ {f d before : List ℕ} {n : ℕ} where
   pub worked-start : n ≡ length f → n ≤ length before → Worked f d before before n 0
@@ -62,7 +58,7 @@ front f column = take (length f) column
 pub record BothWorked (f t before-a before-b a b : List ℕ) (k : ℕ) : Type 0 where
   pub on-a : Worked f (front f before-b) before-a a (length f) k
   pub on-b : Worked t (front f before-b) before-b b (length f) k
-  pub yet : Waiting (front f before-b) b (length f) k
+  pub yet : (j : ℕ) → k ≤ j → j < length f → getD b j 0 ≡ getD (front f before-b) j 0
 
 module _ {f t before-a before-b : List ℕ} where
   pub both-start :
@@ -71,13 +67,13 @@ module _ {f t before-a before-b : List ℕ} where
   both-start on-a on-b room-a room-b = record {
     on-a = worked-start refl room-a;
     on-b = worked-start (on-a .same-length ∙ sym (on-b .same-length)) room-b;
-    yet = record { yet = λ j l u. sym (getD-take (length f) before-b j 0 u) };
+    yet = λ j l u. sym (getD-take (length f) before-b j 0 u);
   }
 
   module _ {a b : List ℕ} {k : ℕ} (w : BothWorked f t before-a before-b a b k) (l : k < length f) where
     -- the length that waits is that of the match
     waits : getD b k 0 ≡ getD (front f before-b) k 0
-    waits = w .yet .yet k (omega arith) l
+    waits = w .yet k (omega arith) l
 
     pub end-fits : {e : List ℕ} → Ends e (front f before-b) → length f ≡ length e → getD e k 0 + getD b k 0 < 2 ^ 32
     end-fits ends n = omega (arith, ends .fits k (omega (arith, ends .same-length)), waits)
@@ -87,10 +83,7 @@ module _ {f t before-a before-b : List ℕ} where
     both-step = record {
       on-a = worked-step a (w .on-a) l (omega (arith, waits));
       on-b = worked-step b (w .on-b) l (omega (arith, waits));
-      yet = record {
-        yet = λ j m u.
-            getD-set-other b k j (getD t k 0 + getD b k 0) 0 (λ e. omega arith) ∙ w .yet .yet j (omega arith) u;
-      };
+      yet = λ j m u. getD-set-other b k j (getD t k 0 + getD b k 0) 0 (λ e. omega arith) ∙ w .yet j (omega arith) u;
     }
 
   pub both-end :
