@@ -1,3 +1,4 @@
--- The lemmas that belong to no one function. Laws is for the crates above.
-pub mod Storing
+pub mod Gathering
 pub mod Laws
+pub mod Sieving
+pub mod Storing

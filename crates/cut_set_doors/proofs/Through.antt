@@ -4,7 +4,7 @@
 --     held-through, full-through     of adding, where the set has the number, and where there was no room for it
 -- Assumes nothing.
 use Prim.Native.Nat.{ℕ}
-use mathlib.Core.Path.{_≡_, refl, sym}
+use mathlib.Core.Path.{_≡_, sym}
 use mathlib.Core.Bool.{true, false, true≢false}
 use mathlib.Core.List.{List}
 use Rattle.cut_set.specs.Store.{Emptied, Gathered, AllFinished, Joined, Adding}
@@ -33,12 +33,10 @@ module _ {a a′ es : List ℕ} {x : ℕ} {s : CutSet} {r : Added} (read : s ≡
   held-through told written h = record {
     held = λ e. rw (written, ← read) (rw told at h);
     full = λ e. absurd (true≢false e);
-    kept = λ e. absurd (true≢false e);
   }
 
-  pub full-through : r ≡ Full → Adding a s x a′ r → AddedBy a es x a′ es false
-  full-through told h = let crowded = rw told at h in record {
+  pub full-through : {fs : List ℕ} → r ≡ Full → Adding a s x a′ r → AddedBy a es x a′ fs false
+  full-through told h = record {
     held = λ e. absurd (true≢false (sym e));
-    full = λ e. rw (← read) (crowded .0);
-    kept = λ e. (crowded .1, refl);
+    full = λ e. rw (← read) (rw told at h);
   }

@@ -1,7 +1,7 @@
--- The bookkeeping of a set as six numbers in a slice, for callers in C and Rust. TO READ: contracts mean what stands
+-- The bookkeeping of a set as eight numbers in a slice, for callers in C and Rust. TO READ: contracts mean what stands
 -- here.
---     setOf               the set that six numbers say
---     Lent                a slice and six numbers that keep a set in it
+--     setOf               the set that eight numbers say
+--     Lent                a slice and eight numbers that keep a set in it
 --     AddedBy             what adding a number does, by its answer
 -- Assumes nothing.
 use Prim.Native.Nat.{ℕ, _≤_}
@@ -10,26 +10,27 @@ use mathlib.Core.List.{List}
 use mathlib.Core.Bool.{Bool, true, false}
 use lib.ListN.{length, getD}
 use Rattle.cut_set.specs.declared.CutSet.{CutSet}
-use Rattle.cut_set.specs.Store.{Good, AddedTo, Crowded}
+use Rattle.cut_set.specs.Store.{Good, Stored, CrowdedSet}
 
 -- the set whose fields are the numbers of es, in order
 abbrev pub setOf : List ℕ → CutSet
 setOf es = record {
   base = getD es 0 0;
   long = getD es 1 0;
-  done = getD es 2 0;
-  fresh = getD es 3 0;
-  used = getD es 4 0;
-  limit = getD es 5 0;
+  mid = getD es 2 0;
+  done = getD es 3 0;
+  fresh = getD es 4 0;
+  used = getD es 5 0;
+  top = getD es 6 0;
+  limit = getD es 7 0;
 }
 
--- es has room for the six numbers, and they keep a set in xs
+-- es has room for the eight numbers, and they keep a set in xs
 pub record Lent (xs es : List ℕ) : Type 0 where
-  pub six : 6 ≤ length es
+  pub eight : 8 ≤ length es
   pub good : Good xs (setOf es)
 
--- what adding x does, by its answer: true where the set has x, false where there was no room
+-- what adding x does, by its answer: true where the set has x, false where there was no room, even once it was gathered
 pub record AddedBy (xs es : List ℕ) (x : ℕ) (ys fs : List ℕ) (r : Bool) : Type 0 where
-  pub held : r ≡ true → AddedTo xs (setOf es) x ys (setOf fs)
-  pub full : r ≡ false → Crowded (λ y. y ≡ x) xs (setOf es)
-  pub kept : r ≡ false → (ys ≡ xs) × (fs ≡ es)
+  pub held : r ≡ true → Stored (λ y. y ≡ x) xs (setOf es) ys (setOf fs)
+  pub full : r ≡ false → CrowdedSet (λ y. y ≡ x) xs (setOf es) ys

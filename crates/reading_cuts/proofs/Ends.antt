@@ -33,8 +33,8 @@ module _ {xs : List ℕ} {lo hi : ℕ} (up : RisingIn xs lo hi) where
 module _ {xs : List ℕ} {s : CutSet} (f : SomeFound xs s) where
   some-below : s .done < s .used
   some-below =
-      let order = f .good .found-long .order in
-      let later = f .good .found-short .order in
+      let order = f .good .found-run .order in
+      let later = f .good .added in
       elim (decLt (s .done) (s .used)) [ yes l ↦ l | no n ↦ absurd (f .some (omega arith)) ]
 
   pub lowest-is : Lowest xs s (getD xs (s .done) 0)

@@ -2,6 +2,7 @@
 // gathered into one run, and all of them, once they are joined.
 use cut_set::CutSet;
 ghost use mathlib.Core.Path.{_≡_};
+ghost use Prim.Native.Nat.{_-_, _≤_};
 ghost use lib.ListN.{getD};
 ghost use Rattle.runs.specs.Runs.{Answers};
 ghost use Rattle.cut_set.specs.Store.{Good, AllRun, NothingFound, foundEnd};
@@ -18,6 +19,21 @@ pub fn none_found(s: CutSet) -> bool
     ensures { λ r. ⌜ Answers (NothingFound s) r ⌝ }
 {
     s.done == s.used
+}
+
+// How many members are newly found, once they are gathered.
+pub fn count_found(s: CutSet) -> usize
+    requires { ⌜ s .done ≤ s .used ⌝ }
+    ensures { λ r. ⌜ r ≡ s .used - s .done ⌝ }
+{
+    s.used - s.done
+}
+
+// The place of the first newly found member.
+pub fn found_start(s: CutSet) -> usize
+    ensures { λ r. ⌜ r ≡ s .done ⌝ }
+{
+    s.done
 }
 
 // The place behind the last newly found member.

@@ -1,4 +1,4 @@
--- `cut_set_doors::cut_set_finish` meets its contract, as `cut_set::finish` does. Assumes nothing.
+-- `cut_set_doors::cut_set_finish` meets its contract, as `settling::finish` does. Assumes nothing.
 use borrow.Author.Needs.{needs}
 use Rattle.cut_set_doors.proofs.Through.{finished-through}
 use Rattle.cut_set_doors.proofs.cut_set_finish.Statement.{statement}
@@ -8,7 +8,7 @@ read-set-requires : tie.Need-read-set-requires
 read-set-requires c κs = search needs
 
 finish-requires : tie.Need-finish-requires
-finish-requires c κs = rw (c .read-set .ensures) (search needs)
+finish-requires c κs = rw (c .read-set .ensures) (search needs, search needs)
 
 write-set-requires : tie.Need-write-set-requires
 write-set-requires c κs = search needs

@@ -1,4 +1,4 @@
--- `cut_set_doors::cut_set_join` meets its contract, as `cut_set::join` does. Assumes nothing.
+-- `cut_set_doors::cut_set_join` meets its contract, as `settling::join` does. Assumes nothing.
 use borrow.Author.Needs.{needs}
 use Rattle.cut_set_doors.proofs.Through.{joined-through}
 use Rattle.cut_set_doors.proofs.cut_set_join.Statement.{statement}

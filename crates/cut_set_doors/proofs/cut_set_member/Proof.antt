@@ -7,7 +7,7 @@ read-set-requires : tie.Need-read-set-requires
 read-set-requires c κs = search needs
 
 member-requires : tie.Need-member-requires
-member-requires c κs = rw (c .read-set .ensures) (search needs)
+member-requires c κs = rw (c .read-set .ensures) (search needs, search needs)
 
 returns : tie.Need-returns
 returns c = rw (c .before .read-set .ensures) at (c .member .ensures)

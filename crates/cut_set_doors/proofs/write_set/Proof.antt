@@ -1,4 +1,4 @@
--- `cut_set_doors::write_set` meets its contract: six stores one after the other. Assumes nothing.
+-- `cut_set_doors::write_set` meets its contract: eight stores one after the other. Assumes nothing.
 use Rattle.cut_set_doors.proofs.Written.{written}
 use lib.ListN.{length-set}
 use borrow.Author.Needs.{needs}
@@ -23,6 +23,12 @@ slice-write-ends-5 c = simp length-set (search needs)
 slice-write-ends-6 : tie.Need-slice-write-ends-6
 slice-write-ends-6 c = simp length-set (search needs)
 
+slice-write-ends-7 : tie.Need-slice-write-ends-7
+slice-write-ends-7 c = simp length-set (search needs)
+
+slice-write-ends-8 : tie.Need-slice-write-ends-8
+slice-write-ends-8 c = simp length-set (search needs)
+
 same-length : tie.Need-same-length
 same-length c = simp length-set
 
@@ -39,5 +45,7 @@ write-set-spec =
     slice-write-ends-4
     slice-write-ends-5
     slice-write-ends-6
+    slice-write-ends-7
+    slice-write-ends-8
     same-length
     returns)
