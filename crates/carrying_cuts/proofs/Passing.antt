@@ -3,7 +3,8 @@
 --     pass-start, pass-step, pass-end     where it begins, one match more, and the end
 --     pass-too-much       no room for the images of one match more
 --     pass-over, pass-none    matches that reach no cut change nothing, nor does any match where there is no cut
---     pass-ready, pass-run    what the next match needs
+--     pass-ready, pass-run, pass-ends     what the next match needs
+--     hits-more           more matches have no fewer hits
 -- Assumes nothing.
 use Prim.Native.Nat.{ℕ, zero, suc, _+_, _≤_, _<_}
 use native.Mathlib.Omega.{arith}
@@ -24,10 +25,11 @@ use Rattle.cut_set.proofs.Laws.{stored-none, stored-same, stored-then}
 use Rattle.reading_cuts.specs.Reading.{Lowest, Highest}
 use Rattle.refining.specs.Columns.{Columns, countOf, fromAt, fromRightAt, toAt, toRightAt, wayAt}
 use Rattle.near_matches.specs.Near.{reaching, Passable}
-use Rattle.carrying_match.specs.OneMatch.{ImageBy, hitsOn, TooMuch, Ready}
-use Rattle.carrying_cuts.specs.Worker.{Images, hitsOver}
+use Rattle.carrying_match.specs.OneMatch.{EndsIn, ImageBy, hitsOn, TooMuch, Ready}
+use Rattle.carrying_cuts.specs.Worker.{EndsKnown, Images, hitsOver}
 use Rattle.carrying_match.proofs.RunLists.{slice-same, hits-none}
-use Rattle.carrying_match.proofs.Storing.{base-done, done-used}
+use Rattle.cut_set.proofs.Gathering.{base-done, used-limit, used-within}
+use Rattle.carrying_match.proofs.Storing.{done-used}
 use Rattle.carrying_match.proofs.Storing.{too-much-more, too-much-then, same-apart, ready-then}
 
 -- an image of a number with P under the match at index k
@@ -44,7 +46,7 @@ pub record Passed (columns : Columns) (xs : List ℕ) (from to : CutSet) (hits m
   pub few : count ≤ most
 
 -- more matches have no fewer hits
-hits-more : (columns : Columns) (ns : List ℕ) (k n : ℕ) → k ≤ n → hitsOver columns k ns ≤ hitsOver columns n ns
+pub hits-more : (columns : Columns) (ns : List ℕ) (k n : ℕ) → k ≤ n → hitsOver columns k ns ≤ hitsOver columns n ns
 hits-more columns ns k zero h = let e : k ≡ 0 = omega arith in rw e (omega arith)
 hits-more columns ns k (suc n) h = go (ℕ-discrete k (suc n)) (λ l. hits-more columns ns k n l)
   where
@@ -102,9 +104,13 @@ module _ {columns : Columns} {xs : List ℕ} {from to : CutSet} {hits most : ℕ
   }
 
   module _ {ys : List ℕ} {set : CutSet} {count k : ℕ} (p : Passed columns xs from to hits most ys set count k) where
+    -- ends that were members still are
+    pub pass-ends : EndsKnown columns xs to → k < countOf columns → EndsIn ys set (toAt columns k) (toRightAt columns k)
+    pass-ends e h = let ends = e k h in (p .stored .stays _ (ends .0), p .stored .stays _ (ends .1))
+
     found-same : Same xs ys (from .done) (from .used)
     found-same j l u = same-apart xs ys (r .apart) (p .stored .outside) j
-        (omega (arith, base-done (r .from-good))) (omega (arith, r .from-good .room))
+        (omega (arith, base-done (r .from-good))) (omega (arith, used-limit (r .from-good)))
 
     pub pass-ready : Ready ys from set
     pass-ready = ready-then r (p .stored) (p .lengths)
@@ -113,8 +119,8 @@ module _ {columns : Columns} {xs : List ℕ} {from to : CutSet} {hits most : ℕ
     pass-run up i j l o u = rw (found-same i l (omega arith), found-same j (omega arith) u) (up i j l o u)
 
     run-list : foundIn ys from ≡ foundIn xs from
-    run-list = slice-same xs ys (r .from-good .found-short .within)
-        (omega (arith, p .lengths, r .from-good .found-short .within)) (done-used (r .from-good)) found-same
+    run-list = slice-same xs ys (used-within (r .from-good))
+        (omega (arith, p .lengths, used-within (r .from-good))) (done-used (r .from-good)) found-same
 
     next :
         (y : ℕ)
@@ -204,7 +210,7 @@ module _ {columns : Columns} {xs : List ℕ} {from to : CutSet} {hits most : ℕ
         same :
             hitsOver columns n (foundIn xs from) ≡ hitsOver columns k (foundIn xs from)
         same = hits-same columns (foundIn xs from) k n a (λ j l u.
-            hits-none xs (r .from-good .found-short .within) (done-used (r .from-good)) (fromAt columns j)
+            hits-none xs (used-within (r .from-good)) (done-used (r .from-good)) (fromAt columns j)
             (fromRightAt columns j) (λ i l′ u′. none j i l u l′ u′))
 
         fewer : {y : ℕ} (q : Images columns n (Found xs from) y) → (q .index < k) ⊎ (k ≤ q .index)

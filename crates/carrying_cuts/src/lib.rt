@@ -1,26 +1,20 @@
-// Carrying the newly found cuts of one side over every match to the other. One worker serves the A step and the B step.
+// Carrying the newly found cuts of one side over the matches to the other, match by match.
 use carrying_match::Worked;
 use carrying_match::carry_match;
 use cut_set::CutSet;
 use near_matches::next_near;
+ghost use mathlib.Core.Path.{_≡_};
+ghost use mathlib.Core.Bool.{true};
 ghost use Prim.Native.Nat.{_≤_};
 ghost use lib.ListN.{length};
 ghost use Rattle.cut_set.specs.Store.{FoundRun, foundIn};
 ghost use Rattle.refining.specs.Columns.{columnsOf, Fit};
 ghost use Rattle.carrying_match.specs.OneMatch.{Ready};
-ghost use Rattle.carrying_cuts.specs.Worker.{Working, Turning};
+ghost use Rattle.carrying_cuts.specs.Worker.{EndsKnown, Working};
 
-pub enum Turn {
-    Carried {
-        hits: usize,
-        from: CutSet,
-        to: CutSet,
-    },
-    TooMany,
-}
-
-// Carries the newly found cuts, one rising run, over every match.
-fn carry_found(
+// Carries the newly found cuts, one rising run, over every match. `ended`: the ends of all matches on the other side are
+// members of the set there.
+pub fn carry_found(
     lefts: &[u32],
     rights: &[u32],
     other_lefts: &[u32],
@@ -31,12 +25,17 @@ fn carry_found(
     to: CutSet,
     hits: usize,
     most: usize,
+    ended: bool,
 ) -> Worked
     requires { ⌜
         Fit (columnsOf (now lefts) (now rights) (now «other_lefts») (now «other_rights») (now reversed)) ⌝ }
     requires { ⌜ Ready (now work) from to ⌝ }
     requires { ⌜ FoundRun (now work) from ⌝ }
     requires { ⌜ hits ≤ most ⌝ }
+    requires { ⌜
+        (ended ≡ true
+        → EndsKnown (columnsOf (now lefts) (now rights) (now «other_lefts») (now «other_rights») (now reversed)) (now work)
+        to) ⌝ }
     ensures { λ r. ⌜
         Working
         (columnsOf (now (lefts .entry)) (now (rights .entry)) (now («other_lefts» .entry))
@@ -64,6 +63,7 @@ fn carry_found(
             reversed[k],
             count,
             most,
+            ended,
         ) {
             Worked::Held { hits: h, to: t } => {
                 count = h;
@@ -76,53 +76,5 @@ fn carry_found(
     Worked::Held {
         hits: count,
         to: set,
-    }
-}
-
-// One turn: the newly found cuts of a side are carried over every match, and are finished.
-pub fn take_turn(
-    lefts: &[u32],
-    rights: &[u32],
-    other_lefts: &[u32],
-    other_rights: &[u32],
-    reversed: &[bool],
-    work: &mut [u32],
-    from: CutSet,
-    to: CutSet,
-    hits: usize,
-    most: usize,
-) -> Turn
-    requires { ⌜
-        Fit (columnsOf (now lefts) (now rights) (now «other_lefts») (now «other_rights») (now reversed)) ⌝ }
-    requires { ⌜ Ready (now work) from to ⌝ }
-    requires { ⌜ hits ≤ most ⌝ }
-    ensures { λ r. ⌜
-        Turning
-        (columnsOf (now (lefts .entry)) (now (rights .entry)) (now («other_lefts» .entry))
-        (now («other_rights» .entry)) (now (reversed .entry)))
-        (now (work .entry)) from to hits most (now (work .exit)) r ⌝ }
-{
-    let gathered = cut_set::gather(work, from);
-    match carry_found(
-        lefts,
-        rights,
-        other_lefts,
-        other_rights,
-        reversed,
-        work,
-        gathered,
-        to,
-        hits,
-        most,
-    ) {
-        Worked::Held {
-            hits: count,
-            to: set,
-        } => Turn::Carried {
-            hits: count,
-            from: cut_set::finish(work, gathered),
-            to: set,
-        },
-        Worked::TooMany => Turn::TooMany,
     }
 }

@@ -1,11 +1,12 @@
 -- Carrying the newly found cuts that one match spans, place by place from the first that is at least its left end.
 --     Walked              the invariant: the cuts at [lo, at) are carried
 --     walk-start, walk-step, walk-too-much     where it begins, one cut more, and no room for one more
+--     walk-known                               the image of an end of the match is known
 --     walk-over, walk-break                    the run is at its end, or its next cut is not spanned
 -- Assumes nothing.
-use Prim.Native.Nat.{ℕ, suc, _+_, _≤_, _<_}
+use Prim.Native.Nat.{ℕ, suc, _+_, _-_, _≤_, _<_}
 use native.Mathlib.Omega.{arith}
-use mathlib.Core.Path.{_≡_, refl, sym, ap, _∙_}
+use mathlib.Core.Path.{_≡_, refl, sym, ap, subst, _∙_}
 use mathlib.Core.Bool.{Bool, true, false, true≢false}
 use mathlib.Core.List.{List}
 use mathlib.Core.Logic.{_↔_, _⊎_, inl, inr, ⊎-elim}
@@ -15,13 +16,14 @@ use borrow.Author.Tests.{leb-false, lt-leb}
 use Rattle.refinement.specs.Match.{between, carryTo}
 use Rattle.refinement.proofs.Geometry.{between-bounds, between-below, between-from}
 use Rattle.runs.specs.Runs.{In, Bound}
-use Rattle.cut_set.specs.Store.{Found, FoundRun, foundIn, foundEnd, Stored}
+use Rattle.cut_set.specs.Store.{Member, Found, FoundRun, foundIn, foundEnd, Stored}
 use Rattle.cut_set.specs.declared.CutSet.{CutSet}
 use Rattle.runs.proofs.Membership.{lt-or-le, in-wide, in-parts}
 use Rattle.cut_set.proofs.Laws.{stored-none, stored-same, stored-then}
-use Rattle.carrying_match.specs.OneMatch.{ImageBy, hitsOn, TooMuch, Ready}
+use Rattle.carrying_match.specs.OneMatch.{EndsIn, ImageBy, hitsOn, TooMuch, Ready}
 use Rattle.carrying_match.proofs.RunLists.{hits-past, hits-none}
-use Rattle.carrying_match.proofs.Storing.{base-done, done-used}
+use Rattle.cut_set.proofs.Gathering.{base-done, used-limit, used-within}
+use Rattle.carrying_match.proofs.Storing.{done-used}
 use Rattle.carrying_match.proofs.Storing.{too-much-more, too-much-then, same-apart}
 
 pub record Walked (i g k l : ℕ) (b : Bool) (xs : List ℕ) (from to : CutSet) (hits most lo end : ℕ) (ys : List ℕ)
@@ -33,6 +35,14 @@ pub record Walked (i g k l : ℕ) (b : Bool) (xs : List ℕ) (from to : CutSet) 
   pub stored : Stored (ImageBy i g k l b (In xs lo at)) xs to ys t
   pub counted : hits + hitsOn i g (slice lo (from .used) xs) ≡ count + hitsOn i g (slice at (from .used) xs)
   pub few : count ≤ most
+
+-- the ends of a match are carried to ends
+end-image : (b : Bool) (i g k l h : ℕ) → k + (g - i) ≡ l → (h ≡ i) ⊎ (h ≡ g)
+    → (carryTo b i k l h ≡ k) ⊎ (carryTo b i k l h ≡ l)
+end-image false i g k l h f (inl e) = inl (omega arith)
+end-image false i g k l h f (inr e) = inr (omega arith)
+end-image true i g k l h f (inl e) = inr (omega arith)
+end-image true i g k l h f (inr e) = inl (omega arith)
 
 module _ {i g k l : ℕ} {b : Bool} {xs : List ℕ} where
   image-wide :
@@ -58,11 +68,11 @@ module _ {i g k l : ℕ} {b : Bool} {xs : List ℕ} {from to : CutSet} {hits mos
     {t : CutSet} {count at : ℕ} (r : Ready xs from to) (up : FoundRun xs from)
     (e : Bound xs (from .done) (from .used) i lo) (w : Walked i g k l b xs from to hits most lo end ys t count at) where
   within : from .used ≤ length xs
-  within = r .from-good .found-short .within
+  within = used-within (r .from-good)
 
   place-same : at < from .used → getD ys at 0 ≡ getD xs at 0
   place-same h = same-apart xs ys (r .apart) (w .stored .outside) at
-      (omega (arith, base-done (r .from-good), e .from, w .start)) (omega (arith, r .from-good .room))
+      (omega (arith, base-done (r .from-good), e .from, w .start)) (omega (arith, used-limit (r .from-good)))
 
   skipped : hitsOn i g (foundIn xs from) ≡ hitsOn i g (slice lo (from .used) xs)
   skipped = hits-past xs within (done-used (r .from-good)) i g lo (e .from) (e .to)
@@ -114,6 +124,16 @@ module _ {i g k l : ℕ} {b : Bool} {xs : List ℕ} {from to : CutSet} {hits mos
       counted = omega (arith, w .counted, hit, p .1);
       few = p .2;
     }
+
+    -- an end of the match is carried to an end, which is a member already
+    pub walk-known :
+        k + (g - i) ≡ l → EndsIn xs to k l → (cut ≡ i) ⊎ (cut ≡ g)
+        → Stored (λ y. y ≡ carryTo b i k l cut) ys t ys t
+    walk-known f ends c = stored-none (w .stored .good)
+        (λ y e. ⊎-elim
+        (λ q. subst (Member ys t) (sym (e ∙ q)) (w .stored .stays k (ends .0)))
+        (λ q. subst (Member ys t) (sym (e ∙ q)) (w .stored .stays l (ends .1)))
+        (end-image b i g k l cut f c))
 
     pub walk-too-much :
         TooMuch ys t (λ y. y ≡ carryTo b i k l cut) (count + 1) most

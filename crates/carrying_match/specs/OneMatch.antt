@@ -3,6 +3,7 @@
 --     hitsOn       how many cuts of a list the match spans
 --     Overflow     more numbers of a kind than there are places
 --     Ready        what carrying needs of the two sets
+--     EndsIn       the ends of a match on one side are members
 --     TooMuch      why there are too many
 --     Carrying     what carrying does, by its answer
 -- Assumes nothing.
@@ -46,6 +47,10 @@ pub record Ready (xs : List ℕ) (from to : CutSet) : Type 0 where
   pub from-good : Good xs from
   pub to-good : Good xs to
   pub apart : Apart from to
+
+-- k and l, the ends of a match, are members
+abbrev pub EndsIn : List ℕ → CutSet → ℕ → ℕ → Type 0
+EndsIn xs s k l = Member xs s k × Member xs s l
 
 -- why the answer is "too many": no place for one more image, or more hits than the most that are allowed
 pub data TooMuch (xs : List ℕ) (to : CutSet) (P : ℕ → Type 0) (hits most : ℕ) : Type 0 where

@@ -2,9 +2,11 @@
 use cut_set::Added;
 use cut_set::CutSet;
 ghost use mathlib.Core.Path.{_≡_};
+ghost use mathlib.Core.Bool.{true};
+ghost use mathlib.Core.Logic.{_⊎_};
 ghost use Prim.Native.Nat.{_+_, _-_, _≤_};
 ghost use Rattle.cut_set.specs.Store.{Found, FoundRun, foundIn};
-ghost use Rattle.carrying_match.specs.OneMatch.{Ready, ImageBy, hitsOn, Carrying};
+ghost use Rattle.carrying_match.specs.OneMatch.{Ready, EndsIn, ImageBy, hitsOn, Carrying};
 
 // The hits so far and the set that images went to, or that there are too many for any table lent. The hits stand first:
 // right behind the answer's tag a set would be copied from odd places, which is slow.
@@ -13,8 +15,23 @@ pub enum Worked {
     TooMany,
 }
 
+// Whether the image of a cut is known before it is carried: the cut is an end of the match, and the ends on the other
+// side are members (`ended`).
+fn is_known(left: u32, right: u32, cut: u32, ended: bool) -> bool
+    ensures { λ r. ⌜ (r ≡ true → (ended ≡ true) × ((cut ≡ left) ⊎ (cut ≡ right))) ⌝ }
+{
+    if !ended {
+        return false;
+    }
+    if cut == left {
+        return true;
+    }
+    cut == right
+}
+
 // Carries the newly found cuts that one match spans: they follow each other in the run. The match is given by its ends
-// on the two sides, which are equally far apart. The hits are tested before they are counted: they never pass `most`.
+// on the two sides, which are equally far apart. If its ends there are members already (`ended`), its own ends need not
+// be carried: they are most of the hits of a script whose matches hardly overlap. The hits are tested before they are counted: they never pass `most`.
 pub fn carry_match(
     work: &mut [u32],
     from: CutSet,
@@ -26,11 +43,13 @@ pub fn carry_match(
     reversed: bool,
     hits: usize,
     most: usize,
+    ended: bool,
 ) -> Worked
     requires { ⌜ Ready (now work) from to ⌝ }
     requires { ⌜ FoundRun (now work) from ⌝ }
     requires { ⌜ «other_left» + (right - left) ≡ «other_right» ⌝ }
     requires { ⌜ hits ≤ most ⌝ }
+    requires { ⌜ (ended ≡ true → EndsIn (now work) to «other_left» «other_right») ⌝ }
     ensures { λ r. ⌜
         Carrying (ImageBy left right «other_left» «other_right» reversed (Found (now (work .entry)) from))
         (hitsOn left right (foundIn (now (work .entry)) from)) (now (work .entry)) to hits most
@@ -49,12 +68,19 @@ pub fn carry_match(
             return Worked::TooMany;
         }
         let image = refinement::carry(left, other_left, other_right, reversed, cut);
+        count += 1;
+        at += 1;
+        if is_known(left, right, cut, ended) {
+            continue;
+        }
+        if cut_set::has_room(set) {
+            set = cut_set::append(work, set, image);
+            continue;
+        }
         match cut_set::add(work, set, image) {
             Added::Held(s) => set = s,
             Added::Full => return Worked::TooMany,
         }
-        count += 1;
-        at += 1;
     }
     Worked::Held {
         hits: count,

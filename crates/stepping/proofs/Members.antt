@@ -3,31 +3,30 @@
 --     apart-parts          no number is both
 --     members-stay         where no finished nor newly found member goes, members stay
 --     members-come         where only numbers with P come, what is a member now was one or has P
---     overflow-from        an overflow of numbers is one of a wider kind
 -- Assumes nothing.
-use Prim.Native.Nat.{ℕ, suc, _≤_}
-use mathlib.Core.Path.{_≡_, sym, ap, _∙_}
+use Prim.Native.Nat.{ℕ}
+use mathlib.Core.Path.{sym, _∙_}
 use mathlib.Core.Logic.{_↔_, _⊎_, inl, inr, ⊎-elim}
 use mathlib.Core.List.{List}
 use native.Mathlib.Omega.{arith}
-use Rattle.cut_set.specs.Store.{Good, Member, Finished, Found}
+use Rattle.cut_set.specs.Store.{Good, Member, Finished, Found, NothingAdded}
 use Rattle.cut_set.specs.declared.CutSet.{CutSet}
 use Rattle.runs.proofs.Membership.{in-wide, in-parts}
-use Rattle.carrying_match.specs.OneMatch.{Overflow}
+use Rattle.cut_set.proofs.Gathering.{base-done, done-fresh}
+use Rattle.carrying_match.proofs.Storing.{done-used}
 
 module _ {xs : List ℕ} {s : CutSet} (g : Good xs s) where
   pub finished-member : {y : ℕ} → Finished xs s y → Member xs s y
-  finished-member p = in-wide (omega arith) (omega (arith, g .found-long .order, g .found-short .order)) p
+  finished-member p = in-wide (omega arith) (done-used g) p
 
   pub found-member : {y : ℕ} → Found xs s y → Member xs s y
-  found-member p = in-wide (omega (arith, g .finished-long .order, g .finished-short .order)) (omega arith) p
+  found-member p = in-wide (base-done g) (omega arith) p
 
-  pub apart-parts : {y : ℕ} → Finished xs s y → Found xs s y → ⊥
-  apart-parts p q =
-      let used : s .done ≤ s .used = omega (arith, g .found-long .order, g .found-short .order) in
-      let base : s .base ≤ s .done = omega (arith, g .finished-long .order, g .finished-short .order) in
+  pub apart-parts : {y : ℕ} → NothingAdded s → Finished xs s y → Found xs s y → ⊥
+  apart-parts n p q =
       let e =
-      g .distinct (p .place) (q .place) (p .from) (omega arith) (omega arith) (q .below) (p .is ∙ sym (q .is))
+      g .distinct (p .place) (q .place) (p .from) (omega (arith, p .below, done-fresh g))
+      (omega (arith, q .from, base-done g)) (omega (arith, n, q .below)) (p .is ∙ sym (q .is))
       in
       omega (arith, e, p .below, q .from)
 
@@ -42,12 +41,3 @@ module _ {xs ys : List ℕ} {s t : CutSet} (old : Good xs s) (new : Good ys t)
   members-come only {y} p =
       ⊎-elim (λ q. inl (finished-member old (same y .0 q)))
       (λ q. ⊎-elim (λ f. inl (found-member old f)) inr (only y q)) (in-parts (t .done) p)
-
-pub overflow-from :
-    {Q S : ℕ → Type 0} {m n : ℕ} → m ≡ n → ((y : ℕ) → Q y → S y) → Overflow Q m → Overflow S n
-overflow-from e wide o = record {
-  numbers = o .numbers;
-  distinct = o .distinct;
-  all = λ x i. wide x (o .all x i);
-  more = o .more ∙ ap suc e;
-}

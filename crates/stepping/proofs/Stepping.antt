@@ -1,6 +1,6 @@
 -- One turn, whichever side's: what holds between two steps holds again, for the other side.
 --     too-many             where the worker answers "too many", every resolved refinement exceeds the capacity
---     turn-ready           what the worker is given
+--     ends-known, turn-requires    what the worker is given
 --     turn-told            after a turn, Open with the other side next, and fewer unused places, if that side has newly
 --                          found cuts
 --     finished             no side has any: that is the answer Done
@@ -9,6 +9,7 @@
 use Prim.Native.Nat.{ℕ, _+_, _-_, _*_, _≤_, _<_}
 use mathlib.Core.Path.{_≡_, refl, sym, ap, subst, _∙_}
 use mathlib.Core.Logic.{_↔_, ⊎-elim, _≢_}
+use mathlib.Core.Bool.{Bool, true}
 use mathlib.Core.List.{List, _++_, List·Memᴰ·append-cases, Memᴰ·append-left, Memᴰ·append-right}
 use native.Mathlib.Omega.{arith}
 use Rattle.refinement.specs.declared.Side.{Side}
@@ -18,16 +19,20 @@ use Rattle.refinement.specs.Match.{Match, other, Spans, carry}
 use Rattle.refinement.specs.Cut.{Cut, carried}
 use Rattle.refinement.proofs.Lists.{rising-append, rising-weaken}
 use Rattle.runs.specs.Runs.{In}
-use Rattle.cut_set.specs.Store.{Good, Member, Finished, Found, NothingFound}
+use Rattle.cut_set.specs.Store.{Good, Member, Finished, Found, NothingFound, NothingAdded}
 use Rattle.cut_set.specs.declared.CutSet.{CutSet}
 use Rattle.runs.proofs.Membership.{in-parts}
-use Rattle.refining.specs.Columns.{Columns, seenFrom, countOf, Fit, matchAt, matchesOf}
+use Rattle.cut_set.proofs.Gathering.{done-fresh, used-limit}
+use Rattle.cut_set.proofs.Laws.{none-added}
+use Rattle.refining.specs.Columns.{Columns, seenFrom, leftsOn, rightsOn, countOf, Fit, matchAt, matchesOf}
 use Rattle.refining.specs.Refining.{heldIn}
 use Rattle.carrying_match.specs.OneMatch.{before, behind, Ready, TooMuch, crowded, excess}
-use Rattle.carrying_cuts.specs.Worker.{Images, hitsOver, Listed, Turned, TurnedTooMany, Turning}
-use Rattle.carrying_cuts.specs.declared.Turn.{Turn}
+use Rattle.carrying_cuts.specs.Worker.{EndsKnown, Images, hitsOver}
+use Rattle.turning.specs.Turning.{Usable, Listed, Turned, TurnedTooMany, Turning}
+use Rattle.turning.specs.declared.Turn.{Turn}
 use Rattle.stepping.specs.Engine.{at, CutOn, setOn, hitsAt, Counted, Open, unused, Stepped}
 use Rattle.refining.specs.Demands.{EveryExceeds}
+use Rattle.refining.proofs.RightEnds.{right-at}
 use Rattle.stepping.specs.declared.Cuts.{Cuts}
 use Rattle.stepping.specs.declared.Closing.{Closing}
 use Rattle.stepping.proofs.Indexed.{∈-matches, matches-∈, placed, index-spans, index-carry}
@@ -83,7 +88,7 @@ module _ {columns : Columns} (fit : Fit columns) {cap : ℕ} {xs : List ℕ} {c 
         rising-append _≢_ (o .counted s .carried) ns (o .counted s .once)
         (rising-weaken _<_ _≢_ ns (λ x y _ _ h e. omega arith) (l .rising))
         (λ x y i j e.
-        apart-parts (o .good s) (o .counted s .finished x .0 i) (rw (← e) at (l .found y .0 j)))
+        apart-parts (o .good s) (o .gathered s) (o .counted s .finished x .0 i) (rw (← e) at (l .found y .0 j)))
 
     all-members : (x : ℕ) → (x ∈ (o .counted s .carried ++ ns)) ↔ Member xs (setOn s c) x
     all-members x = (
@@ -222,6 +227,8 @@ module _ {columns : Columns} (fit : Fit columns) {cap : ℕ} {xs : List ℕ} {c 
         ended = λ m i. let e = o .ended m i in (kept A _ (e .0), kept A _ (e .1));
         closed = closed;
         settled = back (λ u. setOn u c′ .done ≡ setOn u c′ .used) s (t .from-kept .all);
+        gathered =
+            both (λ u. NothingAdded (setOn u c′)) s (none-added (t .from-kept .kept .good) (t .from-kept .all)) (t .ready);
         counted =
             both (λ u. Counted (seenFrom u columns) ys (setOn u c′) (hitsAt u c′)) s counted-turn (counted-other same);
         few = both (λ u. hitsAt u c′ ≤ cap + countOf columns) s (t .few) (omega (arith, o .few (other s)));
@@ -231,7 +238,7 @@ module _ {columns : Columns} (fit : Fit columns) {cap : ℕ} {xs : List ℕ} {c 
       turned-less more =
           let g = t .stored .good in
           less-unused s c c′ limit-same (t .from-kept .kept .used-same)
-          (omega (arith, more, o .settled, t .stored .done-same, g .found-long .order, g .found-short .order)) (g .room)
+          (omega (arith, more, o .settled, t .stored .done-same, done-fresh g, g .added)) (used-limit g)
 
 -- what a turn is for the step that took it, where the worker told the cuts
 module _ {columns : Columns} {cap : ℕ} {xs ys : List ℕ} {c : Cuts} {answer : Turn} {from to : CutSet} {hits : ℕ}
@@ -246,7 +253,7 @@ module _ {columns : Columns} {cap : ℕ} {xs ys : List ℕ} {c : Cuts} {answer :
   turn-told fit B o h =
       let t = rw told at h in (turned-open fit o _ t refl, turned-less fit o (after B c from to hits) t)
 
-pub turn-ready :
+turn-ready :
     {columns : Columns} {cap : ℕ} {xs : List ℕ} {c : Cuts} (s : Side) → Open columns cap xs c s
     → Ready xs (setOn s c) (setOn (other s) c)
 turn-ready A o = record {
@@ -259,6 +266,24 @@ turn-ready B o = record {
   to-good = o .good A;
   apart = behind (omega (arith, o .a-limit, o .b-base));
 }
+
+-- the ends on A are members, and no promise is made of those on B
+pub ends-known :
+    {columns : Columns} {cap : ℕ} {xs : List ℕ} {c : Cuts} → Fit columns → Open columns cap xs c B
+    → EndsKnown (seenFrom B columns) xs (c .a)
+ends-known {columns} {xs = xs} {c} f o k h =
+    let e = o .ended (matchAt columns k) (∈-matches columns h) in
+    (e .0, subst (Member xs (c .a)) (sym (right-at f A h)) (e .1))
+
+pub turn-requires :
+    {columns : Columns} {cap : ℕ} {xs is : List ℕ} {c : Cuts} {ended : Bool} (s : Side) → Open columns cap xs c s
+    → Fit (seenFrom s columns) → Usable is (leftsOn s columns) (rightsOn s columns)
+    → (ended ≡ true → EndsKnown (seenFrom s columns) xs (setOn (other s) c))
+    → Fit (seenFrom s columns) × (Usable is (leftsOn s columns) (rightsOn s columns)
+    × (Ready xs (setOn s c) (setOn (other s) c)
+    × (NothingAdded (setOn s c) × (NothingAdded (setOn (other s) c) × ((hitsAt s c ≤ cap + countOf columns)
+    × (ended ≡ true → EndsKnown (seenFrom s columns) xs (setOn (other s) c)))))))
+turn-requires s o f i k = (f, (i, (turn-ready s o, (o .gathered s, (o .gathered (other s), (o .few s, k))))))
 
 module _ {columns : Columns} {cap : ℕ} {ys : List ℕ} {c : Cuts} where
   pub finished :
@@ -276,6 +301,7 @@ module _ {columns : Columns} {cap : ℕ} {ys : List ℕ} {c : Cuts} where
       ended = o .ended;
       closed = o .closed;
       settled = e;
+      gathered = o .gathered;
       counted = o .counted;
       few = o .few;
     },

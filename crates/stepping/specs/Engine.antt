@@ -15,7 +15,7 @@ use Rattle.refinement.specs.declared.Side.the-variants.{A, B}
 use Rattle.refinement.specs.Order.{_∈_, Distinct}
 use Rattle.refinement.specs.Match.{Match, Place, other, left, right, Spans, carry}
 use Rattle.refinement.specs.Cut.{Cut}
-use Rattle.cut_set.specs.Store.{Good, Member, Finished, NothingFound, unusedOf}
+use Rattle.cut_set.specs.Store.{Good, Member, Finished, NothingFound, NothingAdded, unusedOf}
 use Rattle.cut_set.specs.declared.CutSet.{CutSet}
 use Rattle.refining.specs.Columns.{Columns, seenFrom, countOf, matchesOf}
 use Rattle.refining.specs.Refining.{Given, heldIn}
@@ -59,6 +59,7 @@ pub record Open (columns : Columns) (cap : ℕ) (xs : List ℕ) (c : Cuts) (s : 
       (u : Side) (m : Match) → m ∈ matchesOf columns → (x : ℕ) → Spans m u x → Finished xs (setOn u c) x
       → Member xs (setOn (other u) c) (carry m u x)
   pub settled : NothingFound (setOn (other s) c)
+  pub gathered : (u : Side) → NothingAdded (setOn u c)
   pub counted : (u : Side) → Counted (seenFrom u columns) xs (setOn u c) (hitsAt u c)
   pub few : (u : Side) → hitsAt u c ≤ cap + countOf columns
 

@@ -1,9 +1,10 @@
 // The A step and the B step, which call each other on the newly found cuts.
-use carrying_cuts::Turn;
-use carrying_cuts::take_turn;
 use cut_set::CutSet;
+use turning::Turn;
+use turning::take_turn;
 ghost use Rattle.refinement.specs.declared.Side.{Side};
 ghost use Rattle.refining.specs.Columns.{columnsOf, Fit};
+ghost use Rattle.turning.specs.Turning.{Usable};
 ghost use Rattle.stepping.specs.Engine.{Open, Stepped};
 
 // The cuts of both sides, and the pairs of a carried cut and a match that spans it.
@@ -29,6 +30,8 @@ pub fn a_step(
     left_b: &[u32],
     right_b: &[u32],
     reversed: &[bool],
+    index_a: &[u32],
+    index_b: &[u32],
     work: &mut [u32],
     cuts: Cuts,
     capacity: usize,
@@ -38,6 +41,8 @@ pub fn a_step(
     requires { ⌜
         Open (columnsOf (now «left_a») (now «right_a») (now «left_b») (now «right_b») (now reversed)) capacity
         (now work) cuts Side.A ⌝ }
+    requires { ⌜ Usable (now «index_a») (now «left_a») (now «right_a») ⌝ }
+    requires { ⌜ Usable (now «index_b») (now «left_b») (now «right_b») ⌝ }
     ensures { λ r. ⌜
         Stepped
         (columnsOf (now («left_a» .entry)) (now («right_a» .entry)) (now («left_b» .entry)) (now («right_b» .entry))
@@ -53,11 +58,13 @@ pub fn a_step(
         left_b,
         right_b,
         reversed,
+        index_a,
         work,
         a,
         b,
         cuts.hits_a,
         most,
+        false,
     ) {
         Turn::TooMany => Closing::TooMany,
         Turn::Carried { hits, from, to } => {
@@ -79,6 +86,8 @@ pub fn a_step(
                 left_b,
                 right_b,
                 reversed,
+                index_a,
+                index_b,
                 work,
                 next,
                 capacity,
@@ -88,13 +97,16 @@ pub fn a_step(
     }
 }
 
-// The new cuts on B are carried to A in the same way, until neither side gains one.
+// The new cuts on B are carried to A in the same way, until neither side gains one. The ends on A are cuts from the
+// start.
 pub fn b_step(
     left_a: &[u32],
     right_a: &[u32],
     left_b: &[u32],
     right_b: &[u32],
     reversed: &[bool],
+    index_a: &[u32],
+    index_b: &[u32],
     work: &mut [u32],
     cuts: Cuts,
     capacity: usize,
@@ -104,6 +116,8 @@ pub fn b_step(
     requires { ⌜
         Open (columnsOf (now «left_a») (now «right_a») (now «left_b») (now «right_b») (now reversed)) capacity
         (now work) cuts Side.B ⌝ }
+    requires { ⌜ Usable (now «index_a») (now «left_a») (now «right_a») ⌝ }
+    requires { ⌜ Usable (now «index_b») (now «left_b») (now «right_b») ⌝ }
     ensures { λ r. ⌜
         Stepped
         (columnsOf (now («left_a» .entry)) (now («right_a» .entry)) (now («left_b» .entry)) (now («right_b» .entry))
@@ -119,11 +133,13 @@ pub fn b_step(
         left_a,
         right_a,
         reversed,
+        index_b,
         work,
         b,
         a,
         cuts.hits_b,
         most,
+        true,
     ) {
         Turn::TooMany => Closing::TooMany,
         Turn::Carried { hits, from, to } => {
@@ -145,6 +161,8 @@ pub fn b_step(
                 left_b,
                 right_b,
                 reversed,
+                index_a,
+                index_b,
                 work,
                 next,
                 capacity,

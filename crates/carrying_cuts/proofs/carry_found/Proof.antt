@@ -6,17 +6,17 @@ use lib.ListN as List
 use Rattle.refining.specs.Columns.{columnsOf}
 use Rattle.refining.proofs.RightEnds.{facing}
 use Rattle.carrying_cuts.proofs.Passing.{Passed, pass-start, pass-step, pass-too-much, pass-end, pass-ready}
-use Rattle.carrying_cuts.proofs.Passing.{pass-run, pass-over, pass-none}
+use Rattle.carrying_cuts.proofs.Passing.{pass-run, pass-ends, pass-over, pass-none}
 use borrow.Author.Needs.{needs}
 use Rattle.carrying_cuts.proofs.carry_found.Statement.{statement}
 use Rattle.carrying_cuts.proofs.carry_found.Tie as tie
 
 abbrev Inv-loop : tie.InvT-loop
-Inv-loop lefts rights other-lefts other-rights reversed work₀ from hits most low high set₀ count₀ k₀ work set count k =
+Inv-loop lefts rights other-lefts other-rights reversed work₀ from hits most ended low high set₀ count₀ k₀ work set count k =
     Passed (columnsOf lefts rights other-lefts other-rights reversed) work₀ from set₀ hits most work set count k
 
 abbrev μ-loop : tie.MeasureT-loop
-μ-loop lefts rights other-lefts other-rights reversed work₀ from hits most low high set₀ count₀ k₀ work set count k =
+μ-loop lefts rights other-lefts other-rights reversed work₀ from hits most ended low high set₀ count₀ k₀ work set count k =
     List.length reversed - k
 
 -- the start, from the place where the lowest cut is known
@@ -29,7 +29,7 @@ none-found-requires c κs = search needs
 returns : tie.Need-returns Inv-loop μ-loop
 returns c =
     let start : tie.Start Inv-loop μ-loop = search in
-    let passed = pass-start (start .pre .1 .0) (start .pre .1 .1 .1) in
+    let passed = pass-start (start .pre .1 .0) (start .pre .1 .1 .1 .0) in
     let none = c .before .none-found .ensures .when (c .if1 .taken) in
     pass-end (start .pre .1 .0) (pass-none (start .pre .1 .0) passed none) (omega arith)
 
@@ -49,7 +49,7 @@ loop-holds : tie.Need-loop-holds Inv-loop μ-loop
 loop-holds c =
     let low : tie.After-lowest-found Inv-loop μ-loop = search in
     let start : tie.Start Inv-loop μ-loop = search in
-    pass-over (start .pre .1 .0) (pass-start (start .pre .1 .0) (start .pre .1 .1 .1)) (low .lowest-found .ensures)
+    pass-over (start .pre .1 .0) (pass-start (start .pre .1 .0) (start .pre .1 .1 .1 .0)) (low .lowest-found .ensures)
     (c .before .highest-found .ensures) (start .pre .0 .from-length) (c .next-near .ensures)
 
 mul-carry-match : tie.Need-mul-carry-match Inv-loop μ-loop
@@ -86,7 +86,7 @@ carry-match-requires c κs =
     let pre = start .pre in
     let loop = in-loop .before .loop in (
       pass-ready (pre .1 .0) (loop .inv),
-      (pass-run (pre .1 .0) (loop .inv) (pre .1 .1 .0), (facing (pre .0) (search needs), loop .inv .few)),
+      (pass-run (pre .1 .0) (loop .inv) (pre .1 .1 .0), (facing (pre .0) (search needs), (loop .inv .few, λ e. pass-ends (pre .1 .0) (loop .inv) (pre .1 .1 .1 .1 e) (search needs)))),
     )
 
 enum-known-h : tie.Need-enum-known-h Inv-loop μ-loop

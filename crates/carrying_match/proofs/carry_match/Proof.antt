@@ -5,19 +5,20 @@ use mathlib.Core.Path.{refl, sym, _∙_}
 use borrow.Author.Needs.{needs}
 use borrow.Author.Tests.{not-true, not-false}
 use Rattle.refinement.proofs.Geometry.{carry-room}
+use Rattle.cut_set.proofs.Gathering.{used-top}
 use Rattle.cut_set.proofs.Laws.{stored-same}
 use Rattle.carrying_match.specs.OneMatch.{TooMuch}
 use Rattle.carrying_match.proofs.Storing.{too-much-crowded}
-use Rattle.carrying_match.proofs.Walking.{Walked, walk-start, walk-step, walk-too-much, walk-over, walk-break}
+use Rattle.carrying_match.proofs.Walking.{Walked, walk-start, walk-step, walk-known, walk-too-much, walk-over, walk-break}
 use Rattle.carrying_match.proofs.carry_match.Statement.{statement}
 use Rattle.carrying_match.proofs.carry_match.Tie as tie
 
 abbrev Inv-loop : tie.InvT-loop
-Inv-loop work₀ from left right other-left other-right reversed hits most end set₀ count₀ at₀ work set count at =
+Inv-loop work₀ from left right other-left other-right reversed hits most ended end set₀ count₀ at₀ work set count at =
     Walked left right other-left other-right reversed work₀ from set₀ hits most at₀ end work set count at
 
 abbrev μ-loop : tie.MeasureT-loop
-μ-loop work₀ from left right other-left other-right reversed hits most end set₀ count₀ at₀ work set count at = end - at
+μ-loop work₀ from left right other-left other-right reversed hits most ended end set₀ count₀ at₀ work set count at = end - at
 
 found-end-requires : tie.Need-found-end-requires Inv-loop μ-loop
 found-end-requires c κs = search needs
@@ -28,7 +29,7 @@ first-found-requires c κs = search needs
 loop-holds : tie.Need-loop-holds Inv-loop μ-loop
 loop-holds c =
     let start : tie.Start Inv-loop μ-loop = search in
-    walk-start (start .pre .0) (c .before .before .found-end .ensures) (c .first-found .ensures) (start .pre .1 .1 .1)
+    walk-start (start .pre .0) (c .before .before .found-end .ensures) (c .first-found .ensures) (start .pre .1 .1 .1 .0)
 
 found-at-requires : tie.Need-found-at-requires Inv-loop μ-loop
 found-at-requires c κs = search needs
@@ -60,35 +61,6 @@ carry-requires c κs =
     carry-room (a .left) (a .right) (a .other-left) (a .other-right) _ (start .pre .1 .1 .0)
     (sym (spans .ensures .0) ∙ not-false (spans .result) (c .before .if1 .left))
 
-add-requires : tie.Need-add-requires Inv-loop μ-loop
-add-requires c κs = search needs
-
-enum-known-s : tie.Need-enum-known-s Inv-loop μ-loop
-enum-known-s c = search needs
-
-enum-told : tie.Need-enum-told Inv-loop μ-loop
-enum-told c = search needs
-
-same-length-2 : tie.Need-same-length-2 Inv-loop μ-loop
-same-length-2 c = search needs
-
-returns-2 : tie.Need-returns-2 Inv-loop μ-loop
-returns-2 c =
-    let called : tie.After-add Inv-loop μ-loop = search in
-    let test : tie.Else1 Inv-loop μ-loop = search in
-    let found-at : tie.After-found-at Inv-loop μ-loop = search in
-    let in-loop : tie.In-loop Inv-loop μ-loop = search in
-    let found : tie.After-first-found Inv-loop μ-loop = search in
-    let start : tie.Start Inv-loop μ-loop = search in
-    let inv = in-loop .before .loop .inv in
-    let spans = test .before .spans in
-    let image = called .before .before .carry .ensures in
-    let full = rw (c .enum-told .given .1) at (called .add .ensures) in
-    walk-too-much (start .pre .0) (start .pre .1 .0) (found .first-found .ensures) inv
-    (in-loop .loop-test .taken) (found-at .found-at .ensures)
-    (sym (spans .ensures .0) ∙ not-false (spans .result) (test .if1 .left))
-    (too-much-crowded (λ y e. e ∙ image) (inv .stored .good) (full .0))
-
 add-count : tie.Need-add-count Inv-loop μ-loop
 add-count c =
     let fewer : tie.Else2 Inv-loop μ-loop = search in
@@ -99,12 +71,16 @@ add-count c =
 add-at : tie.Need-add-at Inv-loop μ-loop
 add-at c = search needs
 
+is-known-requires : tie.Need-is-known-requires Inv-loop μ-loop
+is-known-requires c κs = search needs
+
 loop-less : tie.Need-loop-less Inv-loop μ-loop
 loop-less c = search needs
 
 loop-again : tie.Need-loop-again Inv-loop μ-loop
 loop-again c =
-    let called : tie.After-add Inv-loop μ-loop = search in
+    let asked : tie.After-is-known Inv-loop μ-loop = search in
+    let carried : tie.After-carry Inv-loop μ-loop = search in
     let fewer : tie.Else2 Inv-loop μ-loop = search in
     let test : tie.Else1 Inv-loop μ-loop = search in
     let found-at : tie.After-found-at Inv-loop μ-loop = search in
@@ -113,16 +89,113 @@ loop-again c =
     let start : tie.Start Inv-loop μ-loop = search in
     let inv = in-loop .before .loop .inv in
     let spans = test .before .spans in
-    let image = called .before .before .carry .ensures in
-    let added = rw (c .before .s .given .1) at (called .add .ensures) in
+    let known = asked .is-known .ensures (search needs) in
+    let on = sym (spans .ensures .0) ∙ not-false (spans .result) (test .if1 .left) in
+    walk-step (start .pre .0) (start .pre .1 .0) (found .first-found .ensures) inv
+    (in-loop .loop-test .taken) (found-at .found-at .ensures) on
+    (search needs) (
+      walk-known (start .pre .0) (start .pre .1 .0) (found .first-found .ensures) inv
+          (in-loop .loop-test .taken) (found-at .found-at .ensures) on
+          (start .pre .1 .1 .0) (start .pre .1 .1 .1 .1 (known .0)) (known .1),
+      refl,
+      omega (arith, inv .few, fewer .if2 .left),
+    )
+
+has-room-requires : tie.Need-has-room-requires Inv-loop μ-loop
+has-room-requires c κs =
+    let at-loop : tie.At-loop Inv-loop μ-loop = search in
+    let good = at-loop .loop .inv .stored .good in
+    (good .added, used-top good)
+
+append-requires : tie.Need-append-requires Inv-loop μ-loop
+append-requires c κs =
+    let at-loop : tie.At-loop Inv-loop μ-loop = search in
+    let asked : tie.After-has-room Inv-loop μ-loop = search in
+    (at-loop .loop .inv .stored .good, asked .has-room .ensures (search needs))
+
+loop-less-2 : tie.Need-loop-less-2 Inv-loop μ-loop
+loop-less-2 c = search needs
+
+loop-again-2 : tie.Need-loop-again-2 Inv-loop μ-loop
+loop-again-2 c =
+    let called : tie.After-append Inv-loop μ-loop = search in
+    let carried : tie.After-carry Inv-loop μ-loop = search in
+    let fewer : tie.Else2 Inv-loop μ-loop = search in
+    let test : tie.Else1 Inv-loop μ-loop = search in
+    let found-at : tie.After-found-at Inv-loop μ-loop = search in
+    let in-loop : tie.In-loop Inv-loop μ-loop = search in
+    let found : tie.After-first-found Inv-loop μ-loop = search in
+    let start : tie.Start Inv-loop μ-loop = search in
+    let inv = in-loop .before .loop .inv in
+    let spans = test .before .spans in
+    let image = carried .carry .ensures in
     walk-step (start .pre .0) (start .pre .1 .0) (found .first-found .ensures) inv
     (in-loop .loop-test .taken) (found-at .found-at .ensures)
     (sym (spans .ensures .0) ∙ not-false (spans .result) (test .if1 .left))
     (search needs) (
-      stored-same (λ y. (λ e. e ∙ image, λ e. e ∙ sym image)) (added .stored),
+      stored-same (λ y. (λ e. e ∙ image, λ e. e ∙ sym image)) (called .append .ensures),
       refl,
       omega (arith, inv .few, fewer .if2 .left),
     )
+
+add-requires : tie.Need-add-requires Inv-loop μ-loop
+add-requires c κs = search needs
+
+enum-known-s : tie.Need-enum-known-s Inv-loop μ-loop
+enum-known-s c = search needs
+
+loop-less-3 : tie.Need-loop-less-3 Inv-loop μ-loop
+loop-less-3 c = search needs
+
+loop-again-3 : tie.Need-loop-again-3 Inv-loop μ-loop
+loop-again-3 c =
+    let called : tie.After-add Inv-loop μ-loop = search in
+    let carried : tie.After-carry Inv-loop μ-loop = search in
+    let fewer : tie.Else2 Inv-loop μ-loop = search in
+    let test : tie.Else1 Inv-loop μ-loop = search in
+    let found-at : tie.After-found-at Inv-loop μ-loop = search in
+    let in-loop : tie.In-loop Inv-loop μ-loop = search in
+    let found : tie.After-first-found Inv-loop μ-loop = search in
+    let start : tie.Start Inv-loop μ-loop = search in
+    let inv = in-loop .before .loop .inv in
+    let spans = test .before .spans in
+    let image = carried .carry .ensures in
+    walk-step (start .pre .0) (start .pre .1 .0) (found .first-found .ensures) inv
+    (in-loop .loop-test .taken) (found-at .found-at .ensures)
+    (sym (spans .ensures .0) ∙ not-false (spans .result) (test .if1 .left))
+    (search needs) (
+      stored-same (λ y. (λ e. e ∙ image, λ e. e ∙ sym image)) (rw (c .before .s .given .1) at (called .add .ensures)),
+      refl,
+      omega (arith, inv .few, fewer .if2 .left),
+    )
+
+enum-told : tie.Need-enum-told Inv-loop μ-loop
+enum-told c = search needs
+
+same-length-2 : tie.Need-same-length-2 Inv-loop μ-loop
+same-length-2 c = search needs
+
+-- the place where the image is known, from the one where it was added
+carried-of : tie.After-add Inv-loop μ-loop → tie.After-carry Inv-loop μ-loop
+carried-of called = search
+
+returns-2 : tie.Need-returns-2 Inv-loop μ-loop
+unfolding carried-of
+returns-2 c =
+    let called : tie.After-add Inv-loop μ-loop = search in
+    let test : tie.Else1 Inv-loop μ-loop = search in
+    let found-at : tie.After-found-at Inv-loop μ-loop = search in
+    let in-loop : tie.In-loop Inv-loop μ-loop = search in
+    let found : tie.After-first-found Inv-loop μ-loop = search in
+    let start : tie.Start Inv-loop μ-loop = search in
+    let inv = in-loop .before .loop .inv in
+    let spans = test .before .spans in
+    let image = carried-of called .carry .ensures in
+    let full = rw (c .enum-told .given .1) at (called .add .ensures) in
+    walk-too-much (start .pre .0) (start .pre .1 .0) (found .first-found .ensures) inv
+    (in-loop .loop-test .taken) (found-at .found-at .ensures)
+    (sym (spans .ensures .0) ∙ not-false (spans .result) (test .if1 .left))
+    (too-much-crowded (λ y e. e ∙ image) full)
 
 same-length-3 : tie.Need-same-length-3 Inv-loop μ-loop
 same-length-3 c = search needs
@@ -162,15 +235,22 @@ carry-match-spec =
     same-length
     returns
     carry-requires
+    add-count
+    add-at
+    is-known-requires
+    loop-less
+    loop-again
+    has-room-requires
+    append-requires
+    loop-less-2
+    loop-again-2
     add-requires
     enum-known-s
+    loop-less-3
+    loop-again-3
     enum-told
     same-length-2
     returns-2
-    add-count
-    add-at
-    loop-less
-    loop-again
     same-length-3
     returns-3
     same-length-4

@@ -1,6 +1,8 @@
 -- The proof of the cycle of calls {a_step, b_step}. Each one's measure is the number of unused places. Both go through
 -- the one law of a turn, for A and for B. Assumes nothing.
 use Prim.Native.Nat.{ℕ, _<_}
+use mathlib.Core.Path.{sym}
+use mathlib.Core.Bool.{true≢false}
 use native.Mathlib.Omega.{arith}
 use borrow.Author.Needs.{needs}
 use borrow.Fn.Kinds.{In}
@@ -9,37 +11,37 @@ use Rattle.refinement.specs.declared.Side.the-variants.{A, B}
 use Rattle.refining.specs.Columns.{columnsOf}
 use Rattle.stepping.specs.Engine.{unused}
 use Rattle.stepping.proofs.Indexed.{fit-other}
-use Rattle.stepping.proofs.Stepping.{too-many, turn-ready, turn-told, finished, stepped-on}
+use Rattle.stepping.proofs.Stepping.{too-many, ends-known, turn-requires, turn-told, finished, stepped-on}
 use Rattle.stepping.proofs.a_step.Reads as a-step
 use Rattle.stepping.proofs.a_step.Kinds as a-step-kinds
 use Rattle.stepping.proofs.+a_step+b_step.Lts-a_step as a-step-lts
 use Rattle.stepping.proofs.b_step.Reads as b-step
 use Rattle.stepping.proofs.b_step.Kinds as b-step-kinds
 use Rattle.stepping.proofs.+a_step+b_step.Lts-b_step as b-step-lts
-use Rattle.carrying_cuts.proofs.take_turn.Reads as take-turn-reads
+use Rattle.turning.proofs.take_turn.Reads as take-turn-reads
 use Rattle.reading_cuts.proofs.none_found.Reads as none-found-reads
 use Rattle.stepping.proofs.+a_step+b_step.{statement}
 use Rattle.stepping.proofs.+a_step+b_step.Tie.{close}
 
-abbrev μ-a-step : Measures 6 a-step-kinds.ps ℕ
-μ-a-step κs a = unused (a .1 .1 .1 .1 .1 .1 .0)
+abbrev μ-a-step : Measures 8 a-step-kinds.ps ℕ
+μ-a-step κs a = unused (a .1 .1 .1 .1 .1 .1 .1 .1 .0)
 
-abbrev μ-b-step : Measures 6 b-step-kinds.ps ℕ
-μ-b-step κs a = unused (a .1 .1 .1 .1 .1 .1 .0)
+abbrev μ-b-step : Measures 8 b-step-kinds.ps ℕ
+μ-b-step κs a = unused (a .1 .1 .1 .1 .1 .1 .1 .1 .0)
 
 -- what `a_step` is given at the measure t, and what a call of it asks below t
-abbrev a-step-at : ℕ → In 6 a-step-kinds.ps
-a-step-at t = and 6 a-step-kinds.ps (is 6 a-step-kinds.ps μ-a-step t) a-step.Pre
+abbrev a-step-at : ℕ → In 8 a-step-kinds.ps
+a-step-at t = and 8 a-step-kinds.ps (is 8 a-step-kinds.ps μ-a-step t) a-step.Pre
 
-abbrev a-step-below : ℕ → In 6 a-step-kinds.ps
-a-step-below t = and 6 a-step-kinds.ps (falls 6 a-step-kinds.ps _<_ μ-a-step t) a-step.Pre
+abbrev a-step-below : ℕ → In 8 a-step-kinds.ps
+a-step-below t = and 8 a-step-kinds.ps (falls 8 a-step-kinds.ps _<_ μ-a-step t) a-step.Pre
 
 -- what `b_step` is given at the measure t, and what a call of it asks below t
-abbrev b-step-at : ℕ → In 6 b-step-kinds.ps
-b-step-at t = and 6 b-step-kinds.ps (is 6 b-step-kinds.ps μ-b-step t) b-step.Pre
+abbrev b-step-at : ℕ → In 8 b-step-kinds.ps
+b-step-at t = and 8 b-step-kinds.ps (is 8 b-step-kinds.ps μ-b-step t) b-step.Pre
 
-abbrev b-step-below : ℕ → In 6 b-step-kinds.ps
-b-step-below t = and 6 b-step-kinds.ps (falls 6 b-step-kinds.ps _<_ μ-b-step t) b-step.Pre
+abbrev b-step-below : ℕ → In 8 b-step-kinds.ps
+b-step-below t = and 8 b-step-kinds.ps (falls 8 b-step-kinds.ps _<_ μ-b-step t) b-step.Pre
 
 -- what the calls in each step ask and give, where it is at the measure t
 abbrev a-step-calls : ℕ → a-step-lts.Claims
@@ -75,7 +77,7 @@ a-step-take-turn-requires : (t : ℕ) → a-step-lts.Need-take-turn-requires (a-
 a-step-take-turn-requires t c κs =
     let start : a-step-lts.Start (a-step-calls t) (a-step-at t) a-step.Post = search in
     let pre = start .pre .1 in
-    (pre .0, (turn-ready A (pre .1), pre .1 .few A))
+    turn-requires A (pre .1 .0) (pre .0) (pre .1 .1 .0) (λ e. absurd (true≢false (sym e)))
 
 a-step-enum-told : (t : ℕ) → a-step-lts.Need-enum-told (a-step-calls t) (a-step-at t) a-step.Post
 a-step-enum-told t c = search needs
@@ -95,7 +97,7 @@ a-step-returns t c =
     let held : a-step-lts.After-hits (a-step-calls t) (a-step-at t) a-step.Post = search in
     let called : a-step-lts.After-take-turn (a-step-calls t) (a-step-at t) a-step.Post = search in
     let start = a-step-start t called in
-    let went = turn-told (held .hits .given .1) (start .pre .1 .0) A (start .pre .1 .1) (called .take-turn .ensures) in
+    let went = turn-told (held .hits .given .1) (start .pre .1 .0) A (start .pre .1 .1 .0) (called .take-turn .ensures) in
     finished B (went .0) (c .before .none-found .ensures .when (c .if1 .taken))
 
 a-step-same-length-2 : (t : ℕ) → a-step-lts.Need-same-length-2 (a-step-calls t) (a-step-at t) a-step.Post
@@ -108,7 +110,7 @@ a-step-returns-2 t c =
     let held : a-step-lts.After-hits (a-step-calls t) (a-step-at t) a-step.Post = search in
     let called : a-step-lts.After-take-turn (a-step-calls t) (a-step-at t) a-step.Post = search in
     let start = a-step-start t called in
-    let went = turn-told (held .hits .given .1) (start .pre .1 .0) A (start .pre .1 .1) (called .take-turn .ensures) in
+    let went = turn-told (held .hits .given .1) (start .pre .1 .0) A (start .pre .1 .1 .0) (called .take-turn .ensures) in
     let more = test .before .none-found .ensures .unless (test .if1 .left) in
     (went .0, went .1 more)
 
@@ -122,10 +124,10 @@ a-step-b-step-requires t c κs =
     let held : a-step-lts.After-hits (a-step-calls t) (a-step-at t) a-step.Post = search in
     let called : a-step-lts.After-take-turn (a-step-calls t) (a-step-at t) a-step.Post = search in
     let start = a-step-start t called in
-    let went = turn-told (held .hits .given .1) (start .pre .1 .0) A (start .pre .1 .1) (called .take-turn .ensures) in
+    let went = turn-told (held .hits .given .1) (start .pre .1 .0) A (start .pre .1 .1 .0) (called .take-turn .ensures) in
     let more = test .before .none-found .ensures .unless (test .if1 .left) in (
       omega (arith, start .pre .0, went .1 more),
-      (start .pre .1 .0, went .0),
+      (start .pre .1 .0, (went .0, start .pre .1 .1 .1)),
     )
 
 a-step-same-length-3 : (t : ℕ) → a-step-lts.Need-same-length-3 (a-step-calls t) (a-step-at t) a-step.Post
@@ -137,7 +139,7 @@ a-step-returns-3 t c =
     let called : a-step-lts.After-take-turn (a-step-calls t) (a-step-at t) a-step.Post = search in
     let start = a-step-start t called in
     let pre = start .pre .1 in
-    too-many (pre .0) (pre .1) (rw (c .enum-told .given .1) at (called .take-turn .ensures))
+    too-many (pre .0) (pre .1 .0) (rw (c .enum-told .given .1) at (called .take-turn .ensures))
 
 a-step-same-length-4 : (t : ℕ) → a-step-lts.Need-same-length-4 (a-step-calls t) (a-step-at t) a-step.Post
 a-step-same-length-4 t c = search needs
@@ -149,7 +151,7 @@ a-step-returns-4 t c =
     let held : a-step-lts.After-hits (a-step-calls t) (a-step-at t) a-step.Post = search in
     let called : a-step-lts.After-take-turn (a-step-calls t) (a-step-at t) a-step.Post = search in
     let start = a-step-start t called in
-    let went = turn-told (held .hits .given .1) (start .pre .1 .0) A (start .pre .1 .1) (called .take-turn .ensures) in
+    let went = turn-told (held .hits .given .1) (start .pre .1 .0) A (start .pre .1 .1 .0) (called .take-turn .ensures) in
     let args = start .args in
     let step = c .before .before .b-step in
     let more = test .before .none-found .ensures .unless (test .if1 .left) in
@@ -170,7 +172,7 @@ b-step-take-turn-requires : (t : ℕ) → b-step-lts.Need-take-turn-requires (b-
 b-step-take-turn-requires t c κs =
     let start : b-step-lts.Start (b-step-calls t) (b-step-at t) b-step.Post = search in
     let pre = start .pre .1 in
-    (fit-other (pre .0), (turn-ready B (pre .1), pre .1 .few B))
+    turn-requires B (pre .1 .0) (fit-other (pre .0)) (pre .1 .1 .1) (λ e. ends-known (pre .0) (pre .1 .0))
 
 b-step-enum-told : (t : ℕ) → b-step-lts.Need-enum-told (b-step-calls t) (b-step-at t) b-step.Post
 b-step-enum-told t c = search needs
@@ -190,7 +192,7 @@ b-step-returns t c =
     let held : b-step-lts.After-hits (b-step-calls t) (b-step-at t) b-step.Post = search in
     let called : b-step-lts.After-take-turn (b-step-calls t) (b-step-at t) b-step.Post = search in
     let start = b-step-start t called in
-    let went = turn-told (held .hits .given .1) (start .pre .1 .0) B (start .pre .1 .1) (called .take-turn .ensures) in
+    let went = turn-told (held .hits .given .1) (start .pre .1 .0) B (start .pre .1 .1 .0) (called .take-turn .ensures) in
     finished A (went .0) (c .before .none-found .ensures .when (c .if1 .taken))
 
 b-step-same-length-2 : (t : ℕ) → b-step-lts.Need-same-length-2 (b-step-calls t) (b-step-at t) b-step.Post
@@ -203,7 +205,7 @@ b-step-returns-2 t c =
     let held : b-step-lts.After-hits (b-step-calls t) (b-step-at t) b-step.Post = search in
     let called : b-step-lts.After-take-turn (b-step-calls t) (b-step-at t) b-step.Post = search in
     let start = b-step-start t called in
-    let went = turn-told (held .hits .given .1) (start .pre .1 .0) B (start .pre .1 .1) (called .take-turn .ensures) in
+    let went = turn-told (held .hits .given .1) (start .pre .1 .0) B (start .pre .1 .1 .0) (called .take-turn .ensures) in
     let more = test .before .none-found .ensures .unless (test .if1 .left) in
     (went .0, went .1 more)
 
@@ -217,10 +219,10 @@ b-step-a-step-requires t c κs =
     let held : b-step-lts.After-hits (b-step-calls t) (b-step-at t) b-step.Post = search in
     let called : b-step-lts.After-take-turn (b-step-calls t) (b-step-at t) b-step.Post = search in
     let start = b-step-start t called in
-    let went = turn-told (held .hits .given .1) (start .pre .1 .0) B (start .pre .1 .1) (called .take-turn .ensures) in
+    let went = turn-told (held .hits .given .1) (start .pre .1 .0) B (start .pre .1 .1 .0) (called .take-turn .ensures) in
     let more = test .before .none-found .ensures .unless (test .if1 .left) in (
       omega (arith, start .pre .0, went .1 more),
-      (start .pre .1 .0, went .0),
+      (start .pre .1 .0, (went .0, start .pre .1 .1 .1)),
     )
 
 b-step-same-length-3 : (t : ℕ) → b-step-lts.Need-same-length-3 (b-step-calls t) (b-step-at t) b-step.Post
@@ -232,7 +234,7 @@ b-step-returns-3 t c =
     let called : b-step-lts.After-take-turn (b-step-calls t) (b-step-at t) b-step.Post = search in
     let start = b-step-start t called in
     let pre = start .pre .1 in
-    too-many (pre .0) (pre .1) (rw (c .enum-told .given .1) at (called .take-turn .ensures))
+    too-many (pre .0) (pre .1 .0) (rw (c .enum-told .given .1) at (called .take-turn .ensures))
 
 b-step-same-length-4 : (t : ℕ) → b-step-lts.Need-same-length-4 (b-step-calls t) (b-step-at t) b-step.Post
 b-step-same-length-4 t c = search needs
@@ -244,7 +246,7 @@ b-step-returns-4 t c =
     let held : b-step-lts.After-hits (b-step-calls t) (b-step-at t) b-step.Post = search in
     let called : b-step-lts.After-take-turn (b-step-calls t) (b-step-at t) b-step.Post = search in
     let start = b-step-start t called in
-    let went = turn-told (held .hits .given .1) (start .pre .1 .0) B (start .pre .1 .1) (called .take-turn .ensures) in
+    let went = turn-told (held .hits .given .1) (start .pre .1 .0) B (start .pre .1 .1 .0) (called .take-turn .ensures) in
     let args = start .args in
     let step = c .before .before .a-step in
     let more = test .before .none-found .ensures .unless (test .if1 .left) in

@@ -1,0 +1,3 @@
+pub mod OneCut
+pub mod Placing
+pub mod CutByCut

@@ -1,0 +1,2 @@
+pub mod Spanned
+pub mod Exceeding
