@@ -1,3 +1,1 @@
-pub mod Settled
 pub mod Seeds
-pub mod Drives

@@ -1,108 +1,33 @@
 -- The first cuts: the A ends of the matches.
---     two-added, one-full  both ends of one match are added, or there is no room
---     Sown                 the invariant of the loop: the ends of the first k matches are added
---     sown-start, sown-step, sown-full, sown-end     where it begins, one match more, no room for one, and its end
 --     seeded-open          with all ends added to A and none to B, all holds that holds between two steps
 --     seeded-exceeds       no room for all ends: every resolved refinement exceeds the capacity
 -- Assumes nothing.
-use Prim.Native.Nat.{ℕ, _+_, _*_, _≤_, _<_}
+use Prim.Native.Nat.{ℕ, _*_, _≤_, _<_}
 use mathlib.Core.Path.{_≡_, refl, sym, ap, subst, _∙_}
 use mathlib.Core.Logic.{_⊎_, inl, inr, ⊎-elim}
 use mathlib.Core.List.{List, [], List·Memᴰ·not-nil}
 use native.Mathlib.Omega.{arith}
-use native.Mathlib.Decide.{ℕ-discrete}
-use lib.ListN.{length, getD}
+use lib.ListN.{length}
 use Rattle.refinement.specs.declared.Side.{Side}
 use Rattle.refinement.specs.declared.Side.the-variants.{A, B}
 use Rattle.refinement.specs.Order.{_∈_}
 use Rattle.refinement.specs.Match.{Match, left, right}
 use Rattle.refinement.specs.Cut.{left-end, right-end, end}
 use Rattle.runs.specs.Runs.{In, Run}
-use Rattle.cut_set.specs.Store.{Good, Member, placesOf, Stored, Crowded, Emptied, AddedTo, Adding}
+use Rattle.cut_set.specs.Store.{Good, Member, NothingAdded, placesOf, Stored, Emptied}
 use Rattle.cut_set.specs.declared.CutSet.{CutSet}
-use Rattle.cut_set.specs.declared.Added.{Added}
-use Rattle.cut_set.proofs.Laws.{stored-none, stored-same, stored-then}
+use Rattle.cut_set.proofs.Gathering.{used-limit}
 use Rattle.refining.specs.Columns.{Columns, seenFrom, countOf, Fit, matchesOf}
 use Rattle.refining.specs.Refining.{heldIn}
+use Rattle.refining.specs.Demands.{EveryExceeds}
 use Rattle.refining.proofs.RightEnds.{right-at}
 use Rattle.carrying_match.specs.OneMatch.{Overflow}
+use Rattle.carrying_match.proofs.Storing.{member-only}
+use Rattle.seeding.specs.Seeds.{EndOf}
 use Rattle.stepping.specs.Engine.{CutOn, setOn, hitsAt, Counted, Open}
-use Rattle.closing.specs.AllCuts.{EndAt, EndOf, Seeding}
-use Rattle.refining.specs.Demands.{EveryExceeds}
 use Rattle.stepping.specs.declared.Cuts.{Cuts}
 use Rattle.stepping.proofs.Indexed.{∈-matches, matches-∈}
 use Rattle.stepping.proofs.Counting.{hits-none, overflow-exceeds}
-use Rattle.stepping.proofs.Members.{members-come, overflow-from}
-use Rattle.carrying_match.proofs.Storing.{crowded-overflow}
-
-pub two-added :
-    (xs : List ℕ) (s : CutSet) {ys : List ℕ} {t : CutSet} (zs : List ℕ) (x z : ℕ) → Good xs s → AddedTo xs s x ys t
-    → (answer : Added) → Adding ys t z zs answer → Seeding (EndAt x z) xs s zs answer
-two-added xs s zs x z g h (Added.Held u) k = stored-then (h .stored) (k .stored)
-two-added xs s zs x z g h Added.Full k =
-    overflow-from (omega (arith, h .stored .base-same, h .stored .limit-same))
-    (λ y. ⊎-elim
-    (λ p. ⊎-elim inl (λ e. inr (inl e)) (members-come g (h .stored .good) (h .stored .finished) (h .stored .only) p))
-    (λ e. inr (inr e)))
-    (crowded-overflow (h .stored .good) (k .0))
-
-pub one-full :
-    {xs : List ℕ} {s : CutSet} {x : ℕ} (z : ℕ) → Good xs s → Crowded (λ y. y ≡ x) xs s
-    → Overflow (λ y. Member xs s y ⊎ EndAt x z y) (placesOf s)
-one-full z g c = overflow-from refl (λ y. ⊎-elim inl (λ e. inr (inl e))) (crowded-overflow g c)
-
-pub record Sown (f r xs : List ℕ) (s : CutSet) (k : ℕ) (ys : List ℕ) (t : CutSet) : Type 0 where
-  pub to : k ≤ length f
-  pub lengths : length ys ≡ length xs
-  pub stored : Stored (EndOf f r k) xs s ys t
-
-pub sown-start : {f r xs : List ℕ} {s : CutSet} → Good xs s → Sown f r xs s 0 xs s
-sown-start g = record {
-  to = omega arith;
-  lengths = refl;
-  stored = stored-none g
-      (λ y p. absurd (omega (arith, p .below)));
-}
-
-module _ {f r xs ys : List ℕ} {s t : CutSet} {k : ℕ} (w : Sown f r xs s k ys t) (l : k < length f) where
-  pub sown-step :
-      {zs : List ℕ} {u : CutSet} → length zs ≡ length ys → Stored (EndAt (getD f k 0) (getD r k 0)) ys t zs u
-      → Sown f r xs s (k + 1) zs u
-  sown-step e h = record {
-    to = omega arith;
-    lengths = e ∙ w .lengths;
-    stored = stored-same (λ y. (
-      ⊎-elim
-          (λ p. record { index = p .index; below = omega (arith, p .below); is = p .is })
-          (λ p. record { index = k; below = omega arith; is = p }),
-      λ p. part y p (ℕ-discrete (p .index) k),
-    ))
-        (stored-then (w .stored) h);
-  }
-    where
-      part :
-          (y : ℕ) (p : EndOf f r (k + 1) y) → Dec (p .index ≡ k)
-          → EndOf f r k y ⊎ EndAt (getD f k 0) (getD r k 0) y
-      part y p (yes e) = inr (subst (λ (j : ℕ). EndAt (getD f j 0) (getD r j 0) y) e (p .is))
-      part y p (no e) = inl (record { index = p .index; below = omega (arith, p .below, e); is = p .is })
-
-  pub sown-full :
-      Good xs s → Overflow (λ y. Member ys t y ⊎ EndAt (getD f k 0) (getD r k 0) y) (placesOf t)
-      → Overflow (λ y. Member xs s y ⊎ EndOf f r (length f) y) (placesOf s)
-  sown-full g o =
-      overflow-from (omega (arith, w .stored .base-same, w .stored .limit-same))
-      (λ y. ⊎-elim
-      (λ p. ⊎-elim inl
-      (λ q. inr (record { index = q .index; below = omega (arith, q .below); is = q .is }))
-      (members-come g (w .stored .good) (w .stored .finished) (w .stored .only) p))
-      (λ p. inr (record { index = k; below = l; is = p })))
-      o
-
-pub sown-end :
-    {f r xs ys : List ℕ} {s t : CutSet} {k : ℕ} → Sown f r xs s k ys t → length f ≤ k
-    → Stored (EndOf f r (length f)) xs s ys t
-sown-end {f} {r} {xs} {ys} {s} {t} w l =
-    subst (λ (n : ℕ). Stored (EndOf f r n) xs s ys t) (omega (arith, w .to)) (w .stored)
 
 none-in : {xs : List ℕ} {lo hi y : ℕ} → hi ≤ lo → In xs lo hi y → ⊥
 none-in h p = omega (arith, p .from, p .below)
@@ -113,20 +38,26 @@ empty-run ys o e w = record { order = o; within = w; rising = λ i j l m u. absu
 -- a set with no member is one in each list of that length
 empty-good : {xs ys : List ℕ} {s : CutSet} → Good xs s → s .used ≡ s .base → length ys ≡ length xs → Good ys s
 empty-good {xs} {ys} {s} g e n =
-    let l1 : s .base ≤ s .long = g .finished-long .order in
-    let l2 : s .long ≤ s .done = g .finished-short .order in
-    let l3 : s .done ≤ s .fresh = g .found-long .order in
-    let l4 : s .fresh ≤ s .used = g .found-short .order in
-    let l5 : s .used ≤ s .limit = g .room in
-    let l6 : s .limit ≤ length xs = g .within in
+    let long : s .base ≤ s .long = g .finished-long .order in
+    let middle : s .long ≤ s .mid = g .finished-middle .order in
+    let short : s .mid ≤ s .done = g .finished-short .order in
+    let found : s .done ≤ s .fresh = g .found-run .order in
+    let added : s .fresh ≤ s .used = g .added in
+    let room : s .used ≤ s .limit = used-limit g in
+    let within : s .limit ≤ length xs = g .within in
     record {
-      finished-long = empty-run ys l1 (omega arith) (omega arith);
-      finished-short = empty-run ys l2 (omega arith) (omega arith);
-      found-long = empty-run ys l3 (omega arith) (omega arith);
-      found-short = empty-run ys l4 (omega arith) (omega arith);
+      finished-long = empty-run ys long (omega arith) (omega arith);
+      finished-middle = empty-run ys middle (omega arith) (omega arith);
+      finished-short = empty-run ys short (omega arith) (omega arith);
+      found-run = empty-run ys found (omega arith) (omega arith);
       few-finished = omega arith;
-      few-found = omega arith;
-      room = l5;
+      added = added;
+      room = g .room;
+      notes = record {
+        order = g .notes .order;
+        few = g .notes .few;
+        noted = λ h y i. absurd (omega (arith, i .from, i .below));
+      };
       within = omega arith;
       distinct = λ i j a b c f q. absurd (omega arith);
     }
@@ -160,6 +91,7 @@ module _ (columns : Columns) (fit : Fit columns) where
   module _ (cap : ℕ) {xs ys : List ℕ} {s t e : CutSet} (z : Emptied xs 0 (2 * cap) s)
       (q : Emptied xs (2 * cap) (4 * cap) e)
       (h : Stored AnEnd xs s ys t)
+      (d : NothingAdded t)
       (n : length ys ≡ length xs)
     where
       no-b : {x : ℕ} → Member ys e x → ⊥
@@ -168,7 +100,7 @@ module _ (columns : Columns) (fit : Fit columns) where
       sound : (u : Side) (x : ℕ) → Member ys (setOn u (seeded t e)) x → CutOn (heldIn columns) u x
       sound A x p =
           ⊎-elim (λ m. absurd (none-in (omega (arith, z .base-is, z .used-is)) m)) end-cut
-          (members-come (z .good) (h .good) (h .finished) (h .only) p)
+          (member-only (z .good) h p)
       sound B x p = absurd (no-b p)
 
       none-finished : (u : Side) (x : ℕ) → In ys (setOn u (seeded t e) .base) (setOn u (seeded t e) .done) x → ⊥
@@ -208,6 +140,7 @@ module _ (columns : Columns) (fit : Fit columns) where
         ended = ended;
         closed = λ u m i x w p. absurd (none-finished u x p);
         settled = q .done-is ∙ sym (q .used-is);
+        gathered = λ u. elim u [ A ↦ d | B ↦ q .fresh-is ∙ sym (q .used-is) ];
         counted = counted;
         few = λ u. elim u [ A ↦ omega arith | B ↦ omega arith ];
       }

@@ -18,6 +18,13 @@ const FEW_MATCHES: usize = 32;
 
 const SOME_MATCHES: usize = 256;
 
+// Room for an index of so many matches; few have none.
+const FEW_INDEX: usize = 1;
+
+const SOME_INDEX: usize = 800;
+
+const MOST_INDEX: usize = 6400;
+
 // Lengths, that many matches, end.
 const SHORT_SCRIPT: usize = LENGTHS_WIDTH + MATCH_WIDTH * FEW_MATCHES + 1;
 
@@ -32,6 +39,8 @@ fn refine_in(
     left_b: &mut [u32],
     right_b: &mut [u32],
     reversed: &mut [bool],
+    index_a: &mut [u32],
+    index_b: &mut [u32],
     table: &mut [u32],
     work: &mut [u32],
 ) -> Refined
@@ -49,6 +58,8 @@ fn refine_in(
             &left_b[..count],
             right_b,
             &reversed[..count],
+            index_a,
+            index_b,
             table,
             work,
         ),
@@ -67,6 +78,8 @@ fn refine_few(script: &[u8], table: &mut [u32], work: &mut [u32]) -> Refined
     let mut left_b = [0; FEW_MATCHES];
     let mut right_b = [0; FEW_MATCHES];
     let mut reversed = [false; FEW_MATCHES];
+    let mut index_a = [0; FEW_INDEX];
+    let mut index_b = [0; FEW_INDEX];
     refine_in(
         script,
         &mut left_a[..],
@@ -74,6 +87,8 @@ fn refine_few(script: &[u8], table: &mut [u32], work: &mut [u32]) -> Refined
         &mut left_b[..],
         &mut right_b[..],
         &mut reversed[..],
+        &mut index_a[..],
+        &mut index_b[..],
         table,
         work,
     )
@@ -91,6 +106,8 @@ fn refine_some(script: &[u8], table: &mut [u32], work: &mut [u32]) -> Refined
     let mut left_b = [0; SOME_MATCHES];
     let mut right_b = [0; SOME_MATCHES];
     let mut reversed = [false; SOME_MATCHES];
+    let mut index_a = [0; SOME_INDEX];
+    let mut index_b = [0; SOME_INDEX];
     refine_in(
         script,
         &mut left_a[..],
@@ -98,6 +115,8 @@ fn refine_some(script: &[u8], table: &mut [u32], work: &mut [u32]) -> Refined
         &mut left_b[..],
         &mut right_b[..],
         &mut reversed[..],
+        &mut index_a[..],
+        &mut index_b[..],
         table,
         work,
     )
@@ -114,6 +133,8 @@ fn refine_many(script: &[u8], table: &mut [u32], work: &mut [u32]) -> Refined
     let mut left_b = [0; MOST_MATCHES];
     let mut right_b = [0; MOST_MATCHES];
     let mut reversed = [false; MOST_MATCHES];
+    let mut index_a = [0; MOST_INDEX];
+    let mut index_b = [0; MOST_INDEX];
     refine_in(
         script,
         &mut left_a[..],
@@ -121,6 +142,8 @@ fn refine_many(script: &[u8], table: &mut [u32], work: &mut [u32]) -> Refined
         &mut left_b[..],
         &mut right_b[..],
         &mut reversed[..],
+        &mut index_a[..],
+        &mut index_b[..],
         table,
         work,
     )

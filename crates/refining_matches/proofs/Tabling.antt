@@ -31,12 +31,12 @@ use Rattle.refining.specs.Columns.{Columns, columnsOf, columnsRead, countOf, fr
 use Rattle.refining.specs.Columns.{FitRead, RightEnds, Fit}
 use Rattle.refining.proofs.RightEnds.{rights-alone, read-fit, right-at}
 use Rattle.stepping.specs.Engine.{CutOn}
-use Rattle.closing.specs.AllCuts.{AllCuts, Closure}
+use Rattle.driving.specs.AllCuts.{AllCuts, Closure}
 use Rattle.refining.specs.Rows.{piecesCut, pieceNumbers}
 use Rattle.refining.specs.Refining.{Given, heldIn, leastOf, capacityOf, workNeeded, zeroed}
 use Rattle.writing_rows.specs.Writing.{Writable, Written}
 use Rattle.refining_matches.specs.Tabling.{Tabled, MatchesRefined}
-use Rattle.closing.specs.declared.Closed.{Closed}
+use Rattle.driving.specs.declared.Closed.{Closed}
 use Rattle.refining.specs.declared.answers.Refined.{Refined}
 use Rattle.stepping.proofs.Indexed.{∈-matches, matches-good}
 use Rattle.carrying_match.proofs.RunLists.{slice-in, in-slice, slice-rising}

@@ -1,6 +1,6 @@
 // Refining the matches of a script that was read: their cuts, and from these the rows of the table.
-use closing::Closed;
 use closing::close;
+use driving::Closed;
 use refining::answers::Refined;
 use right_ends::work_out;
 use rows::ROW_WIDTH;
@@ -31,6 +31,8 @@ fn cut_and_write(
     left_b: &[u32],
     right_b: &[u32],
     reversed: &[bool],
+    index_a: &mut [u32],
+    index_b: &mut [u32],
     table: &mut [u32],
     work: &mut [u32],
 ) -> Refined
@@ -50,12 +52,14 @@ fn cut_and_write(
         left_b,
         right_b,
         reversed,
+        index_a,
+        index_b,
         work,
         table.len() / ROW_WIDTH,
     ) {
         Closed::TooMany => Refined::Refused(Refusal::TooManyPieces),
         Closed::CutsOfA(set) => {
-            let cuts = cut_set::join(work, set);
+            let cuts = settling::join(work, set);
             let run = reading_cuts::all_places(work, cuts);
             Refined::Rows(write_rows(
                 left_a,
@@ -79,6 +83,8 @@ fn refine_matches(
     left_b: &[u32],
     right_b: &[u32],
     reversed: &[bool],
+    index_a: &mut [u32],
+    index_b: &mut [u32],
     table: &mut [u32],
     work: &mut [u32],
 ) -> Refined
@@ -94,7 +100,17 @@ fn refine_matches(
     if work.len() < 4 * (table.len() / ROW_WIDTH) {
         return Refined::Refused(Refusal::WorkTooShort);
     }
-    let answer = cut_and_write(left_a, right_a, left_b, right_b, reversed, table, work);
+    let answer = cut_and_write(
+        left_a,
+        right_a,
+        left_b,
+        right_b,
+        reversed,
+        index_a,
+        index_b,
+        table,
+        work,
+    );
     clear(work);
     answer
 }
@@ -107,6 +123,8 @@ pub fn refine_read(
     left_b: &[u32],
     right_b: &mut [u32],
     reversed: &[bool],
+    index_a: &mut [u32],
+    index_b: &mut [u32],
     table: &mut [u32],
     work: &mut [u32],
 ) -> Refined
@@ -134,6 +152,8 @@ pub fn refine_read(
         left_b,
         &right_b[..left_a.len()],
         reversed,
+        index_a,
+        index_b,
         table,
         work,
     )

@@ -19,6 +19,12 @@ slice-aggregate-refine-in-4 c = search needs
 slice-aggregate-refine-in-5 : tie.Need-slice-aggregate-refine-in-5
 slice-aggregate-refine-in-5 c = search needs
 
+slice-aggregate-refine-in-6 : tie.Need-slice-aggregate-refine-in-6
+slice-aggregate-refine-in-6 c = search needs
+
+slice-aggregate-refine-in-7 : tie.Need-slice-aggregate-refine-in-7
+slice-aggregate-refine-in-7 c = search needs
+
 refine-in-requires : tie.Need-refine-in-requires
 refine-in-requires c κs = search (needs, short-roomy 256)
 
@@ -40,6 +46,8 @@ refine-some-spec =
     slice-aggregate-refine-in-3
     slice-aggregate-refine-in-4
     slice-aggregate-refine-in-5
+    slice-aggregate-refine-in-6
+    slice-aggregate-refine-in-7
     refine-in-requires
     same-length
     same-length-2

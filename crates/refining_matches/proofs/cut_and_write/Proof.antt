@@ -6,7 +6,13 @@ use Rattle.refining_matches.proofs.cut_and_write.Statement.{statement}
 use Rattle.refining_matches.proofs.cut_and_write.Tie as tie
 
 close-requires : tie.Need-close-requires
-close-requires c κs = search needs
+close-requires c κs =
+    let start : tie.Start = search in
+    (start .pre .0, (search needs, search needs))
+
+-- the place where the closure has answered, from where its set is named
+closed-of : tie.After-set → tie.After-close
+closed-of held = search
 
 enum-told : tie.Need-enum-told
 enum-told c = search needs
@@ -25,12 +31,12 @@ start-of : tie.After-close → tie.Start
 start-of closed = search
 
 write-rows-requires : tie.Need-write-rows-requires
-unfolding start-of
+unfolding start-of closed-of
 write-rows-requires c κs =
     let placed : tie.After-all-places = search in
     let joined : tie.After-join = search in
     let held : tie.After-set = search in
-    let closed : tie.After-close = search in
+    let closed = closed-of held in
     let start = start-of closed in
     let fit = start .pre .0 in (
       fit,
@@ -41,23 +47,38 @@ write-rows-requires c κs =
 same-length : tie.Need-same-length
 same-length c = search needs
 
-returns : tie.Need-returns
-returns c = search (needs, crowded-tabled)
-
 same-length-2 : tie.Need-same-length-2
 same-length-2 c = search needs
 
 same-length-3 : tie.Need-same-length-3
 same-length-3 c = search needs
 
+returns : tie.Need-returns
+returns c = search (needs, crowded-tabled)
+
+same-length-4 : tie.Need-same-length-4
+unfolding closed-of
+same-length-4 c =
+    let held : tie.After-set = search in
+    closed-of held .close .kept .1 .1 .1 .1 .1 .0
+
+same-length-5 : tie.Need-same-length-5
+same-length-5 c = search needs
+
+same-length-6 : tie.Need-same-length-6
+same-length-6 c = search needs
+
+same-length-7 : tie.Need-same-length-7
+same-length-7 c = search needs
+
 returns-2 : tie.Need-returns-2
-unfolding start-of
+unfolding start-of closed-of
 returns-2 c =
     let written : tie.After-write-rows = search in
     let placed : tie.After-all-places = search in
     let joined : tie.After-join = search in
     let held : tie.After-set = search in
-    let closed : tie.After-close = search in
+    let closed = closed-of held in
     let start = start-of closed in
     rows-tabled (start .pre .0) (start .args .table .now) (held .set .given .1) (joined .join .ensures)
     (placed .all-places .ensures) (closed .close .ensures) (written .write-rows .ensures)
@@ -73,7 +94,11 @@ cut-and-write-spec =
     all-places-requires
     write-rows-requires
     same-length
-    returns
     same-length-2
     same-length-3
+    returns
+    same-length-4
+    same-length-5
+    same-length-6
+    same-length-7
     returns-2)

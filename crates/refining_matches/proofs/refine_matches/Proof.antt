@@ -14,7 +14,9 @@ returns : tie.Need-returns
 returns c = sym (matches-short _ _ _ (c .if1 .taken))
 
 cut-and-write-requires : tie.Need-cut-and-write-requires
-cut-and-write-requires c κs = search needs
+cut-and-write-requires c κs =
+    let start : tie.Start = search in
+    (start .pre .0, (search needs, start .pre .1))
 
 clear-requires : tie.Need-clear-requires
 clear-requires c κs = search needs
@@ -24,6 +26,12 @@ same-length c = search needs
 
 same-length-2 : tie.Need-same-length-2
 same-length-2 c = search needs
+
+same-length-3 : tie.Need-same-length-3
+same-length-3 c = search needs
+
+same-length-4 : tie.Need-same-length-4
+same-length-4 c = search needs
 
 returns-2 : tie.Need-returns-2
 returns-2 c = search (needs, cleared-refined)
@@ -38,4 +46,6 @@ refine-matches-spec =
     clear-requires
     same-length
     same-length-2
+    same-length-3
+    same-length-4
     returns-2)

@@ -17,7 +17,7 @@ use Rattle.cut_set.specs.Store.{Member, Finished, NothingFound}
 use Rattle.refining.specs.Columns.{Columns, Fit, matchesOf}
 use Rattle.refining.specs.Refining.{heldIn}
 use Rattle.stepping.specs.Engine.{at, CutOn, setOn, Open}
-use Rattle.closing.specs.AllCuts.{AllCuts}
+use Rattle.driving.specs.AllCuts.{AllCuts}
 use Rattle.stepping.specs.declared.Cuts.{Cuts}
 use Rattle.stepping.proofs.Indexed.{placed}
 use Rattle.stepping.proofs.Counting.{hits-whole}

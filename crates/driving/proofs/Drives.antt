@@ -1,25 +1,15 @@
 -- The loop that goes on with the step that is due.
---     Driving              its invariant: what holds of each answer of a step
 --     pending              its measure: the unused places, where a step is due
 --     stepped-driving, stepped-less    a step keeps the one and lowers the other
 -- Assumes nothing.
 use Prim.Native.Nat.{ℕ, suc, _<_}
 use mathlib.Core.List.{List}
 use native.Mathlib.Omega.{arith}
-use Rattle.refinement.specs.declared.Side.the-variants.{A, B}
-use Rattle.cut_set.specs.Store.{NothingFound}
 use Rattle.refining.specs.Columns.{Columns}
-use Rattle.refining.specs.Refining.{heldIn}
-use Rattle.stepping.specs.Engine.{Open, unused, Stepped}
-use Rattle.refining.specs.Demands.{EveryExceeds}
+use Rattle.stepping.specs.Engine.{unused, Stepped}
 use Rattle.stepping.specs.declared.Cuts.{Cuts}
 use Rattle.stepping.specs.declared.Closing.{Closing}
-
-abbrev pub Driving : Columns → ℕ → List ℕ → Closing → Type 0
-Driving columns cap ys (Closing.Done c) = Open columns cap ys c A × NothingFound (c .a)
-Driving columns cap ys (Closing.MoreA c) = Open columns cap ys c A
-Driving columns cap ys (Closing.MoreB c) = Open columns cap ys c B
-Driving columns cap ys Closing.TooMany = EveryExceeds (heldIn columns) cap
+use Rattle.driving.specs.AllCuts.{Driving}
 
 abbrev pub pending : Closing → ℕ
 pending (Closing.Done c) = 0

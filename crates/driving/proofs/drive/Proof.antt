@@ -4,23 +4,24 @@ use mathlib.Core.Path.{_≡_, refl}
 use lib.ListN as List
 use borrow.Author.Needs.{needs}
 use Rattle.refining.specs.Columns.{columnsOf}
-use Rattle.closing.proofs.Settled.{all-cuts}
-use Rattle.closing.proofs.Drives.{Driving, pending, stepped-driving, stepped-less}
-use Rattle.closing.proofs.drive.Statement.{statement}
-use Rattle.closing.proofs.drive.Tie as tie
+use Rattle.driving.proofs.Settled.{all-cuts}
+use Rattle.driving.specs.AllCuts.{Driving}
+use Rattle.driving.proofs.Drives.{pending, stepped-driving, stepped-less}
+use Rattle.driving.proofs.drive.Statement.{statement}
+use Rattle.driving.proofs.drive.Tie as tie
 
 abbrev Inv-loop : tie.InvT-loop
-Inv-loop left-a right-a left-b right-b reversed work₀ capacity closing₀ work closing =
+Inv-loop left-a right-a left-b right-b reversed index-a index-b work₀ capacity closing₀ work closing =
     (List.length work ≡ List.length work₀)
     × Driving (columnsOf left-a right-a left-b right-b reversed) capacity work closing
 
 abbrev μ-loop : tie.MeasureT-loop
-μ-loop left-a right-a left-b right-b reversed work₀ capacity closing₀ work closing = pending closing
+μ-loop left-a right-a left-b right-b reversed index-a index-b work₀ capacity closing₀ work closing = pending closing
 
 loop-holds : tie.Need-loop-holds Inv-loop μ-loop
 loop-holds c =
     let start : tie.Start Inv-loop μ-loop = search in
-    (refl, start .pre .1)
+    (refl, start .pre .1 .1 .1)
 
 enum-known-now : tie.Need-enum-known-now Inv-loop μ-loop
 enum-known-now c = search needs
@@ -54,7 +55,7 @@ a-step-requires c κs =
     let at-loop : tie.At-loop Inv-loop μ-loop = search in
     let start : tie.Start Inv-loop μ-loop = search in
     let due = rw (c .before .before .now2 .given .1) at (at-loop .loop .inv .1) in
-    (start .pre .0, due)
+    (start .pre .0, (due, (start .pre .1 .0, start .pre .1 .1 .0)))
 
 loop-less : tie.Need-loop-less Inv-loop μ-loop
 loop-less c =
@@ -66,7 +67,7 @@ loop-less c =
     rw (due .1)
     (stepped-less (columnsOf (args .left-a .now) (args .right-a .now) (args .left-b .now) (args .right-b .now)
     (args .reversed .now))
-    (args .capacity) (due .0 .0) (step .last .1 .1 .1 .1 .1 .0) (step .result) (step .ensures))
+    (args .capacity) (due .0 .0) (step .last .1 .1 .1 .1 .1 .1 .1 .0) (step .result) (step .ensures))
 
 loop-again : tie.Need-loop-again Inv-loop μ-loop
 loop-again c =
@@ -78,7 +79,7 @@ loop-again c =
       search needs,
       stepped-driving (columnsOf (args .left-a .now) (args .right-a .now) (args .left-b .now) (args .right-b .now)
           (args .reversed .now))
-          (args .capacity) (due .0 .0) (step .last .1 .1 .1 .1 .1 .0) (step .result) (step .ensures),
+          (args .capacity) (due .0 .0) (step .last .1 .1 .1 .1 .1 .1 .1 .0) (step .result) (step .ensures),
     )
 
 enum-known-now-3 : tie.Need-enum-known-now-3 Inv-loop μ-loop
@@ -89,7 +90,7 @@ b-step-requires c κs =
     let at-loop : tie.At-loop Inv-loop μ-loop = search in
     let start : tie.Start Inv-loop μ-loop = search in
     let due = rw (c .before .before .now3 .given .1) at (at-loop .loop .inv .1) in
-    (start .pre .0, due)
+    (start .pre .0, (due, (start .pre .1 .0, start .pre .1 .1 .0)))
 
 loop-less-2 : tie.Need-loop-less-2 Inv-loop μ-loop
 loop-less-2 c =
@@ -101,7 +102,7 @@ loop-less-2 c =
     rw (due .1)
     (stepped-less (columnsOf (args .left-a .now) (args .right-a .now) (args .left-b .now) (args .right-b .now)
     (args .reversed .now))
-    (args .capacity) (due .0 .0) (step .last .1 .1 .1 .1 .1 .0) (step .result) (step .ensures))
+    (args .capacity) (due .0 .0) (step .last .1 .1 .1 .1 .1 .1 .1 .0) (step .result) (step .ensures))
 
 loop-again-2 : tie.Need-loop-again-2 Inv-loop μ-loop
 loop-again-2 c =
@@ -113,7 +114,7 @@ loop-again-2 c =
       search needs,
       stepped-driving (columnsOf (args .left-a .now) (args .right-a .now) (args .left-b .now) (args .right-b .now)
           (args .reversed .now))
-          (args .capacity) (due .0 .0) (step .last .1 .1 .1 .1 .1 .0) (step .result) (step .ensures),
+          (args .capacity) (due .0 .0) (step .last .1 .1 .1 .1 .1 .1 .1 .0) (step .result) (step .ensures),
     )
 
 pub drive-spec : {M : Type 1} → statement M

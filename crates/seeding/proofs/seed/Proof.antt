@@ -3,9 +3,9 @@ use Prim.Native.Nat.{_-_}
 use mathlib.Core.Path.{_∙_}
 use lib.ListN as List
 use borrow.Author.Needs.{needs}
-use Rattle.closing.proofs.Seeds.{Sown, sown-start, sown-step, sown-full, sown-end}
-use Rattle.closing.proofs.seed.Statement.{statement}
-use Rattle.closing.proofs.seed.Tie as tie
+use Rattle.seeding.proofs.Seeds.{Sown, sown-start, sown-step, sown-full, sown-end}
+use Rattle.seeding.proofs.seed.Statement.{statement}
+use Rattle.seeding.proofs.seed.Tie as tie
 
 abbrev Inv-loop : tie.InvT-loop
 Inv-loop left-a right-a work₀ a₀ k₀ work a k = Sown left-a right-a work₀ a₀ k work a

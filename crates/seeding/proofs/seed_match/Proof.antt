@@ -1,8 +1,8 @@
 -- `seed_match` meets its contract: the two ends are added, or the set and one end more overflow it. Assumes nothing.
 use borrow.Author.Needs.{needs}
-use Rattle.closing.proofs.Seeds.{two-added, one-full}
-use Rattle.closing.proofs.seed_match.Statement.{statement}
-use Rattle.closing.proofs.seed_match.Tie as tie
+use Rattle.seeding.proofs.Seeds.{two-added, one-full}
+use Rattle.seeding.proofs.seed_match.Statement.{statement}
+use Rattle.seeding.proofs.seed_match.Tie as tie
 
 add-requires : tie.Need-add-requires
 add-requires c κs = search needs
@@ -14,7 +14,7 @@ add-requires-2 : tie.Need-add-requires-2
 add-requires-2 c κs =
     let at-add : tie.After-add = search in
     let added = rw (c .before .before .s .given .1) at (at-add .add .ensures) in
-    added .stored .good
+    added .good
 
 enum-told : tie.Need-enum-told
 enum-told c = search needs
@@ -40,7 +40,7 @@ returns-2 c =
     let at-add : tie.After-add = search in
     let start : tie.Start = search in
     let full = rw (c .enum-told .given .1) at (at-add .add .ensures) in
-    one-full (start .args .right) (start .pre) (full .0)
+    one-full (start .args .right) full
 
 pub seed-match-spec : {M : Type 1} → statement M
 seed-match-spec =
