@@ -11,3 +11,4 @@ pub mod part;
 pub mod random;
 pub mod slow;
 pub mod tally;
+pub mod turns;

@@ -61,6 +61,7 @@ fn all_parts(options: &Options) -> Result<usize, String> {
     calls += one_part(&calls::read_records::PART, options)?;
     calls += one_part(&calls::refine::PART, options)?;
     calls += one_part(&calls::refine::PART_OF_ALL_LENGTHS, options)?;
+    calls += one_part(&calls::refine_long::PART, options)?;
     calls += one_part(&calls::carry::PART, options)?;
     calls += one_part(&calls::rows_of::PART, options)?;
     calls += one_part(&calls::summary::PART, options)?;

@@ -5,6 +5,7 @@ pub mod one_match;
 pub mod read;
 pub mod read_records;
 pub mod refine;
+pub mod refine_long;
 pub mod report;
 pub mod rows_of;
 pub mod summary;

@@ -50,9 +50,9 @@ pub const PART_OF_ALL_LENGTHS: Part<u8> = Part {
 
 /// How many numbers are lent.
 #[derive(Clone, Copy)]
-struct Lengths {
-    table: usize,
-    work: usize,
+pub struct Lengths {
+    pub table: usize,
+    pub work: usize,
 }
 
 fn compare_around_the_rows(
@@ -103,7 +103,7 @@ fn lengths_around_the_rows(bytes: &[u8], random: &mut Random) -> Vec<Lengths> {
     [&edges, few_others].concat()
 }
 
-fn just_enough(rows: usize) -> Lengths {
+pub fn just_enough(rows: usize) -> Lengths {
     Lengths {
         table: rows * NUMBERS_OF_A_ROW,
         work: rows * WORK_OF_A_ROW,
@@ -144,10 +144,22 @@ fn any_lengths(random: &mut Random, rows: usize) -> Lengths {
     }
 }
 
-/// Both programs are lent the same rubbish and must leave the same numbers.
 fn compare_one(
     bytes: &[u8],
     lengths: Lengths,
+    random: &mut Random,
+    tally: &mut Tally,
+) -> Result<(), String> {
+    let slow = |table: &mut [u32], work: &mut [u32]| table::refine(bytes, table, work);
+    compare_with(bytes, lengths, slow, random, tally)
+}
+
+/// Both programs are lent the same rubbish and must leave the same numbers. `slow` is the slow one's
+/// refining call for the script.
+pub fn compare_with(
+    bytes: &[u8],
+    lengths: Lengths,
+    slow: impl FnOnce(&mut [u32], &mut [u32]) -> Result<usize, Refusal>,
     random: &mut Random,
     tally: &mut Tally,
 ) -> Result<(), String> {
@@ -158,7 +170,7 @@ fn compare_one(
         rows: random.any_usize(),
     };
     let (mut slow_table, mut slow_work) = (table.clone(), work.clone());
-    let slow = table::refine(bytes, &mut slow_table, &mut slow_work);
+    let slow = slow(&mut slow_table, &mut slow_work);
     let wanted = wanted(lent, slow);
     tally.met(slow);
 

@@ -5,6 +5,7 @@ mod edges;
 mod faults;
 mod good;
 mod large;
+mod long;
 mod many;
 mod many_stretches;
 mod noise;
@@ -132,6 +133,23 @@ pub const LARGE: Groups<u8> = &[
     group("many matches, few overlaps", large::few_overlaps),
     group("2,048 matches that share no letter", large::no_overlaps),
     group("more pieces than any table holds", large::too_many_pieces),
+];
+
+pub const LONG_ONCE: Groups<u8> = &[
+    group("33 to 2,048 matches that overlap", long::overlapping),
+    group("zigzags beside up to 2,046 matches", long::many_matches),
+    group("511 to 43,000 cuts on a side", long::many_cuts),
+    group(
+        "many cuts in a late turn, up to 2,048 matches",
+        long::large_crowds,
+    ),
+];
+
+pub const LONG_EACH_ROUND: Groups<u8> = &[
+    group("zigzags beside 25 matches and more", long::walkers),
+    group("zigzags under long matches", long::zigzags_inside),
+    group("staircases of 20 steps and more", long::staircases),
+    group("many cuts in a late turn", long::crowds),
 ];
 
 pub const SHAPES: Groups<u8> = &[

@@ -166,7 +166,7 @@ pub fn match_up_to(random: &mut Random, letters: u32, longest: u32) -> DraftMatc
     }
 }
 
-fn scripts(
+pub fn scripts(
     random: &mut Random,
     mut matches: impl FnMut(&mut Random) -> Vec<DraftMatch>,
 ) -> Vec<Vec<u8>> {

@@ -19,6 +19,17 @@ pub const CLASSES: usize = 30;
 /// The refining call: the count of rows. "Refining: the script, 11, 12."
 pub fn refine(bytes: &[u8], table: &mut [u32], work: &mut [u32]) -> Result<usize, Refusal> {
     let script = script::read(bytes)?;
+    let least = |capacity| refinement::least(&script.matches, capacity);
+    refine_admitted(least, table, work)
+}
+
+/// The same for an admitted script, whose least refinement `least` gives if it has at most so many
+/// pieces: a run that lends many tables for one script finds its pieces once.
+pub fn refine_admitted(
+    least: impl FnOnce(usize) -> Option<Vec<Piece>>,
+    table: &mut [u32],
+    work: &mut [u32],
+) -> Result<usize, Refusal> {
     let capacity = table.len() / NUMBERS_OF_A_ROW;
     if work.len() < WORK_OF_A_ROW * capacity {
         return Err(Refusal::of_the_call(Word::WorkTooShort));
@@ -26,7 +37,7 @@ pub fn refine(bytes: &[u8], table: &mut [u32], work: &mut [u32]) -> Result<usize
     // "The work buffer is all zero after success and after refusal 12."
     work.fill(0);
     let too_many_pieces = Refusal::of_the_call(Word::TooManyPieces);
-    let pieces = refinement::least(&script.matches, capacity).ok_or(too_many_pieces)?;
+    let pieces = least(capacity).ok_or(too_many_pieces)?;
     for (row, piece) in table.chunks_mut(NUMBERS_OF_A_ROW).zip(&pieces) {
         row.copy_from_slice(&numbers_of(piece));
     }
