@@ -1,11 +1,6 @@
-//! Times of the proved program beside those of plain Rust, as ratios measured in one run. Nothing
-//! here tests a time.
+//! All tables, one after the other.
 
-mod reader;
-mod records;
-mod refiner;
-mod summary;
-mod timing;
+use bench::{reader, records, refiner, summary};
 
 fn main() {
     reader::run();

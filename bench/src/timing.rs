@@ -3,10 +3,9 @@
 use std::hint::black_box;
 use std::time::{Duration, Instant};
 
-const WARM_UP: usize = 2;
 const MOST: usize = 301;
-const FEWEST: usize = 5;
 const LONG_ENOUGH: Duration = Duration::from_secs(2);
+const LONG: Duration = Duration::from_millis(500);
 
 /// What is measured: something done with one input.
 pub type Work<'a, T> = &'a mut dyn FnMut(&T);
@@ -22,12 +21,17 @@ impl<T> Timing<'_, T> {
     /// fewer if they take long. The works take turns, so that whatever slows the machine for a while
     /// slows all of them.
     pub fn medians<const N: usize>(&self, mut works: [Work<T>; N]) -> [f64; N] {
-        for _ in 0..WARM_UP {
+        let start = Instant::now();
+        self.measure_each(&mut works);
+        let fewest = if start.elapsed() < LONG {
             self.measure_each(&mut works);
-        }
+            5
+        } else {
+            3
+        };
         let start = Instant::now();
         let mut measured = Vec::new();
-        while measured.len() < FEWEST || measured.len() < MOST && start.elapsed() < LONG_ENOUGH {
+        while measured.len() < fewest || measured.len() < MOST && start.elapsed() < LONG_ENOUGH {
             measured.push(self.measure_each(&mut works));
         }
         std::array::from_fn(|work| median(measured.iter().map(|times| times[work]).collect()))
@@ -38,12 +42,18 @@ impl<T> Timing<'_, T> {
     }
 
     fn measure(&self, work: Work<T>) -> f64 {
-        let start = processor_time();
-        for input in self.inputs.iter().cycle().take(self.calls) {
-            work(black_box(input));
-        }
-        (processor_time() - start).as_nanos() as f64 / self.calls as f64
+        let mut inputs = self.inputs.iter().cycle().take(self.calls);
+        nanoseconds(self.calls, || {
+            inputs.by_ref().for_each(|input| work(black_box(input)))
+        })
     }
+}
+
+/// Nanoseconds of processor time for each of so many calls, all of which the work makes.
+pub fn nanoseconds(calls: usize, work: impl FnOnce()) -> f64 {
+    let start = processor_time();
+    work();
+    (processor_time() - start).as_nanos() as f64 / calls as f64
 }
 
 /// C's `struct timespec` on 64-bit Linux.

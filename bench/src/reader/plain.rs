@@ -88,8 +88,9 @@ fn refused_call(word: Word) -> Refusal {
     Refusal { word, place: 0 }
 }
 
+/// Reads and hands each match over with its index, before it is known whether the script is admitted.
 #[inline(always)]
-fn read_with(script: &[u8], mut keep: impl FnMut(usize, Match)) -> Result<Admitted, Refusal> {
+pub fn read_with(script: &[u8], mut keep: impl FnMut(usize, Match)) -> Result<Admitted, Refusal> {
     let (p, q) = read_lengths(script)?;
     let mut rest = &script[9..];
     let mut count = 0;

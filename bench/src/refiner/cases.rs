@@ -1,16 +1,17 @@
 //! The scripts whose refining is timed.
 
-use super::plain::{refine, Ordered};
+use super::shapes::{cut_staircase, dense, repeats, rotation, walkers, MOST, OVERLAPPING};
+use super::sorted::refine;
 use crate::timing::{Timing, Work};
 use compare::draft::DraftMatch;
-use compare::groups::shapes::{match_up_to, script, staircase, zigzag};
+use compare::groups::shapes::{match_up_to, script, zigzag};
 use compare::random::Random;
 use compare::slow::report::ROWS;
 use compare::slow::script::{LONGEST_SEQUENCE, MOST_MATCHES};
 use compare::slow::table::NUMBERS_OF_A_ROW;
 
 const LONGEST: u32 = LONGEST_SEQUENCE as u32;
-const MOST: u32 = MOST_MATCHES as u32;
+const SIZES: [usize; 3] = [ROWS, 100_000, 1_000_000];
 
 /// Matches of real sequences.
 const REAL: [(&str, &[u8]); 3] = [
@@ -49,28 +50,31 @@ impl Case {
 pub fn all() -> Vec<Case> {
     let mut random = Random::from_seed(2002);
     let some = [10, 100, 1_000, MOST_MATCHES].map(|count| some_case(&mut random, count));
-    let real = REAL.map(|(name, script)| case(name, vec![script.to_vec()], ROWS));
-    let shapes = [staircase_case(&mut random), repeats_case(&mut random)];
-    let zigzags = [3_000, 100_000, 1_000_000].map(zigzag_case);
-    let refused = [
-        refused_case("nested", |i| DraftMatch::direct(0, 0, 10 * (i + 1))),
-        refused_case("centred", |i| {
-            DraftMatch::direct(10 * (MOST - i), 10 * (MOST - i), 20 * i + 1)
-        }),
-        refused_case("sliding", |i| DraftMatch::direct(i, 2 * i, 100_000)),
-    ];
-    some.into_iter()
-        .chain(real)
-        .chain(shapes)
-        .chain(zigzags)
-        .chain(refused)
-        .collect()
+    let real = REAL.map(|(name, script)| Case {
+        name: name.into(),
+        scripts: vec![script.to_vec()],
+        capacity: ROWS,
+    });
+    let mut cases: Vec<Case> = some.into_iter().chain(real).collect();
+    cases.extend(staircase_cases(&mut random));
+    let copies = repeats(&mut random, 32);
+    cases.push(case("repeats, 32 by 32 copies", &copies, 3 * copies.len()));
+    cases.extend(SIZES.into_iter().chain([10_000_000]).map(zigzag_case));
+    cases.extend([100_000, 1_000_000, 4_000_000].map(rotation_case));
+    cases.extend(
+        SIZES
+            .iter()
+            .flat_map(|&rows| walker_cases(&mut random, rows)),
+    );
+    cases.extend([100_000, 1_000_000].map(|rows| dense_case(&mut random, rows)));
+    cases.extend(SIZES.into_iter().flat_map(refused_cases));
+    cases
 }
 
-fn case(name: impl Into<String>, scripts: Vec<Vec<u8>>, capacity: usize) -> Case {
+fn case(name: impl Into<String>, matches: &[DraftMatch], capacity: usize) -> Case {
     Case {
         name: name.into(),
-        scripts,
+        scripts: vec![script(matches)],
         capacity,
     }
 }
@@ -84,7 +88,11 @@ fn some_case(random: &mut Random, count: usize) -> Case {
             .find(|script| fits_the_table(script))
             .expect("matches of a letter fit")
     });
-    case(format!("{count} matches"), scripts.collect(), ROWS)
+    Case {
+        name: format!("{count} matches"),
+        scripts: scripts.collect(),
+        capacity: ROWS,
+    }
 }
 
 fn some_script(random: &mut Random, count: usize, longest: u32) -> Vec<u8> {
@@ -94,45 +102,52 @@ fn some_script(random: &mut Random, count: usize, longest: u32) -> Vec<u8> {
 
 fn fits_the_table(script: &[u8]) -> bool {
     let mut table = vec![0; ROWS * NUMBERS_OF_A_ROW];
-    refine::<Ordered>(script, &mut table).is_ok()
+    refine(script, &mut table).is_ok()
 }
 
-/// 2,047 matches that join stretches of A and B in turn, and one that cuts the first stretch: its
-/// two cuts go through all of them.
-fn staircase_case(random: &mut Random) -> Case {
-    let steps = MOST - 1;
-    let mut matches = staircase(random, steps, 1_000);
-    matches.push(DraftMatch::direct(100, steps * 1_000, 300));
-    let rows = 3 * steps as usize + 1;
-    case("staircase of 2048 matches", vec![script(&matches)], rows)
-}
-
-/// Every copy of a repeat on A with every copy on B, and one match that cuts a copy.
-fn repeats_case(random: &mut Random) -> Case {
-    let copies = 32;
-    let mut matches = Vec::new();
-    for copy_on_a in 0..copies {
-        for copy_on_b in 0..copies {
-            matches.push(DraftMatch {
-                reversed: random.between(0, 9) == 0,
-                ..DraftMatch::direct(copy_on_a * 5_000, copy_on_b * 7_000, 2_000)
-            });
-        }
-    }
-    matches.push(DraftMatch::direct(1_000, copies * 7_000, 3_000));
-    let rows = 3 * matches.len();
-    case("repeats, 32 by 32 copies", vec![script(&matches)], rows)
+fn staircase_cases(random: &mut Random) -> [Case; 2] {
+    let mut matches = cut_staircase(random, MOST - 1);
+    let rows = 3 * MOST_MATCHES - 2;
+    let in_order = case("staircase of 2048 matches", &matches, rows);
+    random.shuffle(&mut matches);
+    [in_order, case("staircase, shuffled", &matches, rows)]
 }
 
 /// Two matches one letter apart: each cut leads to the next, letter by letter.
 fn zigzag_case(rows: usize) -> Case {
-    let matches = zigzag(true, rows as u32 / 2, 1, false);
-    case("zigzag", vec![script(&matches)], rows)
+    case("zigzag", &zigzag(true, rows as u32 / 2, 1, false), rows)
 }
 
-/// 2,048 matches that all overlap, with few cuts and millions of pieces.
-fn refused_case(name: &str, nth: fn(u32) -> DraftMatch) -> Case {
-    let matches: Vec<DraftMatch> = (0..MOST).map(nth).collect();
-    let name = format!("{name}, too many pieces");
-    case(name, vec![script(&matches)], ROWS)
+/// Each cut leads to one far away.
+fn rotation_case(rows: usize) -> Case {
+    case("rotation", &rotation(rows as u32 / 2), rows)
+}
+
+/// Few cuts at a time, near all ends of both sequences. Those of the 2,048 matches that do not walk
+/// have one letter.
+fn walker_cases(random: &mut Random, rows: usize) -> [Case; 2] {
+    let singles = MOST - 8;
+    let mut matches = walkers((rows as u32 - singles) / 8, singles);
+    let in_order = case("walkers", &matches, rows);
+    random.shuffle(&mut matches[8..]);
+    [in_order, case("walkers, shuffled", &matches, rows)]
+}
+
+/// 100 matches, on average of half the letters there are.
+fn dense_case(random: &mut Random, rows: usize) -> Case {
+    let matches = dense(random, 100, rows as u32 / 50);
+    let letters: u32 = matches.iter().map(|m| m.length).sum();
+    case("dense, 100 matches", &matches, letters as usize)
+}
+
+/// Overlapping matches of which it is soon seen, and a zigzag of which it is seen last, that they
+/// have too many pieces.
+fn refused_cases(capacity: usize) -> Vec<Case> {
+    let overlapping = OVERLAPPING.map(|(name, nth)| {
+        let matches: Vec<DraftMatch> = (0..MOST).map(nth).collect();
+        case(format!("{name}, over {capacity}"), &matches, capacity)
+    });
+    let zigzag = zigzag(true, capacity as u32 / 2 + 1, 1, false);
+    let zigzag = case(format!("zigzag, over {capacity}"), &zigzag, capacity);
+    overlapping.into_iter().chain([zigzag]).collect()
 }

@@ -1,8 +1,10 @@
 //! A good plain Rust refiner: matches sorted by their left ends, a set of cuts for each side, and a
 //! list of the cuts that are still to be carried.
 
-use crate::reader::plain::{read, Columns};
+use crate::reader::plain::read_with;
+use compare::draft::BYTES_OF_A_MATCH;
 use compare::slow::refusal::{Refusal, Word};
+use compare::slow::script::MOST_MATCHES;
 use compare::slow::table::NUMBERS_OF_A_ROW;
 use std::collections::{BTreeSet, HashSet};
 use std::hash::{BuildHasherDefault, Hasher};
@@ -62,18 +64,18 @@ impl Hasher for Mixer {
     }
 }
 
-const A: usize = 0;
-const B: usize = 1;
+pub const A: usize = 0;
+pub const B: usize = 1;
 
 #[derive(Clone, Copy)]
-struct Match {
-    left: [u32; 2],
-    length: u32,
-    reversed: bool,
+pub struct Match {
+    pub left: [u32; 2],
+    pub length: u32,
+    pub reversed: bool,
 }
 
 impl Match {
-    fn right(&self, side: usize) -> u32 {
+    pub fn right(&self, side: usize) -> u32 {
         self.left[side] + self.length
     }
 
@@ -92,28 +94,42 @@ impl Match {
 /// call: plain Rust has no use for a work buffer.
 #[inline(never)]
 pub fn refine<C: Cuts>(script: &[u8], table: &mut [u32]) -> Result<usize, Refusal> {
+    refine_with(script, table, |matches, most_hits| {
+        Some(closed_cuts::<C>(matches, most_hits)?.rising())
+    })
+}
+
+/// Refines with what finds the cuts on A, rising. It is given the matches and the most hits that a
+/// side may have, and gives none if there are more. A hit is a cut in a match, its ends among them:
+/// each match has one more of them than it has pieces.
+#[inline(always)]
+pub fn refine_with(
+    script: &[u8],
+    table: &mut [u32],
+    cuts_on_a: impl FnOnce(&[Match], usize) -> Option<Vec<u32>>,
+) -> Result<usize, Refusal> {
     let capacity = table.len() / NUMBERS_OF_A_ROW;
-    let too_many_pieces = Refusal::of_the_call(Word::TooManyPieces);
     let matches = read_matches(script)?;
-    let cuts_on_a = closed_cuts::<C>(&matches, capacity).ok_or(too_many_pieces)?;
-    let rows = write_rows(&matches, &cuts_on_a.rising(), table);
-    Ok(rows)
+    let cuts = cuts_on_a(&matches, capacity + matches.len())
+        .ok_or(Refusal::of_the_call(Word::TooManyPieces))?;
+    Ok(write_rows(&matches, &cuts, table))
 }
 
 fn read_matches(script: &[u8]) -> Result<Vec<Match>, Refusal> {
-    let mut columns = Columns::ZEROS;
-    let count = read(script, &mut columns)?.count;
-    let one_match = |i: usize| Match {
-        left: [columns.left_a[i], columns.left_b[i]],
-        length: columns.length[i],
-        reversed: columns.reversed[i],
-    };
-    Ok((0..count).map(one_match).collect())
+    let count = script.len() / BYTES_OF_A_MATCH;
+    let mut matches = Vec::with_capacity(count.min(MOST_MATCHES));
+    read_with(script, |_, m| {
+        matches.push(Match {
+            left: [m.left_a, m.left_b],
+            length: m.length,
+            reversed: m.reversed,
+        });
+    })?;
+    Ok(matches)
 }
 
-/// The cuts on A, or none as soon as it is sure that they make too many pieces: of each match they
-/// make one piece less than it spans cuts.
-fn closed_cuts<C: Cuts>(matches: &[Match], capacity: usize) -> Option<C> {
+/// The cuts on A, or none as soon as it is sure that there are too many hits.
+fn closed_cuts<C: Cuts>(matches: &[Match], most_hits: usize) -> Option<C> {
     let by_left = [ByLeft::new(matches, A), ByLeft::new(matches, B)];
     let mut cuts = [C::default(), C::default()];
     let mut to_carry = Vec::new();
@@ -126,12 +142,12 @@ fn closed_cuts<C: Cuts>(matches: &[Match], capacity: usize) -> Option<C> {
             }
         }
     }
-    let mut spanned = [0; 2];
+    let mut hits = [0; 2];
     while let Some((from, cut)) = to_carry.pop() {
         let to = 1 - from;
         for m in by_left[from].spanning(cut) {
-            spanned[from] += 1;
-            if spanned[from] > capacity + matches.len() {
+            hits[from] += 1;
+            if hits[from] > most_hits {
                 return None;
             }
             let carried = m.carry(from, cut);
@@ -182,9 +198,8 @@ fn write_rows(matches: &[Match], cuts: &[u32], table: &mut [u32]) -> usize {
     let mut free = table.chunks_exact_mut(NUMBERS_OF_A_ROW);
     for (number, m) in (1..).zip(matches) {
         let first = cuts.partition_point(|&cut| cut < m.left[A]);
-        let behind = cuts.partition_point(|&cut| cut <= m.right(A));
-        for pair in cuts[first..behind].windows(2) {
-            let [left, right] = [pair[0], pair[1]];
+        let pairs = cuts[first..].windows(2).map(|pair| [pair[0], pair[1]]);
+        for [left, right] in pairs.take_while(|&[_, right]| right <= m.right(A)) {
             let left_b = m.carry(A, if m.reversed { right } else { left });
             let row = free.next().expect("rows that were counted");
             row.copy_from_slice(&[number, left, left_b, right - left, m.reversed.into()]);

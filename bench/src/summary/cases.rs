@@ -1,5 +1,6 @@
 //! The tables that are summed up.
 
+use crate::refiner::shapes::zigzag_at;
 use compare::door::{self, Refining};
 use compare::draft::DraftMatch;
 use compare::groups::patterned;
@@ -69,15 +70,8 @@ fn overlapping(rows: u32, random: &mut Random) -> Vec<DraftMatch> {
 /// 1,024 zigzags of two matches that share no letter with each other, in any order.
 fn separate_zigzags(rows: u32, random: &mut Random) -> Vec<DraftMatch> {
     let letters = rows / MOST;
-    let from = |left: u32| {
-        let shifted = move |m: DraftMatch| DraftMatch {
-            left_a: m.left_a + left,
-            left_b: m.left_b + left,
-            ..m
-        };
-        zigzag(true, letters, 1, false).into_iter().map(shifted)
-    };
-    let matches = (0..MOST / 2).flat_map(|k| from(k * (letters + 2)));
+    let from = |k: u32| [k * (letters + 2); 2].into();
+    let matches = (0..MOST / 2).flat_map(|k| zigzag_at(from(k), letters, false));
     in_any_order(matches.collect(), random)
 }
 
