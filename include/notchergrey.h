@@ -16,7 +16,7 @@
  *   is lent no script to read: there it becomes the record that is refused, counted from 1, or 0 if none is at fault.
  * - A thread with a stack of 512 kB may call any of them, and one with 256 kB any but notchergrey_report. Measured on
  *   x86-64, whatever the input: notchergrey_report takes at most 275 kB, notchergrey_summary 170 kB, notchergrey_refine
- *   92 kB, the others next to nothing. With less the program ends with a segmentation fault: each page of the stack is
+ *   110 kB, the others next to nothing. With less the program ends with a segmentation fault: each page of the stack is
  *   touched in turn, so that the page that guards its end is met and nothing behind it is overwritten.
  *
  * A script is bytes, which notchergrey_write makes of a list of matches. Its numbers have four bytes, least byte first:

@@ -42,7 +42,7 @@
 //!
 //! The calls need no more than the main thread and the threads of the standard library have by default. A thread with a
 //! stack of 512 kB may call any of them, and one with 256 kB any but [`report`]: that takes 275 kB, the summary 170 kB,
-//! refining 92 kB, the others next to nothing, whatever the input, as measured on x86-64. With less the program is
+//! refining 110 kB, the others next to nothing, whatever the input, as measured on x86-64. With less the program is
 //! aborted, as on any overflow of the stack.
 
 #![warn(missing_docs)]
