@@ -1,5 +1,5 @@
-// Notes of numbers in the places [top, limit) of a lent slice, a bit for each: numbers that are alike in their last bits
-// share one. A number whose bit is not set was never noted. It serves speed alone that few are alike.
+// Notes of numbers in the places [top, limit) of a lent slice, a bit for each: numbers with the same remainder share one.
+// A number whose bit is not set was never noted. It serves speed alone that few share one.
 ghost use Prim.Native.Nat.{_+_, _<_, _≤_, _^_};
 ghost use mathlib.Core.Path.{_≡_};
 ghost use lib.ListN.{length};
