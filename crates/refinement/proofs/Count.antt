@@ -1,29 +1,29 @@
--- How many cuts a refinement can have. Distinct cuts are at most four for each row, and at most two for each row on a
--- track that no match joins to itself; a match's cuts on a side are its rows plus one.
+-- How many cuts a refinement can have. Distinct cuts are at most four for each row, and at most two for each row on one
+-- side of the matches; a match's cuts on a side are its rows plus one.
 --     four-per-row        5  distinct cuts of any rows: at most four for each
---     two-per-row         5  on one track that no match joins to itself: at most two for each row
+--     two-per-side        5  on one side of the matches, whatever tracks they join: at most two for each row
 --     match-cuts          5  distinct cuts on a side of a match: at most its rows plus one ..
 --     match-cuts-all      5  .. and just as many if they are all of them
 --     total, hits-bound, hits-all    the same summed up over the matches: at most rows plus matches, and just as many
 -- Assumes nothing.
 use Prim.Native.Nat.{ℕ, suc, _+_, _*_, _≤_, _<_}
 use mathlib.Core.Path.{_≡_, refl, sym, ap, subst, _∙_}
-use mathlib.Core.Logic.{_↔_, _⊎_, inl, inr, ite, _≢_}
+use mathlib.Core.Logic.{_↔_, _⊎_, inl, inr, _≢_}
 use mathlib.Core.List.{List, [], _∷_, map, flatMap, List·Memᴰ·cases-cons, Memᴰ·map, Memᴰ·of-map, Memᴰ·cast}
 use mathlib.Core.List.{List·Memᴰ·head as here, List·Memᴰ·tail as there}
 use native.Mathlib.Omega.{arith}
 use native.Mathlib.Decide.{ℕ-discrete}
 use lib.ListN.{length, length-map}
 use Rattle.refinement.specs.declared.Side.{Side}
-use Rattle.refinement.specs.declared.Side.the-variants.{A, B}
 use Rattle.refinement.specs.Order.{_∈_, Rising, Distinct}
 use Rattle.refinement.specs.Match.{Match, track, left, right, Place, place, Spans}
 use Rattle.refinement.specs.Cut.{right-end, end}
-use Rattle.refinement.specs.Refinement.{Matches, Piece, Refines, rowsFor, CutOf, ResolvedRefinement}
-use Rattle.refinement.specs.Least.{ends}
-use Rattle.refinement.proofs.Lists.{on-ite, pigeonhole, rising-map, rising-filter, ∈-filter, ∈-unfilter}
+use Rattle.refinement.specs.Refinement.{Matches, Piece, rowsFor, CutOf, ResolvedRefinement}
+use Rattle.refinement.specs.Least.{endsOf, ends}
+use Rattle.refinement.proofs.Lists.{on-ite, pigeonhole, rising-map, rising-filter}
+use Rattle.refinement.proofs.Lists.{∈-filter, ∈-unfilter, ∈-flatMap}
 use Rattle.refinement.proofs.Tiling.{Overlap, own-piece, rows-apart}
-use Rattle.refinement.proofs.Resolved.{end-where, cut-of, has-cut, row-starts}
+use Rattle.refinement.proofs.Resolved.{cut-of, row-ends, has-cut, row-starts}
 use Rattle.refinement.proofs.Closure.{∈-ends}
 
 length-ends : (rs : List Match) → length (ends rs) ≡ 4 * length rs
@@ -37,57 +37,50 @@ pub four-per-row :
 four-per-row rs ps once cuts =
     omega (arith, pigeonhole ps (ends rs) once (λ p i. let c = cuts p i in ∈-ends (c .1) (c .2)), length-ends rs)
 
--- the side of a row that lies on the track t, if one does
-sideOn : ℕ → Match → Side
-sideOn t r = ite (ℕ-discrete (track r A) t) A B
+-- Distinct places that are ends of rows on one side are at most two for each row.
+module _ (s : Side) where
+  sideEnds : List Match → List Place
+  sideEnds rs = flatMap (λ r. endsOf r s) rs
 
-endsOn : ℕ → List Match → List ℕ
-endsOn t [] = []
-endsOn t (r ∷ rs) = left r (sideOn t r) ∷ right r (sideOn t r) ∷ endsOn t rs
+  length-side : (rs : List Match) → length (sideEnds rs) ≡ 2 * length rs
+  unfolding sideEnds flatMap
+  length-side [] = refl
+  length-side (r ∷ rs) = omega (arith, length-side rs)
 
-length-endsOn : (t : ℕ) (rs : List Match) → length (endsOn t rs) ≡ 2 * length rs
-unfolding endsOn
-length-endsOn t [] = refl
-length-endsOn t (r ∷ rs) = omega (arith, length-endsOn t rs)
+  two-ends :
+      (rs : List Match) (ps : List Place) → Distinct ps
+      → ((p : Place) → p ∈ ps → (r : Match) × (r ∈ rs) × (p ∈ endsOf r s)) → length ps ≤ 2 * length rs
+  unfolding sideEnds
+  two-ends rs ps once held =
+      omega (
+        arith,
+        length-side rs,
+        pigeonhole ps (sideEnds rs) once (λ p i. let v = held p i in ∈-flatMap (λ r. endsOf r s) (v .1) (v .2)),
+      )
 
-side-on : (t : ℕ) (r : Match) (s : Side) → track r s ≡ t → ¬ ((track r A ≡ t) × (track r B ≡ t)) → sideOn t r ≡ s
-unfolding sideOn
-side-on t r s e n = go s e (ℕ-discrete (track r A) t)
+-- a left or right end on a side is one of the two ends there
+∈-endsOf :
+    (r : Match) (s : Side) (p : Place) → track r s ≡ p .track
+    → (p .position ≡ left r s) ⊎ (p .position ≡ right r s) → p ∈ endsOf r s
+∈-endsOf r s p e (inl f) = here (λ i. record { track = sym e i; position = f i })
+∈-endsOf r s p e (inr f) = there (here (λ i. record { track = sym e i; position = f i }))
+
+-- the row that a cut lies on ends at it on that very side
+pub two-per-side :
+    {ms rs : List Match} {marks : List Place} → Matches ms → ResolvedRefinement ms marks rs → (s : Side)
+    → (ps : List Place) → Distinct ps
+    → ((p : Place) → p ∈ ps
+    → (m : Match) × (m ∈ ms) × (track m s ≡ p .track) × Spans m s (p .position) × CutOf rs p)
+    → length ps ≤ 2 * length rs
+two-per-side {ms} {rs} M R s ps once on = two-ends s rs ps once (λ p i. held p (on p i))
   where
-    go : (s : Side) → track r s ≡ t → (d : Dec (track r A ≡ t)) → ite d A B ≡ s
-    go A e (yes f) = refl
-    go B e (yes f) = absurd (n (f, e))
-    go A e (no f) = absurd (f e)
-    go B e (no f) = refl
-
-∈-endsOn :
-    (t : ℕ) {r : Match} {rs : List Match} → r ∈ rs → (s : Side) (h : ℕ) → sideOn t r ≡ s
-    → (h ≡ left r s) ⊎ (h ≡ right r s) → h ∈ endsOn t rs
-unfolding endsOn
-∈-endsOn t {r} (here {x = x} {xs = xs} e) s h f g =
-    first (sym (ap (sideOn t) e) ∙ f) (subst (λ (z : Match). (h ≡ left z s) ⊎ (h ≡ right z s)) e g)
-  where
-    first : sideOn t x ≡ s → (h ≡ left x s) ⊎ (h ≡ right x s) → h ∈ endsOn t (x ∷ xs)
-    first q (inl k) = here (k ∙ ap (left x) (sym q))
-    first q (inr k) = there (here (k ∙ ap (right x) (sym q)))
-∈-endsOn t (there i) s h f g = there (there (∈-endsOn t i s h f g))
-
-pub two-per-row :
-    {ms rs : List Match} → Refines ms rs → (t : ℕ) → ((m : Match) → m ∈ ms → ¬ ((track m A ≡ t) × (track m B ≡ t)))
-    → (xs : List ℕ) → Distinct xs → ((x : ℕ) → x ∈ xs → CutOf rs (record { track = t; position = x }))
-    → length xs ≤ 2 * length rs
-two-per-row {ms} {rs} T t alone xs once cuts =
-    omega (arith, pigeonhole xs (endsOn t rs) once (λ x i. inside x (cuts x i)), length-endsOn t rs)
-  where
-    inside : (x : ℕ) → CutOf rs (record { track = t; position = x }) → x ∈ endsOn t rs
-    inside x c =
-        let r = c .0 in
-        let w = end-where (c .2) in
-        let own = T .pieces r (c .1) in
-        let n : ¬ ((track r A ≡ t) × (track r B ≡ t)) =
-        λ b. alone (own .0) (own .1) (sym (own .2 .same-track A) ∙ b .0, sym (own .2 .same-track B) ∙ b .1)
-        in
-        ∈-endsOn t (c .1) (w .0) x (side-on t r (w .0) (w .1) n) (w .2)
+    held :
+        (p : Place) → (m : Match) × (m ∈ ms) × (track m s ≡ p .track) × Spans m s (p .position) × CutOf rs p
+        → (r : Match) × (r ∈ rs) × (p ∈ endsOf r s)
+    held p (m, j, e, t, c) =
+        let cut = subst (λ (u : ℕ). CutOf rs (record { track = u; position = p .position })) (sym e) c in
+        let v = row-ends M R j s (p .position) t cut in
+        (v .0, v .1, ∈-endsOf (v .0) s p (v .2 .same-track s ∙ e) (v .3))
 
 module _ {ms rs : List Match} {marks : List Place} (M : Matches ms) (R : ResolvedRefinement ms marks rs) {m : Match}
     (i : m ∈ ms) (s : Side) where

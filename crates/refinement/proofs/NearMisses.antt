@@ -1,8 +1,9 @@
--- Near misses: rows that come close to an answer, shown to be none.
+-- Near misses: rows that come close to an answer, shown to be none, and a bound that comes close to a law.
 --     run-needless          single letters on 01's run: resolved, but 11 rows for 8, with a needless cut at A 1
 --     doubled-refused       a row written twice tiles no match
+--     two-per-track-refused two cuts for each row hold on a side, not on a track that a match joins to itself
 -- Assumes nothing.
-use Prim.Native.Nat.{ℕ, _≤_, _<_}
+use Prim.Native.Nat.{ℕ, _*_, _≤_, _<_}
 use mathlib.Core.Path.{_≡_, refl, sym, _∙_}
 use mathlib.Core.Bool.{true, false, decide, decide-iff, true≢false}
 use mathlib.Core.Logic.{_⊎_, inl, inr, Dec·and}
@@ -11,13 +12,14 @@ use mathlib.Core.List.{List·Memᴰ·head as here}
 use native.Mathlib.Omega.{arith}
 use native.Mathlib.Decide.{decLe, decLt, ℕ-discrete}
 use lib.ListN.{length}
-use Rattle.refinement.specs.declared.Side.the-variants.{A}
-use Rattle.refinement.specs.Order.{_∈_, insertBy, sortBy}
-use Rattle.refinement.specs.Match.{Match, matchAB, Place, Spans}
+use Rattle.refinement.specs.declared.Side.{Side}
+use Rattle.refinement.specs.declared.Side.the-variants.{A, B}
+use Rattle.refinement.specs.Order.{_∈_, Distinct, insertBy, sortBy}
+use Rattle.refinement.specs.Match.{Match, matchAB, track, Place, Spans}
 use Rattle.refinement.specs.Refinement.{Matches, Refines, holds?, rowsOver, CutOf, ResolvedRefinement}
 use Rattle.refinement.specs.Least
 use Rattle.refinement.proofs.Table.{table-has}
-use Rattle.refinement.proofs.Closure.{added, ∈-spanned, spanned-closed}
+use Rattle.refinement.proofs.Closure.{added, ∈-spanned, cut-on-match, least-closed, spanned-closed}
 use Rattle.refinement.proofs.Theorem.{cuts-computed, table-cuts, single-resolved}
 
 -- a match or a row: number, left-A, left-B, length
@@ -35,19 +37,33 @@ run = direct 1 0 0 6 ∷ reversed 2 2 3 5 ∷ []
 extra : Place
 extra = record { track = 0; position = 1 }
 
+-- a match that joins a track to itself: the stretch from 0 to 4 beside the one from 10 to 14
+selfJoined : Match
+selfJoined = record { number = 1; trackA = 0; leftA = 0; trackB = 0; leftB = 10; length = 4; reversed = false }
+
 -- what the near misses need of the definitions, by one computation
 record Computed : Type 0 where
   run-least : length (Least.leastTable run []) ≡ 8
   run-single : length (Least.singleLetters run) ≡ 11
   run-uncut : decide (Least.in? extra (Least.leastCuts run [])) ≡ false
   twice : rowsOver 1 A 0 (direct 1 0 0 4 ∷ direct 1 0 0 4 ∷ []) ≡ 2
+  self-least : length (Least.leastTable (selfJoined ∷ []) []) ≡ 1
+  self-cuts : length (Least.leastCuts (selfJoined ∷ []) []) ≡ 4
 
 computed : Computed
-unfolding direct reversed run extra flatMap insertBy sortBy Dec·and decLe decLt ℕ-discrete decide holds? rowsOver
-    Least.spans? Least.spansPlace? Least.same? Least.in? Least.ends Least.spanning Least.images Least.spannedMarks
-    Least.addNew Least.grow Least.spanCount Least.leastCuts Least.cutsWithin Least.pieceOf Least.piecesBetween
-    Least.piecesOf Least.tableFrom Least.leastTable Least.spannedFrom Least.spannedPlaces Least.singleLetters
-computed = record { run-least = refl; run-single = refl; run-uncut = refl; twice = refl }
+unfolding direct reversed run extra selfJoined flatMap insertBy sortBy Dec·and decLe decLt ℕ-discrete decide holds?
+    rowsOver Least.spans? Least.spansPlace? Least.same? Least.in? Least.ends Least.spanning Least.images
+    Least.spannedMarks Least.addNew Least.grow Least.spanCount Least.leastCuts Least.cutsWithin Least.pieceOf
+    Least.piecesBetween Least.piecesOf Least.tableFrom Least.leastTable Least.spannedFrom Least.spannedPlaces
+    Least.singleLetters
+computed = record {
+  run-least = refl;
+  run-single = refl;
+  run-uncut = refl;
+  twice = refl;
+  self-least = refl;
+  self-cuts = refl;
+}
 
 runMatches : Matches run
 unfolding run direct reversed
@@ -87,3 +103,30 @@ unfolding direct
 doubled-refused T =
     let once = T .once (direct 1 0 0 4) (here refl) 0 (omega arith) in
     omega (arith, computed .twice, once)
+
+-- The match's least table is one row, and its least cuts are four, all on the one track: what `two-per-side` grants on
+-- A and on B together. So its bound is one of a side, and not of a track.
+two-per-track-refused :
+    ¬ ((ps : List Place) → Distinct ps
+    → ((p : Place) → p ∈ ps → (p .track ≡ 0) × CutOf (Least.leastTable (selfJoined ∷ []) []) p)
+    → length ps ≤ 2 * length (Least.leastTable (selfJoined ∷ []) []))
+unfolding selfJoined
+two-per-track-refused bound =
+    let ms = selfJoined ∷ [] in
+    let few =
+    bound (Least.leastCuts ms []) (least-closed ms [] .once) (λ p i.
+    let c = cuts-computed ms [] p .0 i in
+    let v = cut-on-match c in
+    (v .3 ∙ one-track (v .0) (List·Memᴰ·eq-of-singleton (v .1)) (v .2), table-cuts ms [] selfMatches p .1 c))
+    in
+    omega (arith, computed .self-least, computed .self-cuts, few)
+  where
+    selfMatches : Matches (selfJoined ∷ [])
+    selfMatches = record {
+      lettered = λ m i. rw (List·Memᴰ·eq-of-singleton i) (omega arith);
+      numbered = (λ m i. absurd (List·Memᴰ·not-nil i), tt);
+    }
+
+    one-track : (m : Match) → m ≡ selfJoined → (s : Side) → track m s ≡ 0
+    one-track m e A = rw e refl
+    one-track m e B = rw e refl

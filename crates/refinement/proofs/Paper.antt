@@ -1,8 +1,8 @@
 -- 01's resolved refinements are those of the source document: its Definitions 1 and 2 together say the same of a list
 -- of rows as ResolvedRefinement without marks. The source lets submatches overlap; in a resolved set only equal ones
 -- could, and in a set no two are equal.
---     paper-holds      a resolved refinement, with marks or without, is one of the source's
 --     paper-agrees     without marks the two agree
+--     paper-holds      so a resolved refinement, with marks or without, is one of the source's
 -- Assumes nothing.
 use Prim.Native.Nat.{ℕ, suc, _-_, _≤_, _<_}
 use mathlib.Core.Path.{_≡_, refl, sym, ap, subst, _∙_}
@@ -21,7 +21,7 @@ use Rattle.refinement.specs.Paper.{Support, Submatch, Definition1, Defin
 use Rattle.refinement.proofs.Lists.{rising-weaken}
 use Rattle.refinement.proofs.Geometry.{end-spanned, end-or-inside, carry-meets, carry-back, meets-end}
 use Rattle.refinement.proofs.Tiling.{number-unique, own-piece, cover-letter, Overlap, exactly-one, rows-apart}
-use Rattle.refinement.proofs.Resolved.{end-at, end-where}
+use Rattle.refinement.proofs.Resolved.{end-at, end-where, unmarked}
 use Rattle.refinement.proofs.Minimal.{piece-unique}
 
 -- Supports are cuts.
@@ -73,7 +73,7 @@ piece-submatch p = record {
 }
 
 -- From 01 to the source.
-module _ {ms rs : List Match} {marks : List Place} (M : Matches ms) (R : ResolvedRefinement ms marks rs) where
+module _ {ms rs : List Match} (M : Matches ms) (R : ResolvedRefinement ms [] rs) where
   no-repeat : Distinct rs
   no-repeat =
       rising-weaken (λ r r′. ¬ Overlap r r′ A) _≢_ rs
@@ -114,9 +114,6 @@ module _ {ms rs : List Match} {marks : List Place} (M : Matches ms) (R : Resolve
           → Support rs (track r (other s)) (carry r s h)
       projected r i s h e =
           (r, i, other s, refl, meets-end r s h (carry r s h) (carry-meets r s h (end-spanned r s h e)) e)
-
-  pub paper-holds : Definition1 ms rs × Definition2 rs
-  paper-holds = (refines-paper, resolved-paper)
 
 -- From the source to 01.
 module _ {ms rs : List Match} (M : Matches ms) (D : Definition1 ms rs) (E : Definition2 rs) where
@@ -168,4 +165,9 @@ module _ {ms rs : List Match} (M : Matches ms) (D : Definition1 ms rs) (E : Defi
 
 pub paper-agrees :
     {ms rs : List Match} → Matches ms → ResolvedRefinement ms [] rs ↔ (Definition1 ms rs × Definition2 rs)
-paper-agrees M = (paper-holds M, λ d. paper-refines M (d .0) (d .1))
+paper-agrees M = (λ R. (refines-paper M R, resolved-paper M R), λ d. paper-refines M (d .0) (d .1))
+
+pub paper-holds :
+    {ms rs : List Match} {marks : List Place} → Matches ms → ResolvedRefinement ms marks rs
+    → Definition1 ms rs × Definition2 rs
+paper-holds M R = paper-agrees M .0 (unmarked R)

@@ -4,13 +4,15 @@
 --     end-where        an end is a left or a right end on a side
 --     cut-of           an end of a row is a cut on its match's track
 --     uncut-piece      no cut lies strictly inside a row
+--     row-ends         where a match is cut on a side, a row of it ends on that side
 --     has-cut          every Cut is a cut of the refinement
 --     row-starts       where a match is cut before a letter, a row of it starts
+--     unmarked         a resolved refinement with marks is one without
 -- Assumes nothing.
 use Prim.Native.Nat.{ℕ, _<_}
 use mathlib.Core.Path.{_≡_, refl, sym, subst}
 use mathlib.Core.Logic.{_⊎_, inl, inr}
-use mathlib.Core.List.{List}
+use mathlib.Core.List.{List, [], List·Memᴰ·not-nil}
 use native.Mathlib.Omega.{arith}
 use Rattle.refinement.specs.declared.Side.{Side}
 use Rattle.refinement.specs.Order.{_∈_}
@@ -42,7 +44,7 @@ module _ {ms rs : List Match} {marks : List Place} (M : Matches ms) (R : Resolve
       R .resolved .uncut r j s h
       (subst (λ (t : ℕ). CutOf rs (record { track = t; position = h })) (sym (p .same-track s)) c)
 
-  row-ends :
+  pub row-ends :
       {m : Match} → m ∈ ms → (s : Side) (h : ℕ) → Spans m s h → CutOf rs (place m s h)
       → (r : Match) × (r ∈ rs) × Piece m r × ((h ≡ left r s) ⊎ (h ≡ right r s))
   row-ends i s h t c =
@@ -71,3 +73,13 @@ module _ {ms rs : List Match} {marks : List Place} (M : Matches ms) (R : Resolve
       let v = cover-letter M (R .refines) i s x h in
       let n : ¬ (left (v .0) s < x) = λ l. uncut-piece (v .1) (v .2) s x c (omega (arith, v .3)) in
       (v .0, v .1, v .2, omega (arith, v .3))
+
+-- Marks only ask for more: what holds of every resolved refinement without marks holds of every one with them.
+pub unmarked : {ms rs : List Match} {marks : List Place} → ResolvedRefinement ms marks rs → ResolvedRefinement ms [] rs
+unmarked R = record {
+  refines = R .refines;
+  resolved = record {
+    uncut = R .resolved .uncut;
+    marked = λ m i s h k t. absurd (List·Memᴰ·not-nil k);
+  };
+}
