@@ -1,7 +1,7 @@
 -- Carrying the newly found cuts over one match after the other.
 --     Passed              the invariant: they are carried over the first k matches
 --     pass-start, pass-step, pass-end     where it begins, one match more, and the end
---     pass-too-much       no room for the images of one match more
+--     pass-full, pass-excess      no room for the images of one match more, and too many hits with it
 --     pass-over, pass-none    matches that reach no cut change nothing, nor does any match where there is no cut
 --     pass-ready, pass-run, pass-ends     what the next match needs
 --     hits-more           more matches have no fewer hits
@@ -18,19 +18,18 @@ use borrow.Author.Tests.{le-leb}
 use Rattle.refinement.specs.Match.{between}
 use Rattle.refinement.proofs.Geometry.{between-bounds}
 use Rattle.runs.specs.Runs.{Same}
-use Rattle.cut_set.specs.Store.{Found, FoundRun, NothingFound, foundIn, Stored}
+use Rattle.cut_set.specs.Store.{Found, FoundRun, NothingFound, foundIn, Stored, Cramped}
 use Rattle.cut_set.specs.declared.CutSet.{CutSet}
 use Rattle.runs.proofs.Membership.{lt-or-le, in-same}
-use Rattle.cut_set.proofs.Laws.{stored-none, stored-same, stored-then}
+use Rattle.cut_set.proofs.Laws.{done-used, stored-none, stored-same, stored-then, cramped-wide, cramped-then}
 use Rattle.reading_cuts.specs.Reading.{Lowest, Highest}
 use Rattle.refining.specs.Columns.{Columns, countOf, fromAt, fromRightAt, toAt, toRightAt, wayAt}
 use Rattle.near_matches.specs.Near.{reaching, Passable}
-use Rattle.carrying_match.specs.OneMatch.{EndsIn, ImageBy, hitsOn, TooMuch, Ready}
+use Rattle.carrying_match.specs.OneMatch.{EndsIn, ImageBy, hitsOn, Ready}
 use Rattle.carrying_cuts.specs.Worker.{EndsKnown, Images, hitsOver}
 use Rattle.carrying_match.proofs.RunLists.{slice-same, hits-none}
 use Rattle.cut_set.proofs.Gathering.{base-done, used-limit, used-within}
-use Rattle.carrying_match.proofs.Storing.{done-used}
-use Rattle.carrying_match.proofs.Storing.{too-much-more, too-much-then, same-apart, ready-then}
+use Rattle.carrying_match.proofs.Storing.{same-apart, ready-then}
 
 -- an image of a number with P under the match at index k
 abbrev ImageAt : Columns → ℕ → (ℕ → Type 0) → ℕ → Type 0
@@ -178,20 +177,20 @@ module _ {columns : Columns} {xs : List ℕ} {from to : CutSet} {hits most : ℕ
         few = q .2;
       }
 
-      pub pass-too-much :
-          TooMuch ys set (ImageAt columns k (Found ys from))
-          (count + hitsOn (fromAt columns k) (fromRightAt columns k) (foundIn ys from)) most
-          → TooMuch xs to (Images columns (countOf columns) (Found xs from))
-          (hits + hitsOver columns (countOf columns) (foundIn xs from)) most
-      pass-too-much m =
+      pub pass-full :
+          {zs : List ℕ} {u : CutSet} → Cramped (ImageAt columns k (Found ys from)) ys set zs u
+          → Cramped (Images columns (countOf columns) (Found xs from)) xs to zs u
+      pass-full c = cramped-wide (λ y q. images-to (omega arith) (next y .0 q)) (cramped-then (p .stored) c)
+
+      pub pass-excess :
+          most < count + hitsOn (fromAt columns k) (fromRightAt columns k) (foundIn ys from)
+          → most < hits + hitsOver columns (countOf columns) (foundIn xs from)
+      pass-excess m =
           let more : hitsOver columns (k + 1) (foundIn xs from)
           ≤ hitsOver columns (countOf columns) (foundIn xs from) =
           hits-more columns (foundIn xs from) (k + 1) (countOf columns) (omega arith)
           in
-          too-much-more
-          (λ y q. images-to (omega arith) (next y .0 q))
-          (omega (arith, more, one-more, p .counted))
-          (too-much-then (r .to-good) (p .stored) m)
+          omega (arith, more, one-more, p .counted)
 
     -- matches that span no newly found cut
     skip :

@@ -69,6 +69,7 @@ pub fn carry_found(
                 count = h;
                 set = t;
             }
+            Worked::Full { to: t } => return Worked::Full { to: t },
             Worked::TooMany => return Worked::TooMany,
         }
         k = next_near(lefts, rights, k + 1, lowest, highest);

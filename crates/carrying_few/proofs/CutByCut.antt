@@ -1,7 +1,7 @@
 -- Carrying newly found cuts one after the other, each over every match.
 --     CutsPassed          the invariant: the cuts at the places [done, at) are carried over all matches
 --     cuts-start, cuts-step, cuts-end      where it begins, one cut more, and the end
---     cuts-too-much       no room for the images of one cut more
+--     cuts-full, cuts-excess      no room for the images of one cut more, or for its hits
 --     cuts-place, cuts-good    what reading and carrying the next cut needs
 -- Assumes nothing.
 use Prim.Native.Nat.{ℕ, zero, suc, _+_, _≤_, _<_}
@@ -13,16 +13,15 @@ use lib.ListN.{length, getD}
 use lib.Seq.{slice, slice-cons, slice-empty}
 use Rattle.runs.specs.Runs.{In}
 use Rattle.runs.proofs.Membership.{in-wide, in-parts}
-use Rattle.cut_set.specs.Store.{Good, Found, foundIn, foundEnd, Stored}
+use Rattle.cut_set.specs.Store.{Good, Found, foundIn, foundEnd, Stored, Cramped}
 use Rattle.cut_set.specs.declared.CutSet.{CutSet}
-use Rattle.cut_set.proofs.Laws.{stored-none, stored-same, stored-then}
+use Rattle.cut_set.proofs.Laws.{done-used, stored-none, stored-same, stored-then, cramped-wide, cramped-then}
 use Rattle.reading_cuts.specs.Reading.{FoundPlace}
 use Rattle.refining.specs.Columns.{Columns, countOf}
-use Rattle.carrying_match.specs.OneMatch.{TooMuch, Ready, Carrying}
+use Rattle.carrying_match.specs.OneMatch.{Ready, Carrying}
 use Rattle.carrying_match.specs.declared.Worked.{Worked}
 use Rattle.cut_set.proofs.Gathering.{base-done, used-limit, used-within}
-use Rattle.carrying_match.proofs.Storing.{done-used}
-use Rattle.carrying_match.proofs.Storing.{too-much-more, too-much-then, same-apart, ready-then}
+use Rattle.carrying_match.proofs.Storing.{same-apart, ready-then}
 use Rattle.carrying_cuts.specs.Worker.{Images, hitsOver}
 
 pub record CutsPassed (columns : Columns) (xs : List ℕ) (from to : CutSet) (hits most end : ℕ) (ys : List ℕ)
@@ -147,15 +146,17 @@ module _ {columns : Columns} {xs : List ℕ} {from to : CutSet} {hits most end :
         few = q .2;
       }
 
-      pub cuts-too-much :
-          TooMuch ys set (Images columns (countOf columns) (λ z. z ≡ cut))
-          (count + hitsOver columns (countOf columns) (cut ∷ [])) most
-          → TooMuch xs to (Images columns (countOf columns) (Found xs from))
-          (hits + hitsOver columns (countOf columns) (foundIn xs from)) most
-      cuts-too-much m = too-much-more
+      pub cuts-full :
+          {zs : List ℕ} {t : CutSet} → Cramped (Images columns (countOf columns) (λ z. z ≡ cut)) ys set zs t
+          → Cramped (Images columns (countOf columns) (Found xs from)) xs to zs t
+      cuts-full c = cramped-wide
           (λ y q. images-of (λ x. in-wide (omega arith) (omega (arith, h))) (next y .0 q))
-          (omega (arith, p .counted, hit))
-          (too-much-then (r .to-good) (p .stored) m)
+          (cramped-then (p .stored) c)
+
+      pub cuts-excess :
+          most < count + hitsOver columns (countOf columns) (cut ∷ [])
+          → most < hits + hitsOver columns (countOf columns) (foundIn xs from)
+      cuts-excess m = omega (arith, p .counted, hit)
 
     pub cuts-end :
         end ≤ at

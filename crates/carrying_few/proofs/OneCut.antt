@@ -10,12 +10,11 @@ use mathlib.Core.Bool.{true, false, true≢false}
 use mathlib.Core.List.{List}
 use mathlib.Core.Logic.{_↔_}
 use Rattle.refinement.specs.Match.{between, carryTo}
-use Rattle.cut_set.specs.Store.{Good, Stored}
+use Rattle.cut_set.specs.Store.{Good, Stored, Cramped}
 use Rattle.cut_set.specs.declared.CutSet.{CutSet}
-use Rattle.cut_set.proofs.Laws.{stored-none, stored-same}
-use Rattle.carrying_match.specs.OneMatch.{TooMuch, Carrying}
+use Rattle.cut_set.proofs.Laws.{stored-none, stored-same, cramped-wide}
+use Rattle.carrying_match.specs.OneMatch.{Carrying}
 use Rattle.carrying_match.specs.declared.Worked.{Worked}
-use Rattle.carrying_match.proofs.Storing.{too-much-more}
 use Rattle.refining.specs.Columns.{Columns, fromAt, fromRightAt, toAt, toRightAt, wayAt}
 use Rattle.carrying_cuts.specs.Worker.{Image}
 use Rattle.carrying_few.specs.Hit.{hitOn}
@@ -45,13 +44,10 @@ module _ (columns : Columns) (m cut : ℕ) where
     over-held hits f h p = (stored-same (the-image f) p, rw e (omega arith), omega arith)
 
     pub over-full :
-        {image : ℕ} {xs : List ℕ} {to : CutSet} (hits : ℕ) {most : ℕ}
+        {image : ℕ} {xs ys : List ℕ} {to t : CutSet}
         → image ≡ carryTo (wayAt columns m) (fromAt columns m) (toAt columns m) (toRightAt columns m) cut
-        → TooMuch xs to (λ y. y ≡ image) (hits + 1) most
-        → TooMuch xs to (Image columns m cut) (hits + hitOn columns cut m) most
-    over-full hits f q = too-much-more (λ y. the-image f y .0) (rw e (omega arith)) q
+        → Cramped (λ y. y ≡ image) xs to ys t → Cramped (Image columns m cut) xs to ys t
+    over-full f c = cramped-wide (λ y. the-image f y .0) c
 
-    pub over-excess :
-        {xs : List ℕ} {to : CutSet} (hits : ℕ) {most : ℕ} → most ≤ hits
-        → TooMuch xs to (Image columns m cut) (hits + hitOn columns cut m) most
-    over-excess hits l = TooMuch.excess (rw e (omega arith))
+    pub over-excess : (hits : ℕ) {most : ℕ} → most ≤ hits → most < hits + hitOn columns cut m
+    over-excess hits l = rw e (omega arith)

@@ -3,7 +3,7 @@
 --     PlacesPassed        the invariant: the cut is carried over the matches before place k
 --     places-start, places-step, places-end     where it begins, one match more, and the end; matches that do not span
 --                         the cut are passed over at each
---     place-too-much      no room for the image under the match at place k
+--     place-full, place-excess    no room for the image under the match at place k, or for the hit
 -- Assumes nothing.
 use Prim.Native.Nat.{ℕ, zero, suc, _+_, _≤_, _<_}
 use native.Mathlib.Omega.{arith}
@@ -15,16 +15,15 @@ use mathlib.Core.Logic.{_↔_, _⊎_, inl, inr, ⊎-elim}
 use lib.ListN.{length, getD}
 use Rattle.refinement.specs.Match.{between}
 use Rattle.runs.proofs.Membership.{lt-or-le}
-use Rattle.cut_set.specs.Store.{Good, Stored}
+use Rattle.cut_set.specs.Store.{Good, Stored, Cramped}
 use Rattle.cut_set.specs.declared.CutSet.{CutSet}
-use Rattle.cut_set.proofs.Laws.{stored-none, stored-same, stored-then}
+use Rattle.cut_set.proofs.Laws.{stored-none, stored-same, stored-then, cramped-wide, cramped-then}
 use Rattle.refining.specs.Columns.{Columns, countOf, fromAt, fromRightAt, Fit}
 use Rattle.arrangement.specs.Index.{sumTo, sumAt, Indexed}
 use Rattle.near_blocks.specs.Places.{PassedPlaces}
 use Rattle.near_blocks.proofs.Passing.{passed-away}
-use Rattle.carrying_match.specs.OneMatch.{TooMuch, Carrying}
+use Rattle.carrying_match.specs.OneMatch.{Carrying}
 use Rattle.carrying_match.specs.declared.Worked.{Worked}
-use Rattle.carrying_match.proofs.Storing.{too-much-more, too-much-then}
 use Rattle.carrying_cuts.specs.Worker.{Image, Images, hitsOver}
 use Rattle.carrying_few.specs.Hit.{hitOn}
 
@@ -174,19 +173,22 @@ module _ {columns : Columns} {order : List ℕ} (i : Indexed order (columns .fro
         }
 
     module _ (fit : Fit columns) where
-      pub place-too-much :
-          k < length (columns .from-lefts)
-          → TooMuch ys set (Image columns (getD order k 0) cut) (count + hitOn columns cut (getD order k 0)) most
-          → TooMuch xs to (Images columns (countOf columns) (λ z. z ≡ cut))
-          (hits + hitsOver columns (countOf columns) (cut ∷ [])) most
-      place-too-much h m =
-          let n = length (columns .from-lefts) in
-          let rest = sum-more (hitOn columns cut) order (k + 1) n (omega arith) in
-          too-much-more
+      pub place-full :
+          {zs : List ℕ} {t : CutSet} → k < length (columns .from-lefts)
+          → Cramped (Image columns (getD order k 0) cut) ys set zs t
+          → Cramped (Images columns (countOf columns) (λ z. z ≡ cut)) xs to zs t
+      place-full h c = cramped-wide
           (λ y q. let b = one columns order cut k y .0 q in
           all fit i cut y .0 (record { place = b .place; below = omega (arith, b .below); image = b .image }))
-          (omega (arith, p .counted, rest, one-sum columns order cut k, all-sum fit i cut))
-          (too-much-then g (p .stored) m)
+          (cramped-then (p .stored) c)
+
+      pub place-excess :
+          k < length (columns .from-lefts) → most < count + hitOn columns cut (getD order k 0)
+          → most < hits + hitsOver columns (countOf columns) (cut ∷ [])
+      place-excess h m =
+          let n = length (columns .from-lefts) in
+          let rest = sum-more (hitOn columns cut) order (k + 1) n (omega arith) in
+          omega (arith, p .counted, rest, one-sum columns order cut k, all-sum fit i cut)
 
       pub places-end :
           length (columns .from-lefts) ≤ k

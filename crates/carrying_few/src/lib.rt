@@ -58,7 +58,7 @@ fn carry_over(
             hits: hits + 1,
             to: s,
         },
-        Added::Full => Worked::TooMany,
+        Added::Full(s) => Worked::Full { to: s },
     }
 }
 
@@ -115,6 +115,7 @@ fn carry_cut(
                 count = h;
                 set = t;
             }
+            Worked::Full { to: t } => return Worked::Full { to: t },
             Worked::TooMany => return Worked::TooMany,
         }
         k = next_place(index, n, k + 1, cut);
@@ -174,6 +175,7 @@ pub fn carry_few(
                 count = h;
                 set = t;
             }
+            Worked::Full { to: t } => return Worked::Full { to: t },
             Worked::TooMany => return Worked::TooMany,
         }
         at += 1;

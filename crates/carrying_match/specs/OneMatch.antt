@@ -1,21 +1,16 @@
 -- What carrying the newly found cuts of one side over one match to the other side does.
 --     ImageBy      y is what the match carries a newly found cut to
 --     hitsOn       how many cuts of a list the match spans
---     Overflow     more numbers of a kind than there are places
 --     Ready        what carrying needs of the two sets
 --     EndsIn       the ends of a match on one side are members
---     TooMuch      why there are too many
 --     Carrying     what carrying does, by its answer
 -- Assumes nothing.
-use Prim.Native.Nat.{ℕ, suc, _+_, _≤_, _<_}
+use Prim.Native.Nat.{ℕ, _+_, _≤_, _<_}
 use mathlib.Core.Path.{_≡_}
-use mathlib.Core.Logic.{_⊎_}
 use mathlib.Core.Bool.{Bool, true, cond}
 use mathlib.Core.List.{List, [], _∷_}
-use lib.ListN.{length}
-use Rattle.refinement.specs.Order.{_∈_, Distinct}
 use Rattle.refinement.specs.Match.{between, carryTo}
-use Rattle.cut_set.specs.Store.{Good, Member, placesOf, Stored}
+use Rattle.cut_set.specs.Store.{Good, Member, Stored, Cramped}
 use Rattle.cut_set.specs.declared.CutSet.{CutSet}
 use Rattle.carrying_match.specs.declared.Worked.{Worked}
 
@@ -29,13 +24,6 @@ pub record ImageBy (i g k l : ℕ) (b : Bool) (P : ℕ → Type 0) (y : ℕ) : T
 abbrev pub hitsOn : ℕ → ℕ → List ℕ → ℕ
 hitsOn i g [] = 0
 hitsOn i g (x ∷ xs) = cond (between i g x) 1 0 + hitsOn i g xs
-
--- as many numbers with Q as there are places, and one more
-pub record Overflow (Q : ℕ → Type 0) (places : ℕ) : Type 0 where
-  pub numbers : List ℕ
-  pub distinct : Distinct numbers
-  pub all : (x : ℕ) → x ∈ numbers → Q x
-  pub more : length numbers ≡ suc places
 
 -- two sets in parts of one buffer that share no place
 pub data Apart (s t : CutSet) : Type 0 where
@@ -52,13 +40,10 @@ pub record Ready (xs : List ℕ) (from to : CutSet) : Type 0 where
 abbrev pub EndsIn : List ℕ → CutSet → ℕ → ℕ → Type 0
 EndsIn xs s k l = Member xs s k × Member xs s l
 
--- why the answer is "too many": no place for one more image, or more hits than the most that are allowed
-pub data TooMuch (xs : List ℕ) (to : CutSet) (P : ℕ → Type 0) (hits most : ℕ) : Type 0 where
-  crowded : Overflow (λ y. Member xs to y ⊎ P y) (placesOf to) → TooMuch xs to P hits most
-  excess : most < hits → TooMuch xs to P hits most
-
--- carrying cuts to all that has P, with n more hits than before
+-- carrying cuts to all that has P, with n more hits than before: to all of it, to some of it until every place was
+-- taken, or with more hits than the most that are allowed
 abbrev pub Carrying : (ℕ → Type 0) → ℕ → List ℕ → CutSet → ℕ → ℕ → List ℕ → Worked → Type 0
 Carrying P n xs to hits most ys (Worked.Held hits′ to′) =
     Stored P xs to ys to′ × (hits′ ≡ hits + n) × (hits′ ≤ most)
-Carrying P n xs to hits most ys Worked.TooMany = TooMuch xs to P (hits + n) most
+Carrying P n xs to hits most ys (Worked.Full to′) = Cramped P xs to ys to′
+Carrying P n xs to hits most ys Worked.TooMany = most < hits + n

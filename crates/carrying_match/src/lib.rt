@@ -8,10 +8,12 @@ ghost use Prim.Native.Nat.{_+_, _-_, _≤_};
 ghost use Rattle.cut_set.specs.Store.{Found, FoundRun, foundIn};
 ghost use Rattle.carrying_match.specs.OneMatch.{Ready, EndsIn, ImageBy, hitsOn, Carrying};
 
-// The hits so far and the set that images went to, or that there are too many for any table lent. The hits stand first:
-// right behind the answer's tag a set would be copied from odd places, which is slow.
+// The hits so far and the set that images went to; or that set where it has no place for one more image: the work can
+// be done again once it has; or that there are more hits than any table lent has room for. The hits stand first: right
+// behind the answer's tag a set would be copied from odd places, which is slow.
 pub enum Worked {
     Held { hits: usize, to: CutSet },
+    Full { to: CutSet },
     TooMany,
 }
 
@@ -31,7 +33,8 @@ fn is_known(left: u32, right: u32, cut: u32, ended: bool) -> bool
 
 // Carries the newly found cuts that one match spans: they follow each other in the run. The match is given by its ends
 // on the two sides, which are equally far apart. If its ends there are members already (`ended`), its own ends need not
-// be carried: they are most of the hits of a script whose matches hardly overlap. The hits are tested before they are counted: they never pass `most`.
+// be carried: they are most of the hits of a script whose matches hardly overlap. The hits are tested before they are
+// counted: they never pass `most`.
 pub fn carry_match(
     work: &mut [u32],
     from: CutSet,
@@ -79,7 +82,7 @@ pub fn carry_match(
         }
         match cut_set::add(work, set, image) {
             Added::Held(s) => set = s,
-            Added::Full => return Worked::TooMany,
+            Added::Full(s) => return Worked::Full { to: s },
         }
     }
     Worked::Held {

@@ -19,7 +19,7 @@ use Rattle.cut_set.specs.Store.{Good, foundIn}
 use Rattle.cut_set.specs.declared.CutSet.{CutSet}
 use Rattle.carrying_match.specs.OneMatch.{hitsOn}
 use Rattle.carrying_match.proofs.RunLists.{hits-past}
-use Rattle.carrying_match.proofs.Storing.{done-used}
+use Rattle.cut_set.proofs.Laws.{done-used}
 
 pub found-within : {xs : List ℕ} {s : CutSet} → Good xs s → s .used ≤ length xs
 found-within g = omega (arith, g .room, g .within)

@@ -4,9 +4,9 @@
 --     NothingFound, NothingAdded      nothing is newly found; nothing was added since the set was gathered
 --     foundIn, foundEnd       what is newly found, as a list; the place behind it
 --     FoundRun, AllRun        what is newly found is one run; all members are
---     placesOf, unusedOf      the number of places, and of unused ones
 --     Emptied, Gathered, AllFinished, Joined      what the calls that only rearrange do
 --     Stored P, Crowded P     all numbers with P are now in the set; there is no room for one of them
+--     Cramped P               some numbers with P are now in the set, and there is no room for one more
 --     Adding                  what adding a number does, by its answer
 --     NotesOf                 the notes of a set
 --     Standing, SortedApart, NewOnes, RoomForOne, bare, GatheredBare      what gathering and adding do step by step
@@ -79,13 +79,6 @@ FoundRun xs s = RisingIn xs (s .done) (s .used)
 abbrev pub AllRun : List ℕ → CutSet → Type 0
 AllRun xs s = RisingIn xs (s .base) (s .used)
 
--- how many places the set has, and how many of them hold no member
-abbrev pub placesOf : CutSet → ℕ
-placesOf s = s .limit - s .base
-
-abbrev pub unusedOf : CutSet → ℕ
-unusedOf s = s .limit - s .used
-
 -- the numbers outside the set's part are the same in both lists
 abbrev pub Outside : CutSet → List ℕ → List ℕ → Type 0
 Outside s xs ys = (k : ℕ) → (k < s .base) ⊎ (s .limit ≤ k) → getD ys k 0 ≡ getD xs k 0
@@ -155,16 +148,17 @@ pub record Crowded (P : ℕ → Type 0) (xs : List ℕ) (s : CutSet) : Type 0 wh
   pub wanted : P missing
   pub absent : Member xs s missing → ⊥
 
--- once the set is gathered
-pub record CrowdedSet (P : ℕ → Type 0) (xs : List ℕ) (s : CutSet) (ys : List ℕ) : Type 0 where
-  pub set : CutSet
-  pub gathered : Gathered xs s ys set
-  pub crowded : Crowded P ys set
+-- some of the numbers with P were stored; then every place holds a member, and one with P is none
+pub record Cramped (P : ℕ → Type 0) (xs : List ℕ) (s : CutSet) (ys : List ℕ) (t : CutSet) : Type 0 where
+  pub stored : Stored (λ y. P y × Member ys t y) xs s ys t
+  pub ready : NothingAdded t
+  pub bare : t .top ≡ t .limit
+  pub crowded : Crowded P ys t
 
 -- what adding x does, by its answer: no room only where every place holds a member and x is none
 abbrev pub Adding : List ℕ → CutSet → ℕ → List ℕ → Added → Type 0
 Adding xs s x ys (Held t) = Stored (λ y. y ≡ x) xs s ys t
-Adding xs s x ys Full = CrowdedSet (λ y. y ≡ x) xs s ys
+Adding xs s x ys (Full t) = Cramped (λ y. y ≡ x) xs s ys t
 
 -- there is a place for one number more, with what it takes to sort it
 abbrev pub RoomForOne : CutSet → Type 0

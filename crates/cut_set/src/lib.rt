@@ -35,10 +35,11 @@ pub struct CutSet {
     pub limit: usize,
 }
 
-// What adding a number answers: the set with it, or that no place is left for it.
+// What adding a number answers: the set with it, or the set as it stands where no place is left for it, gathered and
+// without notes.
 pub enum Added {
     Held(CutSet),
-    Full,
+    Full(CutSet),
 }
 
 // A set with no member.
@@ -166,7 +167,7 @@ pub fn gather(a: &mut [u32], s: CutSet) -> CutSet
 }
 
 // The same without notes.
-fn gather_bare(a: &mut [u32], s: CutSet) -> CutSet
+pub fn gather_bare(a: &mut [u32], s: CutSet) -> CutSet
     requires { ⌜ Good (now a) s ⌝ }
     ensures { λ r. ⌜ GatheredBare (now (a .entry)) s (now (a .exit)) r ⌝ }
 {
@@ -225,7 +226,7 @@ fn add_tightly(a: &mut [u32], s: CutSet, x: u32) -> Added
     if member(a, t, x) {
         return Added::Held(t);
     }
-    Added::Full
+    Added::Full(t)
 }
 
 // Adds x as newly found, unless it is a member.

@@ -35,8 +35,8 @@ module _ {a a′ es : List ℕ} {x : ℕ} {s : CutSet} {r : Added} (read : s ≡
     full = λ e. absurd (true≢false e);
   }
 
-  pub full-through : {fs : List ℕ} → r ≡ Full → Adding a s x a′ r → AddedBy a es x a′ fs false
-  full-through told h = record {
+  pub full-through : {fs : List ℕ} {t : CutSet} → r ≡ Full t → Adding a s x a′ r → AddedBy a es x a′ fs false
+  full-through {t = t} told h = record {
     held = λ e. absurd (true≢false (sym e));
-    full = λ e. rw (← read) (rw told at h);
+    full = λ e. record { set = t; cramped = rw (← read) (rw told at h) };
   }

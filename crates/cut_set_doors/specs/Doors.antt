@@ -2,6 +2,7 @@
 -- here.
 --     setOf               the set that eight numbers say
 --     Lent                a slice and eight numbers that keep a set in it
+--     CrampedSet          a set without room for one more number
 --     AddedBy             what adding a number does, by its answer
 -- Assumes nothing.
 use Prim.Native.Nat.{ℕ, _≤_}
@@ -10,7 +11,7 @@ use mathlib.Core.List.{List}
 use mathlib.Core.Bool.{Bool, true, false}
 use lib.ListN.{length, getD}
 use Rattle.cut_set.specs.declared.CutSet.{CutSet}
-use Rattle.cut_set.specs.Store.{Good, Stored, CrowdedSet}
+use Rattle.cut_set.specs.Store.{Good, Stored, Cramped}
 
 -- the set whose fields are the numbers of es, in order
 abbrev pub setOf : List ℕ → CutSet
@@ -30,7 +31,12 @@ pub record Lent (xs es : List ℕ) : Type 0 where
   pub eight : 8 ≤ length es
   pub good : Good xs (setOf es)
 
+-- there is no room for one more number with P in the set that the buffer keeps, which the caller's numbers do not say
+pub record CrampedSet (P : ℕ → Type 0) (xs : List ℕ) (s : CutSet) (ys : List ℕ) : Type 0 where
+  pub set : CutSet
+  pub cramped : Cramped P xs s ys set
+
 -- what adding x does, by its answer: true where the set has x, false where there was no room, even once it was gathered
 pub record AddedBy (xs es : List ℕ) (x : ℕ) (ys fs : List ℕ) (r : Bool) : Type 0 where
   pub held : r ≡ true → Stored (λ y. y ≡ x) xs (setOf es) ys (setOf fs)
-  pub full : r ≡ false → CrowdedSet (λ y. y ≡ x) xs (setOf es) ys
+  pub full : r ≡ false → CrampedSet (λ y. y ≡ x) xs (setOf es) ys

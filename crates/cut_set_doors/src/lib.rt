@@ -75,7 +75,7 @@ pub extern "C" fn cut_set_add(a: &mut [u32], ends: &mut [usize], x: u32) -> bool
             write_set(ends, t);
             true
         }
-        Added::Full => false,
+        Added::Full(_) => false,
     }
 }
 

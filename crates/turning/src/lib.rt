@@ -1,5 +1,4 @@
-// One turn: the newly found cuts of a side are carried over the matches to the other side, and are finished. One turn
-// serves the A step and the B step.
+// The newly found cuts of one set are carried over matches to another set, cut by cut or match by match.
 use carrying_cuts::carry_found;
 use carrying_few::carry_few;
 use carrying_match::Worked;
@@ -14,16 +13,7 @@ ghost use Rattle.refining.specs.Columns.{columnsOf, Fit};
 ghost use Rattle.carrying_match.specs.OneMatch.{Ready};
 ghost use Rattle.carrying_cuts.specs.Worker.{EndsKnown, Working};
 ghost use Rattle.counting_hits.specs.Counting.{MoreHits};
-ghost use Rattle.turning.specs.Turning.{Usable, Turning};
-
-pub enum Turn {
-    Carried {
-        hits: usize,
-        from: CutSet,
-        to: CutSet,
-    },
-    TooMany,
-}
+ghost use Rattle.turning.specs.Turning.{Usable};
 
 // So many matches to a newly found cut make it worthwhile to go cut by cut.
 const MATCHES_TO_A_CUT: usize = 4;
@@ -58,7 +48,7 @@ fn too_many(lefts: &[u32], rights: &[u32], work: &[u32], from: CutSet, room: usi
 }
 
 // Carries the newly found cuts: cut by cut where there are few of them and there is an index, and else match by match.
-fn carry_new(
+pub fn carry_new(
     lefts: &[u32],
     rights: &[u32],
     other_lefts: &[u32],
@@ -122,66 +112,4 @@ fn carry_new(
         most,
         ended,
     )
-}
-
-// One turn.
-pub fn take_turn(
-    lefts: &[u32],
-    rights: &[u32],
-    other_lefts: &[u32],
-    other_rights: &[u32],
-    reversed: &[bool],
-    index: &[u32],
-    work: &mut [u32],
-    from: CutSet,
-    to: CutSet,
-    hits: usize,
-    most: usize,
-    ended: bool,
-) -> Turn
-    requires { ⌜
-        Fit (columnsOf (now lefts) (now rights) (now «other_lefts») (now «other_rights») (now reversed)) ⌝ }
-    requires { ⌜ Usable (now index) (now lefts) (now rights) ⌝ }
-    requires { ⌜ Ready (now work) from to ⌝ }
-    requires { ⌜ NothingAdded from ⌝ }
-    requires { ⌜ NothingAdded to ⌝ }
-    requires { ⌜ hits ≤ most ⌝ }
-    requires { ⌜
-        (ended ≡ true
-        → EndsKnown (columnsOf (now lefts) (now rights) (now «other_lefts») (now «other_rights») (now reversed)) (now work)
-        to) ⌝ }
-    ensures { λ r. ⌜
-        Turning
-        (columnsOf (now (lefts .entry)) (now (rights .entry)) (now («other_lefts» .entry))
-        (now («other_rights» .entry)) (now (reversed .entry)))
-        (now (work .entry)) from to hits most (now (work .exit)) r ⌝ }
-{
-    match carry_new(
-        lefts,
-        rights,
-        other_lefts,
-        other_rights,
-        reversed,
-        index,
-        work,
-        from,
-        to,
-        hits,
-        most,
-        ended,
-    ) {
-        Worked::Held {
-            hits: count,
-            to: set,
-        } => {
-            let found = cut_set::gather(work, set);
-            let finished = settling::finish(work, from);
-            Turn::Carried {
-                hits: count,
-                from: finished,
-                to: found,
-            }
-        }
-        Worked::TooMany => Turn::TooMany,
-    }
 }

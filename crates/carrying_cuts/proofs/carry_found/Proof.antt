@@ -5,8 +5,8 @@ use native.Mathlib.Omega.{arith}
 use lib.ListN as List
 use Rattle.refining.specs.Columns.{columnsOf}
 use Rattle.refining.proofs.RightEnds.{facing}
-use Rattle.carrying_cuts.proofs.Passing.{Passed, pass-start, pass-step, pass-too-much, pass-end, pass-ready}
-use Rattle.carrying_cuts.proofs.Passing.{pass-run, pass-ends, pass-over, pass-none}
+use Rattle.carrying_cuts.proofs.Passing.{Passed, pass-start, pass-step, pass-full, pass-excess, pass-end}
+use Rattle.carrying_cuts.proofs.Passing.{pass-ready, pass-run, pass-ends, pass-over, pass-none}
 use borrow.Author.Needs.{needs}
 use Rattle.carrying_cuts.proofs.carry_found.Statement.{statement}
 use Rattle.carrying_cuts.proofs.carry_found.Tie as tie
@@ -92,20 +92,37 @@ carry-match-requires c κs =
 enum-known-h : tie.Need-enum-known-h Inv-loop μ-loop
 enum-known-h c = search needs
 
-enum-told : tie.Need-enum-told Inv-loop μ-loop
-enum-told c = search needs
+enum-known-t : tie.Need-enum-known-t Inv-loop μ-loop
+enum-known-t c = search needs
 
 same-length : tie.Need-same-length Inv-loop μ-loop
 same-length c = search needs
 
 returns-2 : tie.Need-returns-2 Inv-loop μ-loop
+unfolding start-of
 returns-2 c =
     let called : tie.After-carry-match Inv-loop μ-loop = search in
     let in-loop : tie.In-loop Inv-loop μ-loop = search in
-    let test : tie.After-none-found Inv-loop μ-loop = search in
-    let start : tie.Start Inv-loop μ-loop = search in
-    let full = rw (c .enum-told .given .1) at (called .carry-match .ensures) in
-    pass-too-much (start .pre .1 .0) (in-loop .before .loop .inv) (search needs) full
+    let low : tie.After-lowest-found Inv-loop μ-loop = search in
+    let start = start-of low in
+    let full = rw (c .before .t .given .1) at (called .carry-match .ensures) in
+    pass-full (start .pre .1 .0) (in-loop .before .loop .inv) (search needs) full
+
+enum-told : tie.Need-enum-told Inv-loop μ-loop
+enum-told c = search needs
+
+same-length-2 : tie.Need-same-length-2 Inv-loop μ-loop
+same-length-2 c = search needs
+
+returns-3 : tie.Need-returns-3 Inv-loop μ-loop
+unfolding start-of
+returns-3 c =
+    let called : tie.After-carry-match Inv-loop μ-loop = search in
+    let in-loop : tie.In-loop Inv-loop μ-loop = search in
+    let low : tie.After-lowest-found Inv-loop μ-loop = search in
+    let start = start-of low in
+    let excess = rw (c .enum-told .given .1) at (called .carry-match .ensures) in
+    pass-excess (start .pre .1 .0) (in-loop .before .loop .inv) (search needs) excess
 
 add-next-near : tie.Need-add-next-near Inv-loop μ-loop
 add-next-near c =
@@ -140,11 +157,11 @@ loop-again c =
     pass-over (start .pre .1 .0) passed (low .lowest-found .ensures) (high .highest-found .ensures)
     (start .pre .0 .from-length) (c .next-near2 .ensures)
 
-same-length-2 : tie.Need-same-length-2 Inv-loop μ-loop
-same-length-2 c = search needs
+same-length-3 : tie.Need-same-length-3 Inv-loop μ-loop
+same-length-3 c = search needs
 
-returns-3 : tie.Need-returns-3 Inv-loop μ-loop
-returns-3 c =
+returns-4 : tie.Need-returns-4 Inv-loop μ-loop
+returns-4 c =
     let start : tie.Start Inv-loop μ-loop = search in
     pass-end (start .pre .1 .0) (c .before .loop .inv) (search needs)
 
@@ -171,12 +188,15 @@ carry-found-spec =
     shared-slice-read-carry-match-5
     carry-match-requires
     enum-known-h
-    enum-told
+    enum-known-t
     same-length
     returns-2
+    enum-told
+    same-length-2
+    returns-3
     add-next-near
     next-near-requires-2
     loop-less
     loop-again
-    same-length-2
-    returns-3)
+    same-length-3
+    returns-4)

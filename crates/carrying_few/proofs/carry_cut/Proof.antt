@@ -3,7 +3,8 @@
 use Prim.Native.Nat.{_-_}
 use native.Mathlib.Omega.{arith}
 use Rattle.refining.specs.Columns.{columnsOf}
-use Rattle.carrying_few.proofs.Placing.{PlacesPassed, places-start, places-step, place-too-much, places-end}
+use Rattle.carrying_few.proofs.Placing.{PlacesPassed, places-start, places-step, places-end}
+use Rattle.carrying_few.proofs.Placing.{place-full, place-excess}
 use borrow.Author.Needs.{needs}
 use Rattle.carrying_few.proofs.carry_cut.Statement.{statement}
 use Rattle.carrying_few.proofs.carry_cut.Tie as tie
@@ -54,8 +55,8 @@ carry-over-requires c κs =
 enum-known-h : tie.Need-enum-known-h Inv-loop μ-loop
 enum-known-h c = search needs
 
-enum-told : tie.Need-enum-told Inv-loop μ-loop
-enum-told c = search needs
+enum-known-t : tie.Need-enum-known-t Inv-loop μ-loop
+enum-known-t c = search needs
 
 same-length : tie.Need-same-length Inv-loop μ-loop
 same-length c = search needs
@@ -66,8 +67,23 @@ returns c =
     let called : tie.After-carry-over Inv-loop μ-loop = search in
     let in-loop : tie.In-loop Inv-loop μ-loop = search in
     let pre = start-of in-loop .pre in
-    let full = rw (c .enum-told .given .1) at (called .carry-over .ensures) in
-    place-too-much (pre .1 .0) (pre .1 .1 .0) (in-loop .before .loop .inv) (pre .0) (in-loop .loop-test .taken) full
+    let full = rw (c .before .t .given .1) at (called .carry-over .ensures) in
+    place-full (pre .1 .0) (pre .1 .1 .0) (in-loop .before .loop .inv) (pre .0) (in-loop .loop-test .taken) full
+
+enum-told : tie.Need-enum-told Inv-loop μ-loop
+enum-told c = search needs
+
+same-length-2 : tie.Need-same-length-2 Inv-loop μ-loop
+same-length-2 c = search needs
+
+returns-2 : tie.Need-returns-2 Inv-loop μ-loop
+unfolding start-of
+returns-2 c =
+    let called : tie.After-carry-over Inv-loop μ-loop = search in
+    let in-loop : tie.In-loop Inv-loop μ-loop = search in
+    let pre = start-of in-loop .pre in
+    let excess = rw (c .enum-told .given .1) at (called .carry-over .ensures) in
+    place-excess (pre .1 .0) (pre .1 .1 .0) (in-loop .before .loop .inv) (pre .0) (in-loop .loop-test .taken) excess
 
 add-next-place : tie.Need-add-next-place Inv-loop μ-loop
 unfolding start-of
@@ -97,11 +113,11 @@ loop-again c =
     places-step (pre .1 .0) (pre .1 .1 .0) (in-loop .before .loop .inv) (kept .work .given)
     (in-loop .loop-test .taken) held (c .next-place2 .ensures)
 
-same-length-2 : tie.Need-same-length-2 Inv-loop μ-loop
-same-length-2 c = search needs
+same-length-3 : tie.Need-same-length-3 Inv-loop μ-loop
+same-length-3 c = search needs
 
-returns-2 : tie.Need-returns-2 Inv-loop μ-loop
-returns-2 c =
+returns-3 : tie.Need-returns-3 Inv-loop μ-loop
+returns-3 c =
     let start : tie.Start Inv-loop μ-loop = search in
     let pre = start .pre in
     places-end (pre .1 .0) (pre .1 .1 .0) (c .before .loop .inv) (pre .0) (c .loop-test .left)
@@ -119,12 +135,15 @@ carry-cut-spec =
     cast-carry-over
     carry-over-requires
     enum-known-h
-    enum-told
+    enum-known-t
     same-length
     returns
+    enum-told
+    same-length-2
+    returns-2
     add-next-place
     next-place-requires-2
     loop-less
     loop-again
-    same-length-2
-    returns-2)
+    same-length-3
+    returns-3)

@@ -2,8 +2,8 @@
 use Prim.Native.Nat.{_-_}
 use borrow.Author.Needs.{needs}
 use Rattle.refining.specs.Columns.{columnsOf}
-use Rattle.carrying_few.proofs.CutByCut.{CutsPassed, cuts-start, cuts-good, cuts-place, cuts-step, cuts-too-much}
-use Rattle.carrying_few.proofs.CutByCut.{cuts-end}
+use Rattle.carrying_few.proofs.CutByCut.{CutsPassed, cuts-start, cuts-good, cuts-place, cuts-step, cuts-full}
+use Rattle.carrying_few.proofs.CutByCut.{cuts-excess, cuts-end}
 use Rattle.carrying_few.proofs.carry_few.Statement.{statement}
 use Rattle.carrying_few.proofs.carry_few.Tie as tie
 
@@ -48,8 +48,8 @@ carry-cut-requires c κs =
 enum-known-h : tie.Need-enum-known-h Inv-loop μ-loop
 enum-known-h c = search needs
 
-enum-told : tie.Need-enum-told Inv-loop μ-loop
-enum-told c = search needs
+enum-known-t : tie.Need-enum-known-t Inv-loop μ-loop
+enum-known-t c = search needs
 
 same-length : tie.Need-same-length Inv-loop μ-loop
 same-length c = search needs
@@ -61,9 +61,26 @@ returns c =
     let found : tie.After-found-at Inv-loop μ-loop = search in
     let in-loop : tie.In-loop Inv-loop μ-loop = search in
     let start = start-of in-loop in
-    let full = rw (c .enum-told .given .1) at (called .carry-cut .ensures) in
-    cuts-too-much (start .pre .1 .1 .0) (in-loop .before .loop .inv) (in-loop .loop-test .taken)
+    let full = rw (c .before .t .given .1) at (called .carry-cut .ensures) in
+    cuts-full (start .pre .1 .1 .0) (in-loop .before .loop .inv) (in-loop .loop-test .taken)
     (found .found-at .ensures) full
+
+enum-told : tie.Need-enum-told Inv-loop μ-loop
+enum-told c = search needs
+
+same-length-2 : tie.Need-same-length-2 Inv-loop μ-loop
+same-length-2 c = search needs
+
+returns-2 : tie.Need-returns-2 Inv-loop μ-loop
+unfolding start-of
+returns-2 c =
+    let called : tie.After-carry-cut Inv-loop μ-loop = search in
+    let found : tie.After-found-at Inv-loop μ-loop = search in
+    let in-loop : tie.In-loop Inv-loop μ-loop = search in
+    let start = start-of in-loop in
+    let excess = rw (c .enum-told .given .1) at (called .carry-cut .ensures) in
+    cuts-excess (start .pre .1 .1 .0) (in-loop .before .loop .inv) (in-loop .loop-test .taken)
+    (found .found-at .ensures) excess
 
 add-at : tie.Need-add-at Inv-loop μ-loop
 add-at c = search needs
@@ -83,11 +100,11 @@ loop-again c =
     cuts-step (start .pre .1 .1 .0) (in-loop .before .loop .inv) (in-loop .loop-test .taken)
     (found .found-at .ensures) (kept .work .given) held
 
-same-length-2 : tie.Need-same-length-2 Inv-loop μ-loop
-same-length-2 c = search needs
+same-length-3 : tie.Need-same-length-3 Inv-loop μ-loop
+same-length-3 c = search needs
 
-returns-2 : tie.Need-returns-2 Inv-loop μ-loop
-returns-2 c =
+returns-3 : tie.Need-returns-3 Inv-loop μ-loop
+returns-3 c =
     let start : tie.Start Inv-loop μ-loop = search in
     cuts-end (start .pre .1 .1 .0) (c .before .loop .inv) (c .loop-test .left)
 
@@ -103,11 +120,14 @@ carry-few-spec =
     found-at-requires
     carry-cut-requires
     enum-known-h
-    enum-told
+    enum-known-t
     same-length
     returns
+    enum-told
+    same-length-2
+    returns-2
     add-at
     loop-less
     loop-again
-    same-length-2
-    returns-2)
+    same-length-3
+    returns-3)

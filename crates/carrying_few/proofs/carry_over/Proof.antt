@@ -6,7 +6,6 @@ use borrow.Author.Tests.{not-true, not-false}
 use Rattle.refinement.proofs.Geometry.{carry-room}
 use Rattle.refining.specs.Columns.{Columns, columnsOf, fromAt, fromRightAt, toAt, toRightAt}
 use Rattle.refining.proofs.RightEnds.{facing}
-use Rattle.carrying_match.proofs.Storing.{too-much-crowded}
 use Rattle.carrying_few.proofs.OneCut.{over-missed, over-held, over-full, over-excess}
 use Rattle.carrying_few.proofs.carry_over.Statement.{statement}
 use Rattle.carrying_few.proofs.carry_over.Tie as tie
@@ -92,14 +91,14 @@ add-requires c κs = search needs
 enum-known-s : tie.Need-enum-known-s
 enum-known-s c = search needs
 
-add-t32 : tie.Need-add-t32
-add-t32 c =
+add-t33 : tie.Need-add-t33
+add-t33 c =
     let start : tie.Start = search in
     let fewer : tie.Else2 = search in
     search (needs, fewer .if2 .left, start .pre .1 .1 .1, start .good)
 
-enum-told : tie.Need-enum-told
-enum-told c = search needs
+enum-known-s-2 : tie.Need-enum-known-s-2
+enum-known-s-2 c = search needs
 
 same-length : tie.Need-same-length
 same-length c = search needs
@@ -123,17 +122,17 @@ same-length-2 : tie.Need-same-length-2
 same-length-2 c = search needs
 
 returns-4 : tie.Need-returns-4
+unfolding start-of
 returns-4 c =
     let called : tie.After-add = search in
     let carried : tie.After-carry = search in
     let test : tie.Else1 = search in
-    let start : tie.Start = search in
+    let start = start-of test in
     let a = start .args in
     let spans = test .before .spans in
-    let full = rw (c .enum-told .given .1) at (called .add .ensures) in
+    let full = rw (c .before .s2 .given .1) at (called .add .ensures) in
     over-full (columns-of start) (a .m) (a .cut)
-    (sym (spans .ensures .0) ∙ not-false (spans .result) (test .if1 .left)) (a .hits) (carried .carry .ensures)
-    (too-much-crowded (λ y e. e) full)
+    (sym (spans .ensures .0) ∙ not-false (spans .result) (test .if1 .left)) (carried .carry .ensures) full
 
 pub carry-over-spec : {M : Type 1} → statement M
 carry-over-spec =
@@ -156,8 +155,8 @@ carry-over-spec =
     carry-requires
     add-requires
     enum-known-s
-    add-t32
-    enum-told
+    add-t33
+    enum-known-s-2
     same-length
     returns-3
     same-length-2

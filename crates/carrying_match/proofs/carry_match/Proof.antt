@@ -6,10 +6,8 @@ use borrow.Author.Needs.{needs}
 use borrow.Author.Tests.{not-true, not-false}
 use Rattle.refinement.proofs.Geometry.{carry-room}
 use Rattle.cut_set.proofs.Gathering.{used-top}
-use Rattle.cut_set.proofs.Laws.{stored-same}
-use Rattle.carrying_match.specs.OneMatch.{TooMuch}
-use Rattle.carrying_match.proofs.Storing.{too-much-crowded}
-use Rattle.carrying_match.proofs.Walking.{Walked, walk-start, walk-step, walk-known, walk-too-much, walk-over, walk-break}
+use Rattle.carrying_match.proofs.Walking.{Walked, walk-start, walk-over, walk-break}
+use Rattle.carrying_match.proofs.Walking.{AtCut, walk-step, walk-known, walk-full, walk-excess}
 use Rattle.carrying_match.proofs.carry_match.Statement.{statement}
 use Rattle.carrying_match.proofs.carry_match.Tie as tie
 
@@ -40,26 +38,51 @@ spans-requires c κs = search needs
 same-length : tie.Need-same-length Inv-loop μ-loop
 same-length c = search needs
 
-returns : tie.Need-returns Inv-loop μ-loop
-returns c =
-    let test : tie.Else1 Inv-loop μ-loop = search in
+-- what is known of a cut that the match spans
+CutAt : tie.Else1 Inv-loop μ-loop → Type 0
+CutAt test =
+    let found-at : tie.After-found-at Inv-loop μ-loop = search in
+    let at-loop : tie.At-loop Inv-loop μ-loop = search in
+    let found : tie.After-first-found Inv-loop μ-loop = search in
+    let end : tie.After-found-end Inv-loop μ-loop = search in
+    let start : tie.Start Inv-loop μ-loop = search in
+    let a = start .args in
+    let loop = at-loop .loop in
+    AtCut (a .left) (a .right) (a .other-left) (a .other-right) (a .reversed) (a .work .now) (a .from) (a .to) (a .hits)
+    (a .most) (found .first-found .result) (end .found-end .result) (loop .work) (loop .set) (loop .count) (loop .at)
+    (found-at .found-at .result)
+
+-- .. from the place behind the test whether it does
+at-cut : (test : tie.Else1 Inv-loop μ-loop) → CutAt test
+unfolding CutAt
+at-cut test =
     let found-at : tie.After-found-at Inv-loop μ-loop = search in
     let in-loop : tie.In-loop Inv-loop μ-loop = search in
     let found : tie.After-first-found Inv-loop μ-loop = search in
     let start : tie.Start Inv-loop μ-loop = search in
     let spans = test .before .spans in
-    walk-too-much (start .pre .0) (start .pre .1 .0) (found .first-found .ensures) (in-loop .before .loop .inv)
-    (in-loop .loop-test .taken) (found-at .found-at .ensures)
-    (sym (spans .ensures .0) ∙ not-false (spans .result) (test .if1 .left))
-    (TooMuch.excess (omega (arith, c .if2 .taken)))
+    record {
+      ready = start .pre .0;
+      up = start .pre .1 .0;
+      bound = found .first-found .ensures;
+      walked = in-loop .before .loop .inv;
+      more = in-loop .loop-test .taken;
+      here = found-at .found-at .ensures;
+      spans = sym (spans .ensures .0) ∙ not-false (spans .result) (test .if1 .left);
+    }
+
+returns : tie.Need-returns Inv-loop μ-loop
+unfolding CutAt
+returns c =
+    let test : tie.Else1 Inv-loop μ-loop = search in
+    walk-excess (at-cut test) (omega (arith, c .if2 .taken))
 
 carry-requires : tie.Need-carry-requires Inv-loop μ-loop
+unfolding CutAt
 carry-requires c κs =
     let start : tie.Start Inv-loop μ-loop = search in
     let a = start .args in
-    let spans = c .before .before .spans in
-    carry-room (a .left) (a .right) (a .other-left) (a .other-right) _ (start .pre .1 .1 .0)
-    (sym (spans .ensures .0) ∙ not-false (spans .result) (c .before .if1 .left))
+    carry-room (a .left) (a .right) (a .other-left) (a .other-right) _ (start .pre .1 .1 .0) (at-cut (c .before) .spans)
 
 add-count : tie.Need-add-count Inv-loop μ-loop
 add-count c =
@@ -78,28 +101,16 @@ loop-less : tie.Need-loop-less Inv-loop μ-loop
 loop-less c = search needs
 
 loop-again : tie.Need-loop-again Inv-loop μ-loop
+unfolding CutAt
 loop-again c =
     let asked : tie.After-is-known Inv-loop μ-loop = search in
-    let carried : tie.After-carry Inv-loop μ-loop = search in
     let fewer : tie.Else2 Inv-loop μ-loop = search in
-    let test : tie.Else1 Inv-loop μ-loop = search in
-    let found-at : tie.After-found-at Inv-loop μ-loop = search in
-    let in-loop : tie.In-loop Inv-loop μ-loop = search in
     let found : tie.After-first-found Inv-loop μ-loop = search in
     let start : tie.Start Inv-loop μ-loop = search in
-    let inv = in-loop .before .loop .inv in
-    let spans = test .before .spans in
+    let cut = at-cut (fewer .before) in
     let known = asked .is-known .ensures (search needs) in
-    let on = sym (spans .ensures .0) ∙ not-false (spans .result) (test .if1 .left) in
-    walk-step (start .pre .0) (start .pre .1 .0) (found .first-found .ensures) inv
-    (in-loop .loop-test .taken) (found-at .found-at .ensures) on
-    (search needs) (
-      walk-known (start .pre .0) (start .pre .1 .0) (found .first-found .ensures) inv
-          (in-loop .loop-test .taken) (found-at .found-at .ensures) on
-          (start .pre .1 .1 .0) (start .pre .1 .1 .1 .1 (known .0)) (known .1),
-      refl,
-      omega (arith, inv .few, fewer .if2 .left),
-    )
+    walk-step cut refl (omega (arith, cut .walked .few, fewer .if2 .left)) (search needs)
+    (walk-known cut (start .pre .1 .1 .0) (start .pre .1 .1 .1 .1 (known .0)) (known .1))
 
 has-room-requires : tie.Need-has-room-requires Inv-loop μ-loop
 has-room-requires c κs =
@@ -117,26 +128,14 @@ loop-less-2 : tie.Need-loop-less-2 Inv-loop μ-loop
 loop-less-2 c = search needs
 
 loop-again-2 : tie.Need-loop-again-2 Inv-loop μ-loop
+unfolding CutAt
 loop-again-2 c =
     let called : tie.After-append Inv-loop μ-loop = search in
     let carried : tie.After-carry Inv-loop μ-loop = search in
-    let fewer : tie.Else2 Inv-loop μ-loop = search in
-    let test : tie.Else1 Inv-loop μ-loop = search in
-    let found-at : tie.After-found-at Inv-loop μ-loop = search in
-    let in-loop : tie.In-loop Inv-loop μ-loop = search in
-    let found : tie.After-first-found Inv-loop μ-loop = search in
-    let start : tie.Start Inv-loop μ-loop = search in
-    let inv = in-loop .before .loop .inv in
-    let spans = test .before .spans in
-    let image = carried .carry .ensures in
-    walk-step (start .pre .0) (start .pre .1 .0) (found .first-found .ensures) inv
-    (in-loop .loop-test .taken) (found-at .found-at .ensures)
-    (sym (spans .ensures .0) ∙ not-false (spans .result) (test .if1 .left))
-    (search needs) (
-      stored-same (λ y. (λ e. e ∙ image, λ e. e ∙ sym image)) (called .append .ensures),
-      refl,
-      omega (arith, inv .few, fewer .if2 .left),
-    )
+    let fewer = carried .before in
+    let cut = at-cut (fewer .before) in
+    walk-step cut (carried .carry .ensures) (omega (arith, cut .walked .few, fewer .if2 .left)) (search needs)
+    (called .append .ensures)
 
 add-requires : tie.Need-add-requires Inv-loop μ-loop
 add-requires c κs = search needs
@@ -148,29 +147,17 @@ loop-less-3 : tie.Need-loop-less-3 Inv-loop μ-loop
 loop-less-3 c = search needs
 
 loop-again-3 : tie.Need-loop-again-3 Inv-loop μ-loop
+unfolding CutAt
 loop-again-3 c =
     let called : tie.After-add Inv-loop μ-loop = search in
     let carried : tie.After-carry Inv-loop μ-loop = search in
-    let fewer : tie.Else2 Inv-loop μ-loop = search in
-    let test : tie.Else1 Inv-loop μ-loop = search in
-    let found-at : tie.After-found-at Inv-loop μ-loop = search in
-    let in-loop : tie.In-loop Inv-loop μ-loop = search in
-    let found : tie.After-first-found Inv-loop μ-loop = search in
-    let start : tie.Start Inv-loop μ-loop = search in
-    let inv = in-loop .before .loop .inv in
-    let spans = test .before .spans in
-    let image = carried .carry .ensures in
-    walk-step (start .pre .0) (start .pre .1 .0) (found .first-found .ensures) inv
-    (in-loop .loop-test .taken) (found-at .found-at .ensures)
-    (sym (spans .ensures .0) ∙ not-false (spans .result) (test .if1 .left))
-    (search needs) (
-      stored-same (λ y. (λ e. e ∙ image, λ e. e ∙ sym image)) (rw (c .before .s .given .1) at (called .add .ensures)),
-      refl,
-      omega (arith, inv .few, fewer .if2 .left),
-    )
+    let fewer = carried .before in
+    let cut = at-cut (fewer .before) in
+    let added = rw (c .before .s .given .1) at (called .add .ensures) in
+    walk-step cut (carried .carry .ensures) (omega (arith, cut .walked .few, fewer .if2 .left)) (search needs) added
 
-enum-told : tie.Need-enum-told Inv-loop μ-loop
-enum-told c = search needs
+enum-known-s-2 : tie.Need-enum-known-s-2 Inv-loop μ-loop
+enum-known-s-2 c = search needs
 
 same-length-2 : tie.Need-same-length-2 Inv-loop μ-loop
 same-length-2 c = search needs
@@ -180,22 +167,12 @@ carried-of : tie.After-add Inv-loop μ-loop → tie.After-carry Inv-loop μ-loop
 carried-of called = search
 
 returns-2 : tie.Need-returns-2 Inv-loop μ-loop
-unfolding carried-of
+unfolding CutAt carried-of
 returns-2 c =
     let called : tie.After-add Inv-loop μ-loop = search in
-    let test : tie.Else1 Inv-loop μ-loop = search in
-    let found-at : tie.After-found-at Inv-loop μ-loop = search in
-    let in-loop : tie.In-loop Inv-loop μ-loop = search in
-    let found : tie.After-first-found Inv-loop μ-loop = search in
-    let start : tie.Start Inv-loop μ-loop = search in
-    let inv = in-loop .before .loop .inv in
-    let spans = test .before .spans in
-    let image = carried-of called .carry .ensures in
-    let full = rw (c .enum-told .given .1) at (called .add .ensures) in
-    walk-too-much (start .pre .0) (start .pre .1 .0) (found .first-found .ensures) inv
-    (in-loop .loop-test .taken) (found-at .found-at .ensures)
-    (sym (spans .ensures .0) ∙ not-false (spans .result) (test .if1 .left))
-    (too-much-crowded (λ y e. e ∙ image) full)
+    let carried = carried-of called in
+    let full = rw (c .before .s2 .given .1) at (called .add .ensures) in
+    walk-full (at-cut (carried .before .before)) (carried .carry .ensures) full
 
 same-length-3 : tie.Need-same-length-3 Inv-loop μ-loop
 same-length-3 c = search needs
@@ -248,7 +225,7 @@ carry-match-spec =
     enum-known-s
     loop-less-3
     loop-again-3
-    enum-told
+    enum-known-s-2
     same-length-2
     returns-2
     same-length-3

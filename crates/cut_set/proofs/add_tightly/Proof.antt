@@ -37,9 +37,11 @@ same-length-3 c = search needs
 returns-3 : tie.Need-returns-3
 returns-3 c =
     let at-gather : tie.After-gather-bare = search in
+    let now = at-gather .gather-bare .ensures in
     record {
-      set = _;
-      gathered = at-gather .gather-bare .ensures .gathered;
+      stored = gathered-stored (now .gathered) (stored-none (now .gathered .kept .good) (λ y h. h .1));
+      ready = now .gathered .ready;
+      bare = now .none;
       crowded = record {
         full = search needs;
         missing = _;

@@ -1,12 +1,19 @@
 -- `carry_new` meets its contract: each way of carrying does, and counting too many hits is an answer. Assumes nothing.
+use Prim.Native.Nat.{ℕ}
 use native.Mathlib.Omega.{arith}
 use mathlib.Core.Path.{sym, _∙_}
 use mathlib.Core.Logic.{⊎-elim}
-use Rattle.carrying_match.specs.OneMatch.{TooMuch}
-use Rattle.turning.proofs.WholeTurn.{found-run}
+use mathlib.Core.List.{List}
+use Rattle.cut_set.specs.Store.{FoundRun, NothingAdded}
+use Rattle.cut_set.specs.declared.CutSet.{CutSet}
+use Rattle.carrying_match.specs.OneMatch.{Ready}
 use borrow.Author.Needs.{needs}
 use Rattle.turning.proofs.carry_new.Statement.{statement}
 use Rattle.turning.proofs.carry_new.Tie as tie
+
+-- where nothing is added, the newly found cuts are one run
+found-run : {xs : List ℕ} {from to : CutSet} → Ready xs from to → NothingAdded from → FoundRun xs from
+found-run r f = rw (sym f) (r .from-good .found-run .rising)
 
 count-found-requires : tie.Need-count-found-requires
 count-found-requires c κs = search needs
@@ -46,7 +53,7 @@ returns-2 c =
     let args = start .args in
     let more = c .before .too-many .ensures (c .if3 .taken) (args .other-lefts .now) (args .other-rights .now)
     (args .reversed .now) (pre .0 .from-length) in
-    TooMuch.excess (omega (arith, more, pre .1 .1 .1 .1 .0))
+    omega (arith, more, pre .1 .1 .1 .1 .0)
 
 carry-found-requires : tie.Need-carry-found-requires
 carry-found-requires c κs =

@@ -1,6 +1,6 @@
 -- `too_many` meets its contract: the last count alone says yes. Assumes nothing.
 use native.Mathlib.Omega.{arith}
-use mathlib.Core.Path.{sym, _∙_}
+use mathlib.Core.Path.{sym}
 use mathlib.Core.Bool.{true≢false}
 use borrow.Author.Needs.{needs}
 use Rattle.turning.proofs.too_many.Statement.{statement}
