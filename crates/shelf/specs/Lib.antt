@@ -1,0 +1,3 @@
+pub mod Shelf
+pub mod Writing
+pub mod Filling

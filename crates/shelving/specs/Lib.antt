@@ -1,0 +1,2 @@
+pub mod AllSets
+pub mod OneSet
