@@ -10,29 +10,21 @@ use mathlib.Core.List.{List}
 use native.Mathlib.Omega.{arith}
 use native.Mathlib.Decide.{ℕ-discrete}
 use lib.ListN.{length, getD}
-use Rattle.cut_set.specs.Store.{Good, Member, placesOf, Stored, CrowdedSet, Adding}
+use Rattle.cut_set.specs.Store.{Good, Stored, Cramped, Adding}
 use Rattle.cut_set.specs.declared.CutSet.{CutSet}
 use Rattle.cut_set.specs.declared.Added.{Added}
-use Rattle.cut_set.proofs.Laws.{stored-none, stored-same, stored-then}
-use Rattle.carrying_match.specs.OneMatch.{Overflow}
-use Rattle.carrying_match.proofs.Storing.{set-overflow, overflow-from, member-only}
+use Rattle.cut_set.proofs.Laws.{stored-none, stored-same, stored-then, cramped-wide, cramped-then}
 use Rattle.seeding.specs.Seeds.{EndAt, EndOf, Seeding}
 
 pub two-added :
-    (xs : List ℕ) (s : CutSet) {ys : List ℕ} {t : CutSet} (zs : List ℕ) (x z : ℕ) → Good xs s → Stored (λ y. y ≡ x) xs s ys t
+    (xs : List ℕ) (s : CutSet) {ys : List ℕ} {t : CutSet} (zs : List ℕ) (x z : ℕ) → Stored (λ y. y ≡ x) xs s ys t
     → (answer : Added) → Adding ys t z zs answer → Seeding (EndAt x z) xs s zs answer
-two-added xs s zs x z g h (Added.Held u) k = stored-then h k
-two-added xs s zs x z g h Added.Full k =
-    overflow-from (omega (arith, h .base-same, h .limit-same))
-    (λ y. ⊎-elim
-    (λ p. ⊎-elim inl (λ e. inr (inl e)) (member-only g h p))
-    (λ e. inr (inr e)))
-    (set-overflow k)
+two-added xs s zs x z h (Added.Held u) k = stored-then h k
+two-added xs s zs x z h (Added.Full u) k = cramped-then h k
 
 pub one-full :
-    {xs ys : List ℕ} {s : CutSet} {x : ℕ} (z : ℕ) → CrowdedSet (λ y. y ≡ x) xs s ys
-    → Overflow (λ y. Member xs s y ⊎ EndAt x z y) (placesOf s)
-one-full z c = overflow-from refl (λ y. ⊎-elim inl (λ e. inr (inl e))) (set-overflow c)
+    {xs ys : List ℕ} {s t : CutSet} {x : ℕ} (z : ℕ) → Cramped (λ y. y ≡ x) xs s ys t → Cramped (EndAt x z) xs s ys t
+one-full z c = cramped-wide (λ y e. inl e) c
 
 pub record Sown (f r xs : List ℕ) (s : CutSet) (k : ℕ) (ys : List ℕ) (t : CutSet) : Type 0 where
   pub to : k ≤ length f
@@ -70,16 +62,13 @@ module _ {f r xs ys : List ℕ} {s t : CutSet} {k : ℕ} (w : Sown f r xs s k ys
       part y p (no e) = inl (record { index = p .index; below = omega (arith, p .below, e); is = p .is })
 
   pub sown-full :
-      Good xs s → Overflow (λ y. Member ys t y ⊎ EndAt (getD f k 0) (getD r k 0) y) (placesOf t)
-      → Overflow (λ y. Member xs s y ⊎ EndOf f r (length f) y) (placesOf s)
-  sown-full g o =
-      overflow-from (omega (arith, w .stored .base-same, w .stored .limit-same))
+      {zs : List ℕ} {u : CutSet} → Cramped (EndAt (getD f k 0) (getD r k 0)) ys t zs u
+      → Cramped (EndOf f r (length f)) xs s zs u
+  sown-full c = cramped-wide
       (λ y. ⊎-elim
-      (λ p. ⊎-elim inl
-      (λ q. inr (record { index = q .index; below = omega (arith, q .below); is = q .is }))
-      (member-only g (w .stored) p))
-      (λ p. inr (record { index = k; below = l; is = p })))
-      o
+      (λ p. record { index = p .index; below = omega (arith, p .below); is = p .is })
+      (λ p. record { index = k; below = l; is = p }))
+      (cramped-then (w .stored) c)
 
 pub sown-end :
     {f r xs ys : List ℕ} {s t : CutSet} {k : ℕ} → Sown f r xs s k ys t → length f ≤ k

@@ -1,1 +1,3 @@
 pub mod Seeds
+pub mod Sown
+pub mod Wanting

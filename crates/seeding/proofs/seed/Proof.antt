@@ -38,8 +38,8 @@ seed-match-requires c κs =
 enum-known-s : tie.Need-enum-known-s Inv-loop μ-loop
 enum-known-s c = search needs
 
-enum-told : tie.Need-enum-told Inv-loop μ-loop
-enum-told c = search needs
+enum-known-s-2 : tie.Need-enum-known-s-2 Inv-loop μ-loop
+enum-known-s-2 c = search needs
 
 same-length : tie.Need-same-length Inv-loop μ-loop
 same-length c =
@@ -51,9 +51,8 @@ returns : tie.Need-returns Inv-loop μ-loop
 returns c =
     let called : tie.After-seed-match Inv-loop μ-loop = search in
     let in-loop : tie.In-loop Inv-loop μ-loop = search in
-    let start : tie.Start Inv-loop μ-loop = search in
-    let full = rw (c .enum-told .given .1) at (called .seed-match .ensures) in
-    sown-full (in-loop .before .loop .inv) (in-loop .loop-test .taken) (start .pre .1) full
+    let full = rw (c .before .s2 .given .1) at (called .seed-match .ensures) in
+    sown-full (in-loop .before .loop .inv) (in-loop .loop-test .taken) full
 
 add-k : tie.Need-add-k Inv-loop μ-loop
 add-k c = search needs
@@ -87,7 +86,7 @@ seed-spec =
     shared-slice-read-seed-match-2
     seed-match-requires
     enum-known-s
-    enum-told
+    enum-known-s-2
     same-length
     returns
     add-k

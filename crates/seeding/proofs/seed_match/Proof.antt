@@ -1,4 +1,4 @@
--- `seed_match` meets its contract: the two ends are added, or the set and one end more overflow it. Assumes nothing.
+-- `seed_match` meets its contract: the two ends are added, or there is no room for one. Assumes nothing.
 use borrow.Author.Needs.{needs}
 use Rattle.seeding.proofs.Seeds.{two-added, one-full}
 use Rattle.seeding.proofs.seed_match.Statement.{statement}
@@ -16,8 +16,8 @@ add-requires-2 c κs =
     let added = rw (c .before .before .s .given .1) at (at-add .add .ensures) in
     added .good
 
-enum-told : tie.Need-enum-told
-enum-told c = search needs
+enum-known-s-2 : tie.Need-enum-known-s-2
+enum-known-s-2 c = search needs
 
 same-length : tie.Need-same-length
 same-length c = search needs
@@ -30,7 +30,7 @@ returns c =
     let added = rw (held .s .given .1) at (at-add .add .ensures) in
     let second = c .before .before .add2 in
     two-added (start .args .work .now) (start .args .set) (second .last .0) (start .args .left)
-    (start .args .right) (start .pre) added (second .result) (second .ensures)
+    (start .args .right) added (second .result) (second .ensures)
 
 same-length-2 : tie.Need-same-length-2
 same-length-2 c = search needs
@@ -39,7 +39,7 @@ returns-2 : tie.Need-returns-2
 returns-2 c =
     let at-add : tie.After-add = search in
     let start : tie.Start = search in
-    let full = rw (c .enum-told .given .1) at (at-add .add .ensures) in
+    let full = rw (c .before .s2 .given .1) at (at-add .add .ensures) in
     one-full (start .args .right) full
 
 pub seed-match-spec : {M : Type 1} → statement M
@@ -49,7 +49,7 @@ seed-match-spec =
     add-requires
     enum-known-s
     add-requires-2
-    enum-told
+    enum-known-s-2
     same-length
     returns
     same-length-2

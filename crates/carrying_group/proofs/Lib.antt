@@ -1,0 +1,2 @@
+pub mod OneTry
+pub mod Going

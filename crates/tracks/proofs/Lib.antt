@@ -1,0 +1,5 @@
+pub mod Indexed
+pub mod Counting
+pub mod Settled
+pub mod Stepping
+pub mod Grouped

@@ -1,0 +1,3 @@
+pub mod Tracks
+pub mod Engine
+pub mod Groups

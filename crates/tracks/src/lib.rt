@@ -1,0 +1,1 @@
+// The matches with the tracks that they join: what is said of them and proved.
