@@ -1,2 +1,1 @@
 pub mod Drives
-pub mod Settled

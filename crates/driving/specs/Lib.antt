@@ -1,1 +1,1 @@
-pub mod AllCuts
+pub mod Driving

@@ -1,16 +1,18 @@
 // The closure: steps follow each other until neither side gains a cut.
-use cut_set::CutSet;
 use stepping::Closing;
 use stepping::a_step;
 use stepping::b_step;
-ghost use Rattle.refining.specs.Columns.{columnsOf, Fit};
-ghost use Rattle.refining.specs.Refining.{heldIn};
-ghost use Rattle.turning.specs.Turning.{Usable};
-ghost use Rattle.driving.specs.AllCuts.{Driving, Closure};
+ghost use mathlib.Core.List.{List};
+ghost use Rattle.refinement.specs.Match.{Place};
+ghost use Rattle.refining.specs.Columns.{columnsOf};
+ghost use Rattle.tracks.specs.Engine.{booksOf};
+ghost use Rattle.tracks.specs.Groups.{grouped};
+ghost use Rattle.stepping.specs.Steps.{Given};
+ghost use Rattle.driving.specs.Driving.{Driving, Driven, Closure};
 
-// The cuts of A, or that every resolved refinement has more pieces than the capacity.
+// The sets hold all cuts, or every resolved refinement has more pieces than the capacity.
 pub enum Closed {
-    CutsOfA(CutSet),
+    AllCuts,
     TooMany,
 }
 
@@ -24,33 +26,43 @@ pub fn drive(
     left_b: &[u32],
     right_b: &[u32],
     reversed: &[bool],
+    straight: &[bool],
     index_a: &[u32],
     index_b: &[u32],
+    groups: &[usize],
     work: &mut [u32],
+    book_a: &mut [usize],
+    book_b: &mut [usize],
+    count: usize,
+    sets: usize,
     first: Closing,
     capacity: usize,
 ) -> Closed
-    requires { ⌜ Fit (columnsOf (now «left_a») (now «right_a») (now «left_b») (now «right_b») (now reversed)) ⌝ }
-    requires { ⌜ Usable (now «index_a») (now «left_a») (now «right_a») ⌝ }
-    requires { ⌜ Usable (now «index_b») (now «left_b») (now «right_b») ⌝ }
     requires { ⌜
-        Driving (columnsOf (now «left_a») (now «right_a») (now «left_b») (now «right_b») (now reversed)) capacity
-        (now work) first ⌝ }
+        Given (columnsOf (now «left_a») (now «right_a») (now «left_b») (now «right_b») (now reversed)) (now straight)
+        (now «index_a») (now «index_b») (now groups) count sets ⌝ }
+    requires { ⌜
+        Driven (columnsOf (now «left_a») (now «right_a») (now «left_b») (now «right_b») (now reversed)) (now groups)
+        count sets capacity (now work) (now «book_a») (now «book_b») first ⌝ }
     ensures { λ r. ⌜
-        Closure
-        (heldIn
+        ((marks : List Place)
+        → Driving
         (columnsOf (now («left_a» .entry)) (now («right_a» .entry)) (now («left_b» .entry)) (now («right_b» .entry))
-        (now (reversed .entry))))
-        capacity (now (work .exit)) r ⌝ }
+        (now (reversed .entry)))
+        (now (groups .entry)) count marks sets capacity (now (work .entry)) (now («book_a» .entry))
+        (now («book_b» .entry)) first
+        → Closure
+        (grouped
+        (columnsOf (now («left_a» .entry)) (now («right_a» .entry)) (now («left_b» .entry)) (now («right_b» .entry))
+        (now (reversed .entry)))
+        (now (groups .entry)) count marks)
+        sets capacity (now (work .exit)) (booksOf (now («book_a» .exit)) (now («book_b» .exit))) r) ⌝ }
 {
     let mut closing = first;
     loop {
         let now = closing;
         match now {
-            Closing::Done(c) => {
-                let a = c.a;
-                return Closed::CutsOfA(a);
-            }
+            Closing::Done => return Closed::AllCuts,
             Closing::TooMany => return Closed::TooMany,
             Closing::MoreA(c) => {
                 closing = a_step(
@@ -59,9 +71,15 @@ pub fn drive(
                     left_b,
                     right_b,
                     reversed,
+                    straight,
                     index_a,
                     index_b,
+                    groups,
                     work,
+                    book_a,
+                    book_b,
+                    count,
+                    sets,
                     c,
                     capacity,
                     BUDGET,
@@ -74,9 +92,15 @@ pub fn drive(
                     left_b,
                     right_b,
                     reversed,
+                    straight,
                     index_a,
                     index_b,
+                    groups,
                     work,
+                    book_a,
+                    book_b,
+                    count,
+                    sets,
                     c,
                     capacity,
                     BUDGET,

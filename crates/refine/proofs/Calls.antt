@@ -3,14 +3,15 @@
 --                        the columns of an admitted script hold as many numbers as there are matches, and they fit
 --     refining-met, read-refused, read-refined
 --                        the contract, by one equation, which holds of a refused script and of an admitted one
+--     straight-prefix, short-straight, many-straight     a column in which no match is reversed
 --     short-roomy, many-roomy   columns with room for the matches of a script of so many bytes, and of any
 -- Assumes nothing.
-use Prim.Native.Nat.{ℕ, _≤_, _<_}
-use mathlib.Core.Path.{_≡_, sym, ap, _∙_}
-use mathlib.Core.Bool.{Bool}
-use mathlib.Core.List.{List, map}
+use Prim.Native.Nat.{ℕ, zero, suc, _≤_, _<_}
+use mathlib.Core.Path.{_≡_, refl, sym, ap, _∙_}
+use mathlib.Core.Bool.{Bool, false}
+use mathlib.Core.List.{List, _∷_, map}
 use native.Mathlib.Omega.{arith}
-use lib.ListN.{length, take, length-take, length-map}
+use lib.ListN.{length, take, replicate, length-take, length-map, length-replicate}
 use Rattle.script.specs.Limits.{mostMatches}
 use Rattle.script.specs.Reading.{readScript, verdictOf}
 use Rattle.script.specs.Columns.{matchesRead, columnRead, ColumnsRead}
@@ -21,13 +22,18 @@ use Rattle.refining.specs.Columns.{FitRead, columnsRead}
 use Rattle.refining.specs.Refining.{heldIn, refiningOf}
 use Rattle.refining.specs.Demands.{answerOf, Demand1, Demand2, Demand3}
 use Rattle.refining_matches.specs.Tabling.{MatchesRefined}
-use Rattle.refine.specs.Calls.{ScriptRefined, Roomy, bytesOf}
+use Rattle.refine.specs.Calls.{ScriptRefined, Roomy, Straight, bytesOf}
 use Rattle.refining.specs.declared.answers.Refined.{Refined}
 use Rattle.script.proofs.Admitted.{Holds, holds-admitted, reading-refused, matches-few}
 use Rattle.script.proofs.Columns.{column-filled}
 use Rattle.refining.proofs.Numbered.{held-admitted, held-fit}
 use Rattle.refining.proofs.Demands.{refining-contract}
 use Rattle.refining.proofs.RefiningCases.{refining-refused, refining-admitted}
+
+take-replicate : (k n : ℕ) → k ≤ n → take k (replicate n false) ≡ replicate k false
+take-replicate zero n h = refl
+take-replicate (suc k) zero h = absurd (omega arith)
+take-replicate (suc k) (suc n) h = ap (λ (l : List Bool). false ∷ l) (take-replicate k n (omega arith))
 
 -- the columns of an admitted script, by the reader's stated result
 module _ (script : List ℕ) {told : Verdict} {p q count : ℕ} (e : told ≡ verdictOf (readScript script))
@@ -54,6 +60,16 @@ module _ (script : List ℕ) {told : Verdict} {p q count : ℕ} (e : told ≡ ve
   room-reaches : {n : ℕ} → length (matchesRead (readScript script)) ≤ n → count ≤ n
   room-reaches room = omega (arith, rw (held .read) at room, held .counted)
 
+  straight-reaches : {w : List Bool} → Straight script w → count ≤ length w
+  straight-reaches s = room-reaches (s .room)
+
+  pub straight-prefix : {w : List Bool} → Straight script w → count ≡ length (take count w)
+  straight-prefix {w} s = omega (arith, straight-reaches s, length-take count w)
+
+  straight-begins : {w : List Bool} → Straight script w → take count w ≡ replicate count false
+  straight-begins {w} s =
+      ap (take count) (s .none) ∙ take-replicate count (length w) (straight-reaches s)
+
   module _ {f g t u f′ t′ u′ : List ℕ} {r r′ : List Bool} (roomy : Roomy script f g t u r)
       (columns : ColumnsRead script f t u r f′ t′ u′ r′) where
     left-a-begins : take count f′ ≡ map (λ m. m .«left_a») (held .matches)
@@ -75,16 +91,21 @@ module _ (script : List ℕ) {told : Verdict} {p q count : ℕ} (e : told ≡ ve
 
     -- what the matches are read into fits, and there is room for the right ends
     pub columns-fit :
-        FitRead (take count f′) (take count t′) (take (length (take count f′)) u′) (take count r′)
+        {w : List Bool} → Straight script w
+        → FitRead (take count f′) (take count t′) (take (length (take count f′)) u′) (take count r′)
         × ((length (take count r′) < 4294967296)
-        × ((length (take count f′) ≤ length g) × (length (take count f′) ≤ length u′)))
-    columns-fit =
+        × ((take count w ≡ replicate (length (take count r′)) false)
+        × ((length (take count f′) ≤ length g) × (length (take count f′) ≤ length u′))))
+    columns-fit straight =
         let ways = prefix-length (λ m. m .reversed) r (columns .reversed) (roomy .reversed) in
         let letters = reaches (λ m. m .length) u (columns .letters) (roomy .right-b) in (
           held-fit held left-a-begins left-b-begins letters-begin reversed-begins,
           (
             omega (arith, ways, held .few),
-            (omega (arith, on-a, room-reaches (roomy .right-a)), omega (arith, on-a, letters)),
+            (
+              straight-begins straight ∙ ap (λ (n : ℕ). replicate n false) ways,
+              (omega (arith, on-a, room-reaches (roomy .right-a)), omega (arith, on-a, letters)),
+            ),
           ),
         )
 
@@ -139,3 +160,16 @@ pub many-roomy :
     {s f g t u : List ℕ} {r : List Bool} → length f ≡ mostMatches → length g ≡ mostMatches → length t ≡ mostMatches
     → length u ≡ mostMatches → length r ≡ mostMatches → Roomy s f g t u r
 many-roomy {s} = roomy-in mostMatches (matches-few s .1)
+
+-- the same of a column in which no match is reversed
+straight-in : (n : ℕ) {s : List ℕ} → length (matchesRead (readScript s)) ≤ n → Straight s (replicate n false)
+straight-in n few = record {
+  room = omega (arith, length-replicate n false);
+  none = ap (λ (k : ℕ). replicate k false) (sym (length-replicate n false));
+}
+
+pub short-straight : (n : ℕ) {s : List ℕ} → length s ≤ bytesOf n → Straight s (replicate n false)
+short-straight n {s} short = straight-in n (omega (arith, matches-few s))
+
+pub many-straight : {s : List ℕ} → Straight s (replicate mostMatches false)
+many-straight {s} = straight-in mostMatches (matches-few s .1)

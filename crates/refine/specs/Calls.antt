@@ -1,13 +1,14 @@
 -- What the inner functions of the refining call do.
 --     ScriptRefined      the whole call
 --     Roomy              columns with room for the matches of a script
+--     Straight           a column in which no match is reversed
 --     bytesOf n          the bytes of a script of n matches
 -- Assumes nothing.
 use Prim.Native.Nat.{ℕ, _+_, _*_, _≤_}
 use mathlib.Core.Path.{_≡_}
-use mathlib.Core.Bool.{Bool}
+use mathlib.Core.Bool.{Bool, false}
 use mathlib.Core.List.{List}
-use lib.ListN.{length}
+use lib.ListN.{length, replicate}
 use Rattle.script.specs.Commands.{lengthsWidth, matchWidth}
 use Rattle.script.specs.Reading.{readScript}
 use Rattle.script.specs.Columns.{matchesRead}
@@ -26,6 +27,11 @@ pub record Roomy (s f g t u : List ℕ) (r : List Bool) : Type 0 where
   pub left-b : length (matchesRead (readScript s)) ≤ length t
   pub right-b : length (matchesRead (readScript s)) ≤ length u
   pub reversed : length (matchesRead (readScript s)) ≤ length r
+
+-- a column for the matches of a script in which none is reversed
+pub record Straight (s : List ℕ) (w : List Bool) : Type 0 where
+  pub room : length (matchesRead (readScript s)) ≤ length w
+  pub none : w ≡ replicate (length w) false
 
 -- lengths, n matches, end
 abbrev pub bytesOf : ℕ → ℕ

@@ -10,7 +10,7 @@ ghost use mathlib.Core.Path.{_≡_};
 ghost use Prim.Native.Nat.{_≤_};
 ghost use lib.ListN.{length};
 ghost use Rattle.refining.specs.Refining.{refiningOf};
-ghost use Rattle.refine.specs.Calls.{Roomy, ScriptRefined, bytesOf};
+ghost use Rattle.refine.specs.Calls.{Roomy, Straight, ScriptRefined, bytesOf};
 ghost use Rattle.refining.specs.Demands.{answerOf, Demand1, Demand2, Demand3};
 
 // Columns of these lengths take scripts of few and of some matches: to make longer ones would be most of the work.
@@ -31,7 +31,7 @@ const SHORT_SCRIPT: usize = LENGTHS_WIDTH + MATCH_WIDTH * FEW_MATCHES + 1;
 const MEDIUM_SCRIPT: usize = LENGTHS_WIDTH + MATCH_WIDTH * SOME_MATCHES + 1;
 
 // Reads the script into columns that have room for its matches, and refines them. The lengths come into the column of
-// the right ends on B, and these in their place.
+// the right ends on B, and these in their place. `straight` is all false.
 fn refine_in(
     script: &[u8],
     left_a: &mut [u32],
@@ -39,6 +39,7 @@ fn refine_in(
     left_b: &mut [u32],
     right_b: &mut [u32],
     reversed: &mut [bool],
+    straight: &[bool],
     index_a: &mut [u32],
     index_b: &mut [u32],
     table: &mut [u32],
@@ -46,6 +47,7 @@ fn refine_in(
 ) -> Refined
     requires { ⌜
         Roomy (now script) (now «left_a») (now «right_a») (now «left_b») (now «right_b») (now reversed) ⌝ }
+    requires { ⌜ Straight (now script) (now straight) ⌝ }
     ensures { λ r. ⌜
         ScriptRefined (now (script .entry)) (now (table .entry)) (now (work .entry)) r (now (table .exit))
         (now (work .exit)) ⌝ }
@@ -58,6 +60,7 @@ fn refine_in(
             &left_b[..count],
             right_b,
             &reversed[..count],
+            &straight[..count],
             index_a,
             index_b,
             table,
@@ -78,6 +81,7 @@ fn refine_few(script: &[u8], table: &mut [u32], work: &mut [u32]) -> Refined
     let mut left_b = [0; FEW_MATCHES];
     let mut right_b = [0; FEW_MATCHES];
     let mut reversed = [false; FEW_MATCHES];
+    let straight = [false; FEW_MATCHES];
     let mut index_a = [0; FEW_INDEX];
     let mut index_b = [0; FEW_INDEX];
     refine_in(
@@ -87,6 +91,7 @@ fn refine_few(script: &[u8], table: &mut [u32], work: &mut [u32]) -> Refined
         &mut left_b[..],
         &mut right_b[..],
         &mut reversed[..],
+        &straight[..],
         &mut index_a[..],
         &mut index_b[..],
         table,
@@ -106,6 +111,7 @@ fn refine_some(script: &[u8], table: &mut [u32], work: &mut [u32]) -> Refined
     let mut left_b = [0; SOME_MATCHES];
     let mut right_b = [0; SOME_MATCHES];
     let mut reversed = [false; SOME_MATCHES];
+    let straight = [false; SOME_MATCHES];
     let mut index_a = [0; SOME_INDEX];
     let mut index_b = [0; SOME_INDEX];
     refine_in(
@@ -115,6 +121,7 @@ fn refine_some(script: &[u8], table: &mut [u32], work: &mut [u32]) -> Refined
         &mut left_b[..],
         &mut right_b[..],
         &mut reversed[..],
+        &straight[..],
         &mut index_a[..],
         &mut index_b[..],
         table,
@@ -133,6 +140,7 @@ fn refine_many(script: &[u8], table: &mut [u32], work: &mut [u32]) -> Refined
     let mut left_b = [0; MOST_MATCHES];
     let mut right_b = [0; MOST_MATCHES];
     let mut reversed = [false; MOST_MATCHES];
+    let straight = [false; MOST_MATCHES];
     let mut index_a = [0; MOST_INDEX];
     let mut index_b = [0; MOST_INDEX];
     refine_in(
@@ -142,6 +150,7 @@ fn refine_many(script: &[u8], table: &mut [u32], work: &mut [u32]) -> Refined
         &mut left_b[..],
         &mut right_b[..],
         &mut reversed[..],
+        &straight[..],
         &mut index_a[..],
         &mut index_b[..],
         table,

@@ -18,8 +18,8 @@ use Rattle.refining.specs.Columns.{Columns, countOf, fromAt, fromRightAt, Fit, 
 use Rattle.refining.proofs.RightEnds.{right-at}
 use Rattle.refining.specs.Refining.{heldIn, leastOf}
 use Rattle.refining.specs.Rows.{within, piecesCut}
-use Rattle.stepping.specs.Engine.{CutOn}
-use Rattle.stepping.proofs.Indexed.{matches-good}
+use Rattle.closing_two.specs.FirstEdition.{CutOn}
+use Rattle.closing_two.proofs.TwoTracks.{matches-good}
 
 -- The numbers that a match spans, by the test and by the decision.
 within-filter :

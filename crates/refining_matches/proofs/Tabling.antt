@@ -30,39 +30,38 @@ use Rattle.reading_cuts.specs.declared.Places.{Places}
 use Rattle.refining.specs.Columns.{Columns, columnsOf, columnsRead, countOf, fromAt, fromRightAt}
 use Rattle.refining.specs.Columns.{FitRead, RightEnds, Fit}
 use Rattle.refining.proofs.RightEnds.{rights-alone, read-fit, right-at}
-use Rattle.stepping.specs.Engine.{CutOn}
-use Rattle.driving.specs.AllCuts.{AllCuts, Closure}
+use Rattle.closing_two.specs.FirstEdition.{CutOn, AllCutsOfA, Closure}
 use Rattle.refining.specs.Rows.{piecesCut, pieceNumbers}
 use Rattle.refining.specs.Refining.{Given, heldIn, leastOf, capacityOf, workNeeded, zeroed}
 use Rattle.writing_rows.specs.Writing.{Writable, Written}
 use Rattle.refining_matches.specs.Tabling.{Tabled, MatchesRefined}
-use Rattle.driving.specs.declared.Closed.{Closed}
+use Rattle.closing_two.specs.declared.ClosedTwo.{ClosedTwo}
 use Rattle.refining.specs.declared.answers.Refined.{Refined}
-use Rattle.stepping.proofs.Indexed.{∈-matches, matches-good}
+use Rattle.closing_two.proofs.TwoTracks.{∈-matches, matches-good}
 use Rattle.carrying_match.proofs.RunLists.{slice-in, in-slice, slice-rising}
 use Rattle.refining_matches.proofs.RowsLeast.{rows-least}
 use Rattle.refining.proofs.RefiningCases.{exceeds-many, written-sets, matches-crowded, matches-written}
 
 -- what the closure's answer tells
 told-cuts :
-    {g : Given} {cap : ℕ} {ys : List ℕ} {answer : Closed} {s : CutSet} → Closure g cap ys answer
-    → answer ≡ Closed.CutsOfA s → AllCuts g cap ys s
+    {g : Given} {cap : ℕ} {ys : List ℕ} {answer : ClosedTwo} {s : CutSet} → Closure g cap ys answer
+    → answer ≡ ClosedTwo.CutsOfA s → AllCutsOfA g cap ys s
 told-cuts {g} {cap} {ys} h e = subst (Closure g cap ys) e h
 
 pub told-good :
-    (g : Given) (cap : ℕ) (ys : List ℕ) {answer : Closed} {s : CutSet} → answer ≡ Closed.CutsOfA s
+    (g : Given) (cap : ℕ) (ys : List ℕ) {answer : ClosedTwo} {s : CutSet} → answer ≡ ClosedTwo.CutsOfA s
     → Closure g cap ys answer → Good ys s
 told-good g cap ys e h = told-cuts h e .good
 
 pub crowded-tabled :
-    (g : Given) (table ys : List ℕ) {answer : Closed} → answer ≡ Closed.TooMany
+    (g : Given) (table ys : List ℕ) {answer : ClosedTwo} → answer ≡ ClosedTwo.TooMany
     → Closure g (capacityOf table) ys answer → Tabled g table table (Refined.Refused TooManyPieces)
 crowded-tabled g table ys e h = (refl, subst (Closure g (capacityOf table) ys) e h, refl)
 
 module _ {columns : Columns} (fit : Fit columns) (table : List ℕ) {xs ys : List ℕ} {s t : CutSet} {run : Places}
-    {answer : Closed} (told : answer ≡ Closed.CutsOfA s) (joined : Joined xs s ys t) (places : AllPlaces ys t run)
+    {answer : ClosedTwo} (told : answer ≡ ClosedTwo.CutsOfA s) (joined : Joined xs s ys t) (places : AllPlaces ys t run)
     (closed : Closure (heldIn columns) (capacityOf table) xs answer) where
-  cuts : AllCuts (heldIn columns) (capacityOf table) xs s
+  cuts : AllCutsOfA (heldIn columns) (capacityOf table) xs s
   cuts = told-cuts closed told
 
   -- a cut of A stands in the run

@@ -1,6 +1,6 @@
 // Refining the matches of a script that was read: their cuts, and from these the rows of the table.
-use closing::close;
-use driving::Closed;
+use closing_two::ClosedTwo;
+use closing_two::close_two;
 use refining::answers::Refined;
 use right_ends::work_out;
 use rows::ROW_WIDTH;
@@ -8,7 +8,8 @@ use script::Refusal;
 use writing_rows::write_rows;
 ghost use mathlib.Core.Path.{_≡_};
 ghost use Prim.Native.Nat.{_≤_, _<_};
-ghost use lib.ListN.{length, take};
+ghost use mathlib.Core.Bool.{false};
+ghost use lib.ListN.{length, replicate, take};
 ghost use Rattle.refining.specs.Columns.{FitRead, RightEnds, columnsOf, columnsRead, Fit};
 ghost use Rattle.refining.specs.Refining.{heldIn, workNeeded, zeroed};
 ghost use Rattle.refining_matches.specs.Tabling.{Tabled, MatchesRefined};
@@ -31,6 +32,7 @@ fn cut_and_write(
     left_b: &[u32],
     right_b: &[u32],
     reversed: &[bool],
+    straight: &[bool],
     index_a: &mut [u32],
     index_b: &mut [u32],
     table: &mut [u32],
@@ -39,6 +41,7 @@ fn cut_and_write(
     requires { ⌜ Fit (columnsOf (now «left_a») (now «right_a») (now «left_b») (now «right_b») (now reversed)) ⌝ }
     requires { ⌜ workNeeded (now table) ≤ length (now work) ⌝ }
     requires { ⌜ length (now reversed) < 4294967296 ⌝ }
+    requires { ⌜ now straight ≡ replicate (length (now reversed)) false ⌝ }
     ensures { λ r. ⌜
         Tabled
         (heldIn
@@ -46,19 +49,20 @@ fn cut_and_write(
         (now (reversed .entry))))
         (now (table .entry)) (now (table .exit)) r ⌝ }
 {
-    match close(
+    match close_two(
         left_a,
         right_a,
         left_b,
         right_b,
         reversed,
+        straight,
         index_a,
         index_b,
         work,
         table.len() / ROW_WIDTH,
     ) {
-        Closed::TooMany => Refined::Refused(Refusal::TooManyPieces),
-        Closed::CutsOfA(set) => {
+        ClosedTwo::TooMany => Refined::Refused(Refusal::TooManyPieces),
+        ClosedTwo::CutsOfA(set) => {
             let cuts = settling::join(work, set);
             let run = reading_cuts::all_places(work, cuts);
             Refined::Rows(write_rows(
@@ -83,6 +87,7 @@ fn refine_matches(
     left_b: &[u32],
     right_b: &[u32],
     reversed: &[bool],
+    straight: &[bool],
     index_a: &mut [u32],
     index_b: &mut [u32],
     table: &mut [u32],
@@ -90,6 +95,7 @@ fn refine_matches(
 ) -> Refined
     requires { ⌜ Fit (columnsOf (now «left_a») (now «right_a») (now «left_b») (now «right_b») (now reversed)) ⌝ }
     requires { ⌜ length (now reversed) < 4294967296 ⌝ }
+    requires { ⌜ now straight ≡ replicate (length (now reversed)) false ⌝ }
     ensures { λ r. ⌜
         MatchesRefined
         (heldIn
@@ -106,6 +112,7 @@ fn refine_matches(
         left_b,
         right_b,
         reversed,
+        straight,
         index_a,
         index_b,
         table,
@@ -123,6 +130,7 @@ pub fn refine_read(
     left_b: &[u32],
     right_b: &mut [u32],
     reversed: &[bool],
+    straight: &[bool],
     index_a: &mut [u32],
     index_b: &mut [u32],
     table: &mut [u32],
@@ -130,6 +138,7 @@ pub fn refine_read(
 ) -> Refined
     requires { ⌜ FitRead (now «left_a») (now «left_b») (take (length (now «left_a»)) (now «right_b»)) (now reversed) ⌝ }
     requires { ⌜ length (now reversed) < 4294967296 ⌝ }
+    requires { ⌜ now straight ≡ replicate (length (now reversed)) false ⌝ }
     requires { ⌜ length (now «left_a») ≤ length (now «right_a») ⌝ }
     requires { ⌜ length (now «left_a») ≤ length (now «right_b») ⌝ }
     ensures refined { λ r. ⌜
@@ -152,6 +161,7 @@ pub fn refine_read(
         left_b,
         &right_b[..left_a.len()],
         reversed,
+        straight,
         index_a,
         index_b,
         table,

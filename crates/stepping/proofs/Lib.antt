@@ -1,4 +1,1 @@
-pub mod Indexed
-pub mod Counting
-pub mod Members
-pub mod Stepping
+pub mod Sides

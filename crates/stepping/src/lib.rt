@@ -1,25 +1,25 @@
-// The A step and the B step, which call each other on the newly found cuts.
-use cut_set::CutSet;
-use turning::Turn;
-use turning::take_turn;
+// The A step and the B step, which call each other on the newly found cuts. Sides have sets of their own, one for each
+// track, so that a match of a track with itself carries from one set to another.
+use shelving::any_found;
+use taking::Step;
+use taking::take_step;
 ghost use Rattle.refinement.specs.declared.Side.{Side};
-ghost use Rattle.refining.specs.Columns.{columnsOf, Fit};
-ghost use Rattle.turning.specs.Turning.{Usable};
-ghost use Rattle.stepping.specs.Engine.{Open, Stepped};
+ghost use Rattle.refining.specs.Columns.{columnsOf};
+ghost use Rattle.stepping.specs.Steps.{Given, Opened, Goes};
 
-// The cuts of both sides, and the pairs of a carried cut and a match that spans it.
-pub struct Cuts {
-    pub a: CutSet,
-    pub b: CutSet,
-    pub hits_a: usize,
-    pub hits_b: usize,
+// The hits so far: pairs of a cut that was taken and a match that spans it, by the side that it was taken from.
+pub struct Counts {
+    pub over_a: usize,
+    pub over_b: usize,
+    pub along_a: usize,
+    pub along_b: usize,
 }
 
 // Nothing new is left; or the budget of calls is used up, and the step named is next; or no table lent has room.
 pub enum Closing {
-    Done(Cuts),
-    MoreA(Cuts),
-    MoreB(Cuts),
+    Done,
+    MoreA(Counts),
+    MoreB(Counts),
     TooMany,
 }
 
@@ -30,52 +30,68 @@ pub fn a_step(
     left_b: &[u32],
     right_b: &[u32],
     reversed: &[bool],
+    straight: &[bool],
     index_a: &[u32],
     index_b: &[u32],
+    groups: &[usize],
     work: &mut [u32],
-    cuts: Cuts,
+    book_a: &mut [usize],
+    book_b: &mut [usize],
+    count: usize,
+    sets: usize,
+    counts: Counts,
     capacity: usize,
     budget: u32,
 ) -> Closing
-    requires { ⌜ Fit (columnsOf (now «left_a») (now «right_a») (now «left_b») (now «right_b») (now reversed)) ⌝ }
     requires { ⌜
-        Open (columnsOf (now «left_a») (now «right_a») (now «left_b») (now «right_b») (now reversed)) capacity
-        (now work) cuts Side.A ⌝ }
-    requires { ⌜ Usable (now «index_a») (now «left_a») (now «right_a») ⌝ }
-    requires { ⌜ Usable (now «index_b») (now «left_b») (now «right_b») ⌝ }
+        Given (columnsOf (now «left_a») (now «right_a») (now «left_b») (now «right_b») (now reversed)) (now straight)
+        (now «index_a») (now «index_b») (now groups) count sets ⌝ }
+    requires { ⌜
+        Opened (columnsOf (now «left_a») (now «right_a») (now «left_b») (now «right_b») (now reversed)) (now groups)
+        count sets capacity (now work) (now «book_a») (now «book_b») counts Side.A ⌝ }
     ensures { λ r. ⌜
-        Stepped
+        Goes
         (columnsOf (now («left_a» .entry)) (now («right_a» .entry)) (now («left_b» .entry)) (now («right_b» .entry))
         (now (reversed .entry)))
-        capacity cuts (now (work .exit)) r ⌝ }
+        (now (groups .entry)) count sets capacity (now (work .entry)) (now («book_a» .entry)) (now («book_b» .entry))
+        counts Side.A (now (work .exit)) (now («book_a» .exit)) (now («book_b» .exit)) r ⌝ }
 {
-    let a = cuts.a;
-    let b = cuts.b;
-    let most = capacity + reversed.len();
-    match take_turn(
+    match take_step(
         left_a,
         right_a,
         left_b,
         right_b,
         reversed,
+        straight,
         index_a,
+        index_b,
+        groups,
+        book_a,
         work,
-        a,
-        b,
-        cuts.hits_a,
-        most,
+        book_b,
+        count,
+        1,
+        2,
+        sets,
+        0,
+        2 * capacity,
+        2 * capacity,
+        4 * capacity,
+        counts.over_a,
+        counts.along_a,
+        capacity + reversed.len(),
         false,
     ) {
-        Turn::TooMany => Closing::TooMany,
-        Turn::Carried { hits, from, to } => {
-            let next = Cuts {
-                a: from,
-                b: to,
-                hits_a: hits,
-                hits_b: cuts.hits_b,
+        Step::TooMany => Closing::TooMany,
+        Step::Taken { over, along } => {
+            let next = Counts {
+                over_a: over,
+                over_b: counts.over_b,
+                along_a: along,
+                along_b: counts.along_b,
             };
-            if reading_cuts::none_found(to) {
-                return Closing::Done(next);
+            if !any_found(book_b, sets) {
+                return Closing::Done;
             }
             if budget == 0 {
                 return Closing::MoreB(next);
@@ -86,9 +102,15 @@ pub fn a_step(
                 left_b,
                 right_b,
                 reversed,
+                straight,
                 index_a,
                 index_b,
+                groups,
                 work,
+                book_a,
+                book_b,
+                count,
+                sets,
                 next,
                 capacity,
                 budget - 1,
@@ -105,52 +127,68 @@ pub fn b_step(
     left_b: &[u32],
     right_b: &[u32],
     reversed: &[bool],
+    straight: &[bool],
     index_a: &[u32],
     index_b: &[u32],
+    groups: &[usize],
     work: &mut [u32],
-    cuts: Cuts,
+    book_a: &mut [usize],
+    book_b: &mut [usize],
+    count: usize,
+    sets: usize,
+    counts: Counts,
     capacity: usize,
     budget: u32,
 ) -> Closing
-    requires { ⌜ Fit (columnsOf (now «left_a») (now «right_a») (now «left_b») (now «right_b») (now reversed)) ⌝ }
     requires { ⌜
-        Open (columnsOf (now «left_a») (now «right_a») (now «left_b») (now «right_b») (now reversed)) capacity
-        (now work) cuts Side.B ⌝ }
-    requires { ⌜ Usable (now «index_a») (now «left_a») (now «right_a») ⌝ }
-    requires { ⌜ Usable (now «index_b») (now «left_b») (now «right_b») ⌝ }
+        Given (columnsOf (now «left_a») (now «right_a») (now «left_b») (now «right_b») (now reversed)) (now straight)
+        (now «index_a») (now «index_b») (now groups) count sets ⌝ }
+    requires { ⌜
+        Opened (columnsOf (now «left_a») (now «right_a») (now «left_b») (now «right_b») (now reversed)) (now groups)
+        count sets capacity (now work) (now «book_a») (now «book_b») counts Side.B ⌝ }
     ensures { λ r. ⌜
-        Stepped
+        Goes
         (columnsOf (now («left_a» .entry)) (now («right_a» .entry)) (now («left_b» .entry)) (now («right_b» .entry))
         (now (reversed .entry)))
-        capacity cuts (now (work .exit)) r ⌝ }
+        (now (groups .entry)) count sets capacity (now (work .entry)) (now («book_a» .entry)) (now («book_b» .entry))
+        counts Side.B (now (work .exit)) (now («book_a» .exit)) (now («book_b» .exit)) r ⌝ }
 {
-    let a = cuts.a;
-    let b = cuts.b;
-    let most = capacity + reversed.len();
-    match take_turn(
+    match take_step(
         left_b,
         right_b,
         left_a,
         right_a,
         reversed,
+        straight,
         index_b,
+        index_a,
+        groups,
+        book_b,
         work,
-        b,
-        a,
-        cuts.hits_b,
-        most,
+        book_a,
+        count,
+        2,
+        1,
+        sets,
+        2 * capacity,
+        4 * capacity,
+        0,
+        2 * capacity,
+        counts.over_b,
+        counts.along_b,
+        capacity + reversed.len(),
         true,
     ) {
-        Turn::TooMany => Closing::TooMany,
-        Turn::Carried { hits, from, to } => {
-            let next = Cuts {
-                a: to,
-                b: from,
-                hits_a: cuts.hits_a,
-                hits_b: hits,
+        Step::TooMany => Closing::TooMany,
+        Step::Taken { over, along } => {
+            let next = Counts {
+                over_a: counts.over_a,
+                over_b: over,
+                along_a: counts.along_a,
+                along_b: along,
             };
-            if reading_cuts::none_found(to) {
-                return Closing::Done(next);
+            if !any_found(book_a, sets) {
+                return Closing::Done;
             }
             if budget == 0 {
                 return Closing::MoreA(next);
@@ -161,9 +199,15 @@ pub fn b_step(
                 left_b,
                 right_b,
                 reversed,
+                straight,
                 index_a,
                 index_b,
+                groups,
                 work,
+                book_a,
+                book_b,
+                count,
+                sets,
                 next,
                 capacity,
                 budget - 1,

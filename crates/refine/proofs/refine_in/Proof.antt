@@ -1,6 +1,6 @@
 -- `refine_in` meets its contract: a refused script is refused; the columns of an admitted one begin with the fields of
 -- its matches, and `refine_read` does the rest. Assumes nothing.
-use Rattle.refine.proofs.Calls.{reaches, prefix-length, columns-fit, read-refused, read-refined}
+use Rattle.refine.proofs.Calls.{reaches, prefix-length, straight-prefix, columns-fit, read-refused, read-refined}
 use borrow.Author.Needs.{needs}
 use Rattle.refine.proofs.refine_in.Statement.{statement}
 use Rattle.refine.proofs.refine_in.Tie as tie
@@ -32,6 +32,9 @@ slice-reshare-prefix-refine-read-3 c = search (needs, reaches)
 slice-aggregate-refine-read-3 : tie.Need-slice-aggregate-refine-read-3
 slice-aggregate-refine-read-3 c = search (needs, prefix-length)
 
+slice-aggregate-refine-read-4 : tie.Need-slice-aggregate-refine-read-4
+slice-aggregate-refine-read-4 c = search (needs, straight-prefix)
+
 -- the start, from the place where the script is read
 start-of : tie.After-read-columns → tie.Start
 start-of read = search
@@ -43,7 +46,8 @@ refine-read-requires c κs =
     let read : tie.After-read-columns = search in
     let start = start-of read in
     let told = read .read-columns .ensures in
-    columns-fit (start .args .script .now) (told .0) (counted .count .given .1) (start .pre) (told .1 .0)
+    columns-fit (start .args .script .now) (told .0) (counted .count .given .1) (start .pre .0) (told .1 .0)
+    (start .pre .1)
 
 same-length : tie.Need-same-length
 same-length c = search needs
@@ -96,7 +100,7 @@ returns-2 c =
     let start = start-of read in
     let told = read .read-columns .ensures in
     let a = start .args in
-    read-refined (a .script .now) (told .0) (counted .count .given .1) (start .pre) (told .1 .0) (a .table .now)
+    read-refined (a .script .now) (told .0) (counted .count .given .1) (start .pre .0) (told .1 .0) (a .table .now)
     (a .work .now) (refined .refine-read .ensures .0)
 
 pub refine-in-spec : {M : Type 1} → statement M
@@ -112,6 +116,7 @@ refine-in-spec =
     slice-aggregate-refine-read-2
     slice-reshare-prefix-refine-read-3
     slice-aggregate-refine-read-3
+    slice-aggregate-refine-read-4
     refine-read-requires
     same-length
     same-length-2

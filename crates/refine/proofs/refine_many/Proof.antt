@@ -1,5 +1,5 @@
 -- `refine_many` meets its contract: its columns have room for the matches. Assumes nothing.
-use Rattle.refine.proofs.Calls.{many-roomy}
+use Rattle.refine.proofs.Calls.{many-roomy, many-straight}
 use borrow.Author.Needs.{needs}
 use Rattle.refine.proofs.refine_many.Statement.{statement}
 use Rattle.refine.proofs.refine_many.Tie as tie
@@ -25,8 +25,11 @@ slice-aggregate-refine-in-6 c = search needs
 slice-aggregate-refine-in-7 : tie.Need-slice-aggregate-refine-in-7
 slice-aggregate-refine-in-7 c = search needs
 
+slice-aggregate-refine-in-8 : tie.Need-slice-aggregate-refine-in-8
+slice-aggregate-refine-in-8 c = search needs
+
 refine-in-requires : tie.Need-refine-in-requires
-refine-in-requires c κs = search (needs, many-roomy)
+refine-in-requires c κs = (search (needs, many-roomy), search (needs, many-straight))
 
 same-length : tie.Need-same-length
 same-length c = search needs
@@ -48,6 +51,7 @@ refine-many-spec =
     slice-aggregate-refine-in-5
     slice-aggregate-refine-in-6
     slice-aggregate-refine-in-7
+    slice-aggregate-refine-in-8
     refine-in-requires
     same-length
     same-length-2

@@ -5,13 +5,14 @@ use borrow.Author.Needs.{needs}
 use Rattle.refining_matches.proofs.cut_and_write.Statement.{statement}
 use Rattle.refining_matches.proofs.cut_and_write.Tie as tie
 
-close-requires : tie.Need-close-requires
-close-requires c κs =
+close-two-requires : tie.Need-close-two-requires
+close-two-requires c κs =
     let start : tie.Start = search in
-    (start .pre .0, (search needs, search needs))
+    let few = start .pre .1 .1 in
+    (start .pre .0, (search needs, (search needs, few .1)))
 
 -- the place where the closure has answered, from where its set is named
-closed-of : tie.After-set → tie.After-close
+closed-of : tie.After-set → tie.After-close-two
 closed-of held = search
 
 enum-told : tie.Need-enum-told
@@ -27,7 +28,7 @@ all-places-requires : tie.Need-all-places-requires
 all-places-requires c κs = search needs
 
 -- the start, from the place where the closure has answered
-start-of : tie.After-close → tie.Start
+start-of : tie.After-close-two → tie.Start
 start-of closed = search
 
 write-rows-requires : tie.Need-write-rows-requires
@@ -41,7 +42,7 @@ write-rows-requires c κs =
     let fit = start .pre .0 in (
       fit,
       cuts-writable fit (start .args .table .now) (held .set .given .1) (joined .join .ensures)
-          (placed .all-places .ensures) (closed .close .ensures) (start .pre .1 .1),
+          (placed .all-places .ensures) (closed .close-two .ensures) (start .pre .1 .1 .0),
     )
 
 same-length : tie.Need-same-length
@@ -60,7 +61,7 @@ same-length-4 : tie.Need-same-length-4
 unfolding closed-of
 same-length-4 c =
     let held : tie.After-set = search in
-    closed-of held .close .kept .1 .1 .1 .1 .1 .0
+    closed-of held .close-two .kept .1 .1 .1 .1 .1 .1 .0
 
 same-length-5 : tie.Need-same-length-5
 same-length-5 c = search needs
@@ -81,13 +82,13 @@ returns-2 c =
     let closed = closed-of held in
     let start = start-of closed in
     rows-tabled (start .pre .0) (start .args .table .now) (held .set .given .1) (joined .join .ensures)
-    (placed .all-places .ensures) (closed .close .ensures) (written .write-rows .ensures)
+    (placed .all-places .ensures) (closed .close-two .ensures) (written .write-rows .ensures)
 
 pub cut-and-write-spec : {M : Type 1} → statement M
 cut-and-write-spec =
     tie.close
     (tie.spec
-    close-requires
+    close-two-requires
     enum-told
     enum-known-set
     join-requires

@@ -9,7 +9,7 @@ work-out-requires : tie.Need-work-out-requires
 work-out-requires c κs =
     let start : tie.Start = search in
     let pre = start .pre in
-    (pre .0 .on-a, (pre .0 .on-b, pre .1 .1))
+    (pre .0 .on-a, (pre .0 .on-b, pre .1 .1 .1))
 
 slice-reshare-prefix-refine-matches : tie.Need-slice-reshare-prefix-refine-matches
 slice-reshare-prefix-refine-matches c = search needs
@@ -30,7 +30,7 @@ refine-matches-requires c κs =
     let a = start .args in
     let ends = worked .work-out .ensures in
     let fit = worked-fit (a .left-a .now) (a .left-b .now) _ (a .reversed .now) (start .pre .0) (ends .0) (ends .1) in
-    (fit, start .pre .1 .0)
+    (fit, (start .pre .1 .0, start .pre .1 .1 .0))
 
 same-length : tie.Need-same-length
 same-length c = search needs
