@@ -1,6 +1,5 @@
 -- What the calls with which the closure begins ask, from what it is given.
 --     lent-a, lent-b       the groups of the matches on a side
---     naming-a, naming-b   the tracks of the groups have a set each
 --     flags, named-by      flags of the sets
 --     none-usable          no index is one that can be used
 --     no-hits              counts of zero
@@ -46,12 +45,6 @@ module _ {c : Columns} {gs ts ps : List ℕ} {g n : ℕ} (lent : Lent c gs ts ps
     at-from = omega arith;
     at-to = omega arith;
   }
-
-  pub naming-a : Naming gs g 1 n
-  naming-a = record { room = lent .groups .room; at-to = omega arith; named = lent .groups .on-a }
-
-  pub naming-b : Naming gs g 2 n
-  naming-b = record { room = lent .groups .room; at-to = omega arith; named = lent .groups .on-b }
 
 -- the flags of so many sets, of the 16 that are there
 pub flags : {sets : ℕ} → sets ≤ 16 → sets ≡ length (take sets (replicate 16 false))

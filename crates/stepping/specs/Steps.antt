@@ -17,7 +17,7 @@ use Rattle.refining.specs.Columns.{Columns, countOf, Fit}
 use Rattle.refining.specs.Refining.{leastOf}
 use Rattle.refining.specs.Demands.{EveryExceeds}
 use Rattle.shelf.specs.Shelf.{Shelf, Shelved}
-use Rattle.tracks.specs.Tracks.{Tracked, SideCut, givenIn, Kind, over, along}
+use Rattle.tracks.specs.Tracks.{Tracked, SideCut, givenIn, Kind}
 use Rattle.tracks.specs.Engine.{booksOf, Open, unused}
 use Rattle.tracks.specs.Groups.{Groups, grouped}
 use Rattle.carrying_lane.specs.Parts.{UsableParts}

@@ -6,7 +6,7 @@
 --     ∈-marks, marks-∈         a mark is the one at an index
 --     on-place                 a place on a side of the match at an index is a place of that match
 --     lane-side, lane-fit      the side whose stretches a lane goes by; its columns fit
---     lane-left, lane-right, lane-track, lane-spans     what they hold at an index
+--     lane-right, lane-spans   the right ends and the stretches of its matches
 --     over-carry, along-carry  where they take a number to
 --     over-image, along-image  and that they take one that the match spans
 -- Assumes nothing.
@@ -22,7 +22,7 @@ use lib.ListN.{length, length-map, getD, replicate, length-replicate}
 use Rattle.refinement.specs.declared.Side.{Side}
 use Rattle.refinement.specs.declared.Side.the-variants.{A, B}
 use Rattle.refinement.specs.Order.{_∈_, Rising}
-use Rattle.refinement.specs.Match.{Match, Place, other, left, right, place, Spans, carry, between, carryTo}
+use Rattle.refinement.specs.Match.{Match, Place, other, right, place, Spans, carry, between, carryTo}
 use Rattle.refinement.specs.Refinement.{Matches}
 use Rattle.refinement.proofs.Geometry.{ends-span, carry-ends, between-bounds}
 use Rattle.refinement.proofs.Lists.{rising-map}
@@ -144,12 +144,6 @@ module _ (t : Tracked) where
           to-right = λ k l. omega (arith, fit .from-right k (omega (arith, n)));
         }
 
-    pub lane-left : (w : Kind) (u : Side) (k : ℕ) → fromAt (lane w t u .columns) k ≡ left (matchIn t k) (lane-side w u)
-    lane-left over A k = refl
-    lane-left over B k = refl
-    lane-left along A k = refl
-    lane-left along B k = refl
-
     pub lane-right :
         (w : Kind) (u : Side) {k : ℕ} → k < matchCount t
         → fromRightAt (lane w t u .columns) k ≡ right (matchIn t k) (lane-side w u)
@@ -157,10 +151,6 @@ module _ (t : Tracked) where
     lane-right over B {k} l = fit .to-right k l
     lane-right along A {k} l = fit .to-right k l
     lane-right along B {k} l = fit .from-right k l
-
-    pub lane-track : (w : Kind) (u : Side) (k : ℕ) → lane w t u .from k ≡ t .tracks (lane-side w u) k
-    lane-track over u k = refl
-    lane-track along u k = refl
 
     pub lane-spans :
         (w : Kind) (u : Side) {k : ℕ} → k < matchCount t → (x : ℕ)

@@ -5,7 +5,8 @@ use borrow.Author.Tests.{not-true, not-false}
 use Rattle.refining.specs.Columns.{columnsOf}
 use Rattle.tracks.specs.Tracks.{marksOf}
 use Rattle.driving.proofs.Drives.{going-driving}
-use Rattle.beginning.proofs.Beginning.{naming-a, naming-b, sown-open, none-usable, no-hits, given-by}
+use Rattle.seeding.proofs.Wanting.{groups-naming}
+use Rattle.beginning.proofs.Beginning.{sown-open, none-usable, no-hits, given-by}
 use borrow.Author.Needs.{needs}
 use Rattle.beginning.proofs.begin.Statement.{statement}
 use Rattle.beginning.proofs.begin.Tie as tie
@@ -33,7 +34,7 @@ lay-side-requires : tie.Need-lay-side-requires
 lay-side-requires c κs =
     let start : tie.Start = search in
     let pre = start .pre in (
-      naming-a (pre .0),
+      groups-naming (pre .0 .groups) (omega arith) (omega arith),
       (
         record {
           book = pre .1 .1 .1 .1 .0;
@@ -60,7 +61,7 @@ lay-side-requires-2 : tie.Need-lay-side-requires-2
 lay-side-requires-2 c κs =
     let start : tie.Start = search in
     let pre = start .pre in (
-      naming-b (pre .0),
+      groups-naming (pre .0 .groups) (omega arith) (omega arith),
       (
         record {
           book = pre .1 .1 .1 .1 .1 .0;
