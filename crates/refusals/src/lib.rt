@@ -24,6 +24,8 @@ pub fn number_of(refusal: Refusal) -> u32
         Refusal::OffTheMatch => 14,
         Refusal::MalformedRecords(_) => 15,
         Refusal::BufferTooShort => 16,
+        Refusal::PriceTooHigh => 17,
+        Refusal::ChainTooShort => 18,
     }
 }
 
@@ -48,5 +50,7 @@ pub fn place_of(refusal: Refusal) -> usize
         Refusal::OffTheMatch => 0,
         Refusal::MalformedRecords(at) => at,
         Refusal::BufferTooShort => 0,
+        Refusal::PriceTooHigh => 0,
+        Refusal::ChainTooShort => 0,
     }
 }

@@ -16,6 +16,7 @@ use Rattle.script.specs.declared.refusal.Refusal.the-variants.{LengthOut
 use Rattle.script.specs.declared.refusal.Refusal.the-variants.{BeyondA, BeyondB, Tail, WorkTooShort}
 use Rattle.script.specs.declared.refusal.Refusal.the-variants.{TooManyPieces, NoSuchMatch, OffTheMatch}
 use Rattle.script.specs.declared.refusal.Refusal.the-variants.{MalformedRecords, BufferTooShort}
+use Rattle.script.specs.declared.refusal.Refusal.the-variants.{PriceTooHigh, ChainTooShort}
 
 -- the rows of 01's table, in its order
 abbrev refusalOf : ℕ → ℕ → Refusal
@@ -23,7 +24,7 @@ refusalOf number at =
     getD
     (Headless ∷ UnknownCommand at ∷ CutShort at ∷ SecondLengths at ∷ LengthOutOfRange ∷ TooManyMatches at
     ∷ EmptyMatch at ∷ BeyondA at ∷ BeyondB at ∷ Tail at ∷ WorkTooShort ∷ TooManyPieces ∷ NoSuchMatch ∷ OffTheMatch
-    ∷ MalformedRecords at ∷ BufferTooShort ∷ [])
+    ∷ MalformedRecords at ∷ BufferTooShort ∷ PriceTooHigh ∷ ChainTooShort ∷ [])
     (number - 1) Headless
 
 pub refusal-named : (r : Refusal) → refusalOf (numberOf r) (placeOf r) ≡ r
@@ -43,6 +44,8 @@ refusal-named NoSuchMatch = refl
 refusal-named OffTheMatch = refl
 refusal-named (MalformedRecords at) = refl
 refusal-named BufferTooShort = refl
+refusal-named PriceTooHigh = refl
+refusal-named ChainTooShort = refl
 
 pub answer-inj : (x y : Reading) → readingAnswer x ≡ readingAnswer y → x ≡ y
 answer-inj (admitted p q ms) (admitted p′ q′ ms′) e = cc

@@ -1,7 +1,7 @@
 -- The number and place of each refusal. TO READ: contracts mean what stands here.
 --     numberOf r     the number in 01's table, or that a request gives it
 --     placeOf r      the place returned beside it
--- 01, "Refused scripts and calls"; 02, #101. Assumes nothing.
+-- 01, "Refused scripts and calls"; 02, #101 and #104. Assumes nothing.
 use Prim.Native.Nat.{ℕ}
 use Rattle.script.specs.declared.refusal.Refusal.{Refusal}
 use Rattle.script.specs.declared.refusal.Refusal.the-variants.{Headless, UnknownCommand, CutShort, SecondLengths}
@@ -9,6 +9,7 @@ use Rattle.script.specs.declared.refusal.Refusal.the-variants.{LengthOut
 use Rattle.script.specs.declared.refusal.Refusal.the-variants.{BeyondA, BeyondB, Tail, WorkTooShort}
 use Rattle.script.specs.declared.refusal.Refusal.the-variants.{TooManyPieces, NoSuchMatch, OffTheMatch}
 use Rattle.script.specs.declared.refusal.Refusal.the-variants.{MalformedRecords, BufferTooShort}
+use Rattle.script.specs.declared.refusal.Refusal.the-variants.{PriceTooHigh, ChainTooShort}
 
 -- SCOPE, "Refusals": the rows of the table, in its order
 abbrev pub numberOf : Refusal → ℕ
@@ -28,6 +29,8 @@ numberOf NoSuchMatch = 13
 numberOf OffTheMatch = 14
 numberOf (MalformedRecords at) = 15
 numberOf BufferTooShort = 16
+numberOf PriceTooHigh = 17
+numberOf ChainTooShort = 18
 
 -- SCOPE, "Place": up to 9 where the command stands, or the end of the bytes if they ran out where one was due; for 10
 -- the first byte too many; from 11 on 0. 1 and 5 are met at the first command only, which stands at 0.
@@ -49,3 +52,5 @@ placeOf NoSuchMatch = 0
 placeOf OffTheMatch = 0
 placeOf (MalformedRecords at) = at
 placeOf BufferTooShort = 0
+placeOf PriceTooHigh = 0
+placeOf ChainTooShort = 0

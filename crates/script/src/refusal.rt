@@ -17,4 +17,6 @@ pub enum Refusal {
     OffTheMatch,
     MalformedRecords(usize),
     BufferTooShort,
+    PriceTooHigh,
+    ChainTooShort,
 }
