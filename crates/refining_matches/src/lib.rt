@@ -1,4 +1,5 @@
 // Refining the matches of a script that was read: their cuts, and from these the rows of the table.
+use clearing::clear;
 use closing_two::ClosedTwo;
 use closing_two::close_two;
 use refining::answers::Refined;
@@ -13,17 +14,6 @@ ghost use lib.ListN.{length, replicate, take};
 ghost use Rattle.refining.specs.Columns.{FitRead, RightEnds, columnsOf, columnsRead, Fit};
 ghost use Rattle.refining.specs.Refining.{heldIn, workNeeded, zeroed};
 ghost use Rattle.refining_matches.specs.Tabling.{Tabled, MatchesRefined};
-
-// Sets every number of the work buffer to zero, those past what refining needs too.
-fn clear(work: &mut [u32])
-    ensures { λ _. ⌜ now (work .exit) ≡ zeroed (now (work .entry)) ⌝ }
-{
-    let mut k = 0;
-    while k < work.len() {
-        work[k] = 0;
-        k += 1;
-    }
-}
 
 // Finds the cuts and writes the rows, if the table has room for them. The table is not touched before that is known.
 fn cut_and_write(

@@ -7,8 +7,8 @@ use lib.ListN.{length, drop, set, replicate, length-set}
 use lib.Seq.{drop-length}
 use borrow.Author.Fill.{fill-none, fill-more}
 use borrow.Author.Needs.{needs}
-use Rattle.refining_matches.proofs.clear.Statement.{statement}
-use Rattle.refining_matches.proofs.clear.Tie as tie
+use Rattle.clearing.proofs.clear.Statement.{statement}
+use Rattle.clearing.proofs.clear.Tie as tie
 
 abbrev Inv-loop : tie.InvT-loop
 Inv-loop work₀ k₀ work k =
