@@ -1,4 +1,6 @@
 -- Refining as `refiningOfMatches` and `refiningOf` define it meets demands 1, 2 and 3.
+--     script-twelve, refusal-value  a script's own refusal is not 12, and a refusal is no value
+--     kept                          what a refusal other than 12 leaves
 --     matches-demand1, matches-demand2, matches-demand3
 --                                   of any reply and buffers that equal what `refiningOfMatches` says
 --     demand1, demand2, demand3     and what `refiningOf` says
@@ -46,7 +48,7 @@ script-number (Outcome.beyond-a _ _ _ _ _) = omega arith
 script-number (Outcome.beyond-b _ _ _ _ _ _) = omega arith
 script-number (Outcome.tail _ _ _) = omega arith
 
-script-twelve : {script : List ℕ} {number place : ℕ} → Outcome script (refusal number place) → number ≢ 12
+pub script-twelve : {script : List ℕ} {number place : ℕ} → Outcome script (refusal number place) → number ≢ 12
 script-twelve o e = omega (arith, script-number o)
 
 refused-admitted :
@@ -54,7 +56,7 @@ refused-admitted :
     → Admitted script g → ⊥
 refused-admitted o (reads o′) = let z : _≡_ {A = ℕ} 0 1 = cc (outcome-alone o, outcome-alone o′) in omega arith
 
-refusal-value : {n number place : ℕ} → _≡_ {A = Answer ℕ} (refusal number place) (value n) → ⊥
+pub refusal-value : {X : Type 0} {x : X} {number place : ℕ} → _≡_ {A = Answer X} (refusal number place) (value x) → ⊥
 refusal-value e = let z : _≡_ {A = ℕ} 0 1 = cc in omega arith
 
 -- ---- matches, case by case
@@ -69,7 +71,7 @@ written-stand rs table n e =
     }
 
 -- a refusal that leaves all as it was
-kept : {table work : List ℕ} {number place : ℕ} → number ≢ 12 → Leaves table work (refusal number place) table work
+pub kept : {table work : List ℕ} {number place : ℕ} → number ≢ 12 → Leaves table work (refusal number place) table work
 kept {number = number} other =
     record {
       refused-table = λ _ _ _. refl;

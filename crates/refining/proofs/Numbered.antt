@@ -2,12 +2,14 @@
 --     admitted-of        a script that is read as admitted is Admitted
 --     admitted-unique    its matches are no others
 --     admitted-matches   each has a letter, and their numbers rise
+--     admitted-fits      their ends fit 32 bits
 --     numbered-range     numbers from n on, as many as there are matches
+--     getD-∈             what a list holds at an index below its length is a member
 --     columns-numbered   columns of their fields hold them
 --     columns-fit        and are FitRead
 --     held-admitted, held-fit     both laws, by what the reader's reply tells of the matches
 -- Assumes nothing.
-use Prim.Native.Nat.{ℕ, zero, suc, _+_, _≤_, _<_}
+use Prim.Native.Nat.{ℕ, zero, suc, _+_, _^_, _≤_, _<_}
 use mathlib.Core.Path.{_≡_, refl, sym, ap, ap₂, _∙_}
 use mathlib.Core.Bool.{Bool, false}
 use mathlib.Core.Logic.{⊎-elim}
@@ -18,10 +20,12 @@ use lib.ListN.{length, getD, length-map, List·getD-map}
 use Rattle.script.specs.Reading.{admitted, readScript}
 use Rattle.script.specs.Outcomes.{InRange, Within, Outcome}
 use Rattle.script.specs.declared.command.Match.{Match as ScriptMatch}
-use Rattle.script.proofs.Outcome.{reach-within, read-outcome, outcome-admitted}
+use Rattle.script.proofs.Outcome.{reach-within, reach-range, read-outcome, outcome-admitted}
 use Rattle.script.proofs.Admitted.{Holds}
 use Rattle.refinement.specs.Order.{_∈_, Rising}
-use Rattle.refinement.specs.Match.{Match}
+use Rattle.refinement.specs.declared.Side.{Side}
+use Rattle.refinement.specs.declared.Side.the-variants.{A, B}
+use Rattle.refinement.specs.Match.{Match, right}
 use Rattle.refinement.specs.Refinement.{Matches}
 use Rattle.refining.specs.Columns.{FitRead, columnsRead, lettersAt, upFrom, matchAt, matchesOf}
 use Rattle.refining.specs.Refining.{withNumber, numbered, Given, givenBy, heldIn}
@@ -49,6 +53,16 @@ numbered-lettered n (x ∷ ms) h i =
     ⊎-elim (λ e. omega (arith, ap (λ (z : Match). z .length) e, h x (here refl)))
     (λ j. numbered-lettered (suc n) ms (λ y k. h y (there k)) j) (List·Memᴰ·cases-cons i)
 
+-- the number of a match is no matter for its ends
+numbered-fits :
+    {m : Match} (n : ℕ) (ms : List ScriptMatch)
+    → ((x : ScriptMatch) → x ∈ ms → (s : Side) → right (withNumber n x) s < 2 ^ 32) → m ∈ numbered n ms → (s : Side)
+    → right m s < 2 ^ 32
+numbered-fits n [] fits i s = absurd (List·Memᴰ·not-nil i)
+numbered-fits n (x ∷ ms) fits i s =
+    ⊎-elim (λ e. rw e (fits x (here refl) s)) (λ j. numbered-fits (suc n) ms (λ y k. fits y (there k)) j s)
+    (List·Memᴰ·cases-cons i)
+
 -- ---- admitted scripts
 
 module _ {script : List ℕ} where
@@ -68,6 +82,13 @@ module _ {script : List ℕ} where
         numbered = numbered-rises 1 ms;
       }
 
+  pub admitted-fits : {g : Given} {m : Match} → Admitted script g → m ∈ g .matches → (s : Side) → right m s < 2 ^ 32
+  admitted-fits (reads {ms = ms} (Outcome.is-admitted r b e)) i s = numbered-fits 1 ms fits i s
+    where
+      fits : (x : ScriptMatch) → x ∈ ms → (s : Side) → right (withNumber 1 x) s < 2 ^ 32
+      fits x k A = omega (arith, reach-within r k, reach-range r .0 .few)
+      fits x k B = omega (arith, reach-within r k, reach-range r .1 .few)
+
 -- ---- columns
 
 blank : ScriptMatch
@@ -84,7 +105,7 @@ numbered-map f n (m ∷ ms) h =
     ap₂ _∷_ (h 0 n (omega arith) (omega arith))
     (numbered-map f (suc n) ms (λ k i e below. h (suc k) i (omega arith) (omega arith)))
 
-getD-∈ : {X : Type 0} (xs : List X) (k : ℕ) (d : X) → k < length xs → getD xs k d ∈ xs
+pub getD-∈ : {X : Type 0} (xs : List X) (k : ℕ) (d : X) → k < length xs → getD xs k d ∈ xs
 getD-∈ [] k d h = absurd (omega arith)
 getD-∈ (x ∷ xs) zero d h = here refl
 getD-∈ (x ∷ xs) (suc k) d h = there (getD-∈ xs k d (omega arith))

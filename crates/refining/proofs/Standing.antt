@@ -1,6 +1,8 @@
 -- The numbers of a table name its rows: no two refinements of a script stand in the same numbers, so that the rows of
 -- demand 2 and those of demand 3 are the same.
 --     length-numbers   as many numbers for each piece as a row has
+--     BetweenAB        a match between A and B
+--     rows-ab          the rows of a script's refinement are such
 --     stand-unique     the refinement that stands at the start of a table
 -- Assumes nothing.
 use Prim.Native.Nat.{ℕ, suc, _*_}
@@ -29,9 +31,9 @@ pub length-numbers : (rs : List Match) → length (pieceNumbers rs) ≡ rowWidth
 length-numbers rs = omega (arith, numbers-length (map rowOfPiece rs), length-map rs rowOfPiece)
 
 -- a match, or a piece of one, between A and B
-record BetweenAB (m : Match) : Type 0 where
-  on-a : m .trackA ≡ 0
-  on-b : m .trackB ≡ 1
+pub record BetweenAB (m : Match) : Type 0 where
+  pub on-a : m .trackA ≡ 0
+  pub on-b : m .trackB ≡ 1
 
 numbered-ab : {m : Match} (n : ℕ) (ms : List ScriptMatch) → m ∈ numbered n ms → BetweenAB m
 numbered-ab n [] i = absurd (List·Memᴰ·not-nil i)
@@ -42,7 +44,7 @@ numbered-ab n (x ∷ ms) i =
 admitted-ab : {script : List ℕ} {g : Given} {m : Match} → Admitted script g → m ∈ g .matches → BetweenAB m
 admitted-ab (reads {ms = xs} o) i = numbered-ab 1 xs i
 
-rows-ab :
+pub rows-ab :
     {script : List ℕ} {g : Given} {rs : List Match} → Admitted script g → Refines (g .matches) rs → (r : Match) → r ∈ rs
     → BetweenAB r
 rows-ab a R r i =

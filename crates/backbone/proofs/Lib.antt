@@ -1,0 +1,12 @@
+pub mod Places
+pub mod Signed
+pub mod Earlier
+pub mod Chains
+pub mod Every
+pub mod Better
+pub mod Backbones
+pub mod WrongCalls
+pub mod Lines
+pub mod LeastRows
+pub mod Cases
+pub mod Demands

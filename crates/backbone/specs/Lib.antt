@@ -1,0 +1,4 @@
+pub mod Chains
+pub mod Backbone
+pub mod Chaining
+pub mod Demands

@@ -1,0 +1,4 @@
+pub mod Chains
+pub mod Best
+pub mod Backbones
+pub mod Apart
