@@ -1,0 +1,5 @@
+pub mod Beginning
+pub mod Finding
+pub mod Linking
+pub mod Ordering
+pub mod Parts

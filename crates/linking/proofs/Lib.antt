@@ -1,0 +1,11 @@
+pub mod Members
+pub mod Following
+pub mod Stepping
+pub mod Trails
+pub mod Parts
+pub mod Beginning
+pub mod Next
+pub mod Linked
+pub mod Putting
+pub mod Costs
+pub mod Finding
