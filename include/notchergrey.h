@@ -10,14 +10,15 @@
  * - Each must be aligned as its type is: to 4 bytes for uint32_t, to 8 for size_t and uint64_t. Bytes may lie anywhere.
  * - What a function writes to may hold anything before the call, and may not overlap with anything else that the same
  *   call is lent. What a comment does not name is kept: on success `place` keeps its value, on a refusal everything but
- *   `place` does, with two exceptions: see notchergrey_refine and notchergrey_report.
+ *   `place` does, with three exceptions: see notchergrey_refine, notchergrey_chain and notchergrey_report.
  * - `place` becomes the offset in the script of the command that is refused, the script's length if bytes ran out where
  *   a command was due, the first extra byte for NOTCHERGREY_TAIL, and 0 for the refusals from 11 on. notchergrey_write
  *   is lent no script to read: there it becomes the record that is refused, counted from 1, or 0 if none is at fault.
  * - A thread with a stack of 512 kB may call any of them, and one with 256 kB any but notchergrey_report. Measured on
  *   x86-64, whatever the input: notchergrey_report takes at most 275 kB, notchergrey_summary 170 kB, notchergrey_refine
- *   110 kB, the others next to nothing. With less the program ends with a segmentation fault: each page of the stack is
- *   touched in turn, so that the page that guards its end is met and nothing behind it is overwritten.
+ *   and notchergrey_chain 110 kB, the others next to nothing. With less the program ends with a segmentation fault: each
+ *   page of the stack is touched in turn, so that the page that guards its end is met and nothing behind it is
+ *   overwritten.
  *
  * A script is bytes, which notchergrey_write makes of a list of matches. Its numbers have four bytes, least byte first:
  *   4C p q                   the letter counts of sequences A and B, 1 to 1,000,000,000 each; first command, once
@@ -53,7 +54,9 @@ enum notchergrey_refusal {
     NOTCHERGREY_NO_SUCH_MATCH = 13,       /* the match number is 0 or above the count of matches */
     NOTCHERGREY_OFF_THE_MATCH = 14,       /* the position is outside the match on its side */
     NOTCHERGREY_MALFORMED_RECORDS = 15,   /* the numbers are no multiple of four, or a direction is above 1 */
-    NOTCHERGREY_BUFFER_TOO_SHORT = 16     /* the script, the records or the text do not fit into their buffer */
+    NOTCHERGREY_BUFFER_TOO_SHORT = 16,    /* the script, the records or the text do not fit into their buffer */
+    NOTCHERGREY_PRICE_TOO_HIGH = 17,      /* the gap price is above 1,000 */
+    NOTCHERGREY_CHAIN_TOO_SHORT = 18      /* the chain or score buffer has no number for each row of the table */
 };
 
 /* A row of a table: match number, left-A, left-B, length, direction (0 direct, 1 reversed). */
@@ -67,6 +70,8 @@ enum notchergrey_refusal {
 /* The bytes of a script without matches, and those that each match adds. */
 #define NOTCHERGREY_SHORTEST_SCRIPT 10
 #define NOTCHERGREY_MATCH_BYTES 13
+/* No gap price is higher. */
+#define NOTCHERGREY_MOST_PRICE 1000
 /* No script and no list has more matches. */
 #define NOTCHERGREY_MOST_MATCHES 2048
 /* No longer script is admitted, and the first 26,635 bytes of a longer one decide how it is refused. */
@@ -114,6 +119,21 @@ uint32_t notchergrey_read_records(const uint8_t *script, size_t script_len, uint
  */
 uint32_t notchergrey_refine(const uint8_t *script, size_t script_len, uint32_t *table, size_t table_len,
                             uint32_t *work, size_t work_len, size_t *place, size_t *rows);
+
+/*
+ * Finds the backbone of a script: the best run of direct pieces that are in the same order on both genomes. A piece may
+ * follow another if its left end is at or past the other's right end, on A and on B. The score of such a chain is the
+ * sum of its lengths, less `price` times the letters skipped on A and on B between neighbours. No chain scores more;
+ * among equals it is the one whose list of row numbers comes first. The table has room for table_len / 5 rows; work
+ * needs four numbers for each of them, chain and scores one. Returns 0, leaves table and work as notchergrey_refine
+ * does, writes the row numbers, from 1, to the start of chain, and sets `score`, `rows` to the count of the table's rows
+ * and `length` to that of the chain's; the numbers behind the chain are kept, and all of scores is zero. With no direct
+ * piece score and length are 0. Refuses with 1 to 10, 11, 17, 18 or 12, in this order. On 12 all of work and of scores
+ * is zero, and the table and the chain are kept.
+ */
+uint32_t notchergrey_chain(const uint8_t *script, size_t script_len, uint32_t price, uint32_t *table, size_t table_len,
+                           uint32_t *work, size_t work_len, uint32_t *chain, size_t chain_len, uint32_t *scores,
+                           size_t scores_len, size_t *place, uint64_t *score, size_t *rows, size_t *length);
 
 /*
  * Carries a position of A, between letters and counted from 0, to B over one match, by its number from 1; both ends of

@@ -60,6 +60,24 @@ extern "C" {
         rows: *mut usize,
     ) -> u32;
 
+    pub fn notchergrey_chain(
+        script: *const u8,
+        script_len: usize,
+        price: u32,
+        table: *mut u32,
+        table_len: usize,
+        work: *mut u32,
+        work_len: usize,
+        chain: *mut u32,
+        chain_len: usize,
+        scores: *mut u32,
+        scores_len: usize,
+        place: *mut usize,
+        score: *mut u64,
+        rows: *mut usize,
+        length: *mut usize,
+    ) -> u32;
+
     pub fn notchergrey_carry_from_a(
         script: *const u8,
         script_len: usize,

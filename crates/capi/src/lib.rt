@@ -1,6 +1,7 @@
 // Doors for C and Rust: plain functions over the library, prefix notchergrey_. Each returns 0 or the refusal's number
 // and hands the rest out through pointers. Like a call of the library, a refused one alters no lent number but `place`.
 // The doors on tables refuse nothing.
+use backbone::Chained;
 use commands::bit;
 use match_rows::span_of;
 use reader::find::find_match;
@@ -21,7 +22,8 @@ use table::CLASSES;
 ghost use mathlib.Core.Path.{_≡_};
 ghost use Rattle.doors.specs.Doors.{readDoor, matchDoor, refineDoor, carryDoor, carryFromA, carryFromB};
 ghost use Rattle.doors.specs.Doors.{rowsDoor, summaryDoor, reportDoor};
-ghost use Rattle.doors.specs.Doors.{writeDoor, recordsDoor};
+ghost use Rattle.doors.specs.Doors.{writeDoor, recordsDoor, chainDoor};
+ghost use Rattle.backbone.specs.Chaining.{chainingOf};
 ghost use Rattle.records.specs.Listing.{listingOf};
 ghost use Rattle.records.specs.Writing.{writingOf};
 ghost use Rattle.refining.specs.Refining.{refiningOf};
@@ -200,6 +202,65 @@ pub extern "C" fn notchergrey_refine(
             0
         }
         Refined::Refused(refusal) => {
+            *place = place_of(refusal);
+            number_of(refusal)
+        }
+    }
+}
+
+// Finds the backbone of a script; `score`, `rows` and `length` become its score, the count of the table's rows and the
+// count of its row numbers, which stand from the chain buffer's start.
+#[no_mangle]
+pub extern "C" fn notchergrey_chain(
+    script: &[u8],
+    price: u32,
+    table: &mut [u32],
+    work: &mut [u32],
+    chain: &mut [u32],
+    scores: &mut [u32],
+    place: &mut usize,
+    score: &mut u64,
+    rows: &mut usize,
+    length: &mut usize,
+) -> u32
+    ensures { λ r. ⌜
+        record {
+          number = r;
+          place = now (place .exit);
+          given = record { score = now (score .exit); rows = now (rows .exit); length = now (length .exit) };
+        }
+        ≡ chainDoor (now (script .entry)) price (now (table .entry)) (now (work .entry)) (now (chain .entry))
+        (now (scores .entry)) (now (place .entry))
+        (record { score = now (score .entry); rows = now (rows .entry); length = now (length .entry) }) ⌝ }
+    ensures { λ _. ⌜
+        now (table .exit)
+        ≡ chainingOf (now (script .entry)) price (now (table .entry)) (now (work .entry)) (now (chain .entry))
+        (now (scores .entry)) .table ⌝ }
+    ensures { λ _. ⌜
+        now (work .exit)
+        ≡ chainingOf (now (script .entry)) price (now (table .entry)) (now (work .entry)) (now (chain .entry))
+        (now (scores .entry)) .work ⌝ }
+    ensures { λ _. ⌜
+        now (chain .exit)
+        ≡ chainingOf (now (script .entry)) price (now (table .entry)) (now (work .entry)) (now (chain .entry))
+        (now (scores .entry)) .chain ⌝ }
+    ensures { λ _. ⌜
+        now (scores .exit)
+        ≡ chainingOf (now (script .entry)) price (now (table .entry)) (now (work .entry)) (now (chain .entry))
+        (now (scores .entry)) .scores ⌝ }
+{
+    match chain::chain(script, price, table, work, chain, scores) {
+        Chained::Best {
+            score: best,
+            rows: n,
+            length: count,
+        } => {
+            *score = best;
+            *rows = n;
+            *length = count;
+            0
+        }
+        Chained::Refused(refusal) => {
             *place = place_of(refusal);
             number_of(refusal)
         }

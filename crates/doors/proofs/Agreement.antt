@@ -4,7 +4,8 @@
 --     Hears            this is heard, and the rest is as it was
 --     number-some      no refusal has the number 0
 --     success-heard, refusal-heard of what the doors on scripts share
---     read-heard, write-heard, records-heard, match-heard, refine-heard, carry-heard     of each of these doors
+--     read-heard, write-heard, records-heard, match-heard, refine-heard, chain-heard, carry-heard
+--                                  of each of these doors
 --     rows-heard, summary-heard    of the doors on tables
 --     report-heard                 of the door for the text
 -- That carrying from one side undoes carrying from the other: proofs/Carrying. Assumes nothing.
@@ -33,12 +34,14 @@ use Rattle.refining.specs.Carrying.{carryingOf}
 use Rattle.refining.specs.declared.answers.Refined.{Refined}
 use Rattle.refining.specs.declared.answers.Carried.{Carried}
 use Rattle.reporting.specs.Reporting.{reportOf, reportingOfText, reportingOf}
+use Rattle.backbone.specs.Chaining.{chainingOf}
+use Rattle.backbone.specs.declared.Chained.{Chained}
 use Rattle.table.specs.Finding.{sizeOf, partOf}
 use Rattle.table.specs.Summing.{summaryOf}
 use Rattle.doors.specs.Doors.{Reply, gives, refuses, door, Read, ofReading, readDoor, OneMatch, ofFinding}
 use Rattle.doors.specs.Doors.{matchDoor, ofRefined, refineDoor, ofCarried, carryDoor, carryFromA, carryFromB}
 use Rattle.doors.specs.Doors.{rowsDoor, summaryDoor, ReportReply, ofReported, reportDoor}
-use Rattle.doors.specs.Doors.{ofWritten, writeDoor, ofListed, recordsDoor}
+use Rattle.doors.specs.Doors.{ofWritten, writeDoor, ofListed, recordsDoor, OneChain, ofChained, chainDoor}
 
 -- ---- what the doors on scripts share
 
@@ -82,6 +85,8 @@ number-some Refusal.NoSuchMatch = omega arith
 number-some Refusal.OffTheMatch = omega arith
 number-some (Refusal.MalformedRecords at) = omega arith
 number-some Refusal.BufferTooShort = omega arith
+number-some Refusal.PriceTooHigh = omega arith
+number-some Refusal.ChainTooShort = omega arith
 
 some-heard : {X : Type 0} (n place : ℕ) (x : X) → 1 ≤ n → heardBy n place x ≡ failure n place
 some-heard zero place x h = absurd (omega arith)
@@ -168,6 +173,20 @@ refine-heard script table work place was = go (refiningOf script table work .rep
     go : (a : Refined) → Hears place was (refinedHeard a) (door (ofRefined a) place was)
     go (Refined.Rows n) = success-heard place was _
     go (Refined.Refused r) = refusal-heard place was r
+
+-- the score, the count of rows and the chain's length
+abbrev chainedHeard : Chained → Heard OneChain
+chainedHeard (Chained.Best s n l) = success (record { score = s; rows = n; length = l })
+chainedHeard (Chained.Refused r) = refusalHeard r
+
+chain-heard : (script : List ℕ) (price : ℕ) (table work chain scores : List ℕ) (place : ℕ) (was : OneChain)
+    → Hears place was (chainedHeard (chainingOf script price table work chain scores .reply))
+    (chainDoor script price table work chain scores place was)
+chain-heard script price table work chain scores place was = go (chainingOf script price table work chain scores .reply)
+  where
+    go : (a : Chained) → Hears place was (chainedHeard a) (door (ofChained a) place was)
+    go (Chained.Best s n l) = success-heard place was _
+    go (Chained.Refused r) = refusal-heard place was r
 
 -- the carried position
 abbrev carriedHeard : Carried → Heard ℕ

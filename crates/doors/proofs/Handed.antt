@@ -3,6 +3,7 @@
 --     write-given, write-refused, records-given, records-refused     the doors for lists
 --     match-refused                             the door for one match
 --     refine-given, refine-refused              the door for refining
+--     chain-given, chain-refused                the door for the backbone
 --     carry-given, carry-refused                the doors for carrying
 --     report-printed, report-short              the door for the text
 -- Assumes nothing.
@@ -26,8 +27,10 @@ use Rattle.refining.specs.Refining.{refiningOf}
 use Rattle.refining.specs.Carrying.{carryingOf}
 use Rattle.refining.specs.declared.answers.Refined.{Refined}
 use Rattle.refining.specs.declared.answers.Carried.{Carried}
+use Rattle.backbone.specs.Chaining.{chainingOf}
+use Rattle.backbone.specs.declared.Chained.{Chained}
 use Rattle.doors.specs.Doors.{Reply, Read, OneMatch, readDoor, matchDoor, refineDoor, carryDoor, reportDoor}
-use Rattle.doors.specs.Doors.{ReportReply, writeDoor, recordsDoor}
+use Rattle.doors.specs.Doors.{ReportReply, writeDoor, recordsDoor, OneChain, chainDoor}
 use Rattle.reporting.specs.Reporting.{reportingOf}
 use Rattle.reporting.specs.declared.Reported.{Reported}
 
@@ -89,6 +92,20 @@ module _ (script table work : List ℕ) (was-place was : ℕ) {reply : Refined}
       → _≡_ {A = Reply ℕ} (record { number = number; place = place; given = was })
       (refineDoor script table work was-place was)
   refine-refused e n p = rw (sym replies ∙ e, n, p)
+
+module _ (script : List ℕ) (price : ℕ) (table work chain scores : List ℕ) (was-place : ℕ) (was : OneChain)
+    {reply : Chained} (replies : reply ≡ chainingOf script price table work chain scores .reply) where
+  pub chain-given : {score rows length : ℕ} → reply ≡ Chained.Best score rows length
+      → _≡_ {A = Reply OneChain}
+      (record { number = 0; place = was-place; given = record { score = score; rows = rows; length = length } })
+      (chainDoor script price table work chain scores was-place was)
+  chain-given e = rw (sym replies ∙ e)
+
+  pub chain-refused : {f : Refusal} {number place : ℕ} → reply ≡ Chained.Refused f → number ≡ numberOf f
+      → place ≡ placeOf f
+      → _≡_ {A = Reply OneChain} (record { number = number; place = place; given = was })
+      (chainDoor script price table work chain scores was-place was)
+  chain-refused e n p = rw (sym replies ∙ e, n, p)
 
 module _ (side : Side) (script : List ℕ) (index position was-place was : ℕ) {reply : Carried}
     (replies : reply ≡ carryingOf script index side position) where

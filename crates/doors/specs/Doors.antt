@@ -3,6 +3,7 @@
 --     Said X           what a call of the library says, whatever its kind: something to hand out, or a refusal
 --     door             what a door makes of it
 --     readDoor, matchDoor, refineDoor, carryFromA, carryFromB     the doors on scripts
+--     chainDoor        the door for the backbone
 --     writeDoor, recordsDoor     the doors for lists
 --     rowsDoor, summaryDoor     the doors on tables, which refuse nothing
 --     reportDoor       the door for the text
@@ -29,6 +30,8 @@ use Rattle.refining.specs.declared.answers.Refined.{Refined}
 use Rattle.refining.specs.declared.answers.Carried.{Carried}
 use Rattle.reporting.specs.Reporting.{reportingOf}
 use Rattle.reporting.specs.declared.Reported.{Reported}
+use Rattle.backbone.specs.Chaining.{chainingOf}
+use Rattle.backbone.specs.declared.Chained.{Chained}
 use Rattle.table.specs.Finding.{spanOf}
 use Rattle.table.specs.Summing.{summaryOf}
 use Rattle.table.specs.declared.finding.Span.{Span}
@@ -120,6 +123,24 @@ ofRefined (Refined.Refused r) = refuses r
 -- notchergrey_refine; what the lent table and work buffer hold after it is the library's `refiningOf`
 abbrev pub refineDoor : List ℕ → List ℕ → List ℕ → ℕ → ℕ → Reply ℕ
 refineDoor script table work place was = door (ofRefined (refiningOf script table work .reply)) place was
+
+-- ---- the backbone
+
+-- behind score, rows and length
+pub record OneChain : Type 0 where
+  pub score : ℕ
+  pub rows : ℕ
+  pub length : ℕ
+
+-- SCOPE, "Chained": the score, the count of rows and the chain's length
+abbrev pub ofChained : Chained → Said OneChain
+ofChained (Chained.Best score rows length) = gives (record { score = score; rows = rows; length = length })
+ofChained (Chained.Refused r) = refuses r
+
+-- notchergrey_chain; what the four lent buffers hold after it is the library's `chainingOf`
+abbrev pub chainDoor : List ℕ → ℕ → List ℕ → List ℕ → List ℕ → List ℕ → ℕ → OneChain → Reply OneChain
+chainDoor script price table work chain scores place was =
+    door (ofChained (chainingOf script price table work chain scores .reply)) place was
 
 -- ---- carrying
 

@@ -17,6 +17,10 @@ use Rattle.table.specs.Summing.{total, classesFrom}
 use Rattle.table.specs.Finding.{leading}
 use Rattle.refining.specs.Refining.{refiningOfMatches, refiningOf}
 use Rattle.refining.specs.Carrying.{carryingOf}
+use Rattle.backbone.specs.Chains.{lettersIn, skippedIn, scoreOf}
+use Rattle.backbone.specs.Backbone.{directFrom, followersOf, chainsFrom, chainsOf, betters, bestOf, backboneOf}
+use Rattle.backbone.specs.Backbone.{pointsOf}
+use Rattle.backbone.specs.Chaining.{chainingOfMatches, chainingOf}
 use Rattle.text.specs.Decimal.{placesWithin}
 use Rattle.reporting.specs.Lines.{rowLines, classLines}
 use Rattle.reporting.specs.Reporting.{reportOf}
@@ -29,5 +33,6 @@ unfolding readFrom readScript insertBy sortBy flatMap Dec·and decLe decLt ℕ-d
     Least.ends Least.spanning Least.images Least.spannedMarks Least.addNew Least.grow Least.spanCount
     Least.leastCuts Least.cutsWithin Least.pieceOf Least.piecesBetween Least.piecesOf Least.tableFrom
     Least.leastTable total classesFrom lettersFrom placesWithin rowLines classLines reportOf
-    carryingOf leading recordsOf bytesOf judgedFrom
+    carryingOf leading recordsOf bytesOf judgedFrom lettersIn skippedIn scoreOf directFrom followersOf chainsFrom
+    chainsOf betters bestOf backboneOf pointsOf chainingOfMatches chainingOf
 lines-hold = refl

@@ -2,6 +2,7 @@
 --     Outcome           all that is there after a call
 --     Line              what the definitions say, beside what must come
 --     refines, reads, refuses, finds, findsNone, carriesA, carriesB     calls on a script, through the doors
+--     chains, chainsNone     calls for the backbone, through the door
 --     writes, writesNone, lists, listsNone     calls on lists, through the doors
 --     marks, sums       calls on a table, through the doors
 --     covers            the letters covered, in a table that refining made
@@ -18,15 +19,17 @@ use Rattle.records.specs.Listing.{listingOf}
 use Rattle.table.specs.Summing.{summaryOf}
 use Rattle.refining.specs.Refining.{refiningOf}
 use Rattle.refining.specs.declared.answers.Refined.{Refined}
+use Rattle.backbone.specs.Chaining.{chainingOf}
 use Rattle.reporting.specs.Reporting.{reportOf, reportingOf}
-use Rattle.doors.specs.Doors.{Reply, Read, OneMatch, RowsReply, SummaryReply, ReportReply, readDoor, matchDoor}
-use Rattle.doors.specs.Doors.{refineDoor, carryFromA, carryFromB, rowsDoor, summaryDoor, reportDoor}
-use Rattle.doors.specs.Doors.{writeDoor, recordsDoor}
+use Rattle.doors.specs.Doors.{Reply, Read, OneMatch, OneChain, RowsReply, SummaryReply, ReportReply}
+use Rattle.doors.specs.Doors.{readDoor, matchDoor, refineDoor, chainDoor, carryFromA, carryFromB}
+use Rattle.doors.specs.Doors.{writeDoor, recordsDoor, rowsDoor, summaryDoor, reportDoor}
 
 -- the number returned and all that stands behind the pointers and in the lent buffers after the call; of refining also
 -- the distinct pieces of the rows it counts
 pub data Outcome : Type 0 where
   refined : Reply ℕ → (distinct : ℕ) (table work : List ℕ) → Outcome
+  chained : Reply OneChain → (table work chain scores : List ℕ) → Outcome
   read : Reply Read → Outcome
   found : Reply OneMatch → Outcome
   carried : Reply ℕ → Outcome
@@ -144,6 +147,50 @@ carriesA script which position x =
 abbrev pub carriesB : List ℕ → ℕ → ℕ → Reply ℕ → Line
 carriesB script which position x =
     record { comes = carried (carryFromB script which position old old); leaves = carried x }
+
+-- ---- the backbone
+
+-- a script, a gap price, and the numbers lent in each buffer
+pub record Chaining : Type 0 where
+  pub script : List ℕ
+  pub price : ℕ
+  pub table : ℕ
+  pub work : ℕ
+  pub chain : ℕ
+  pub scores : ℕ
+
+abbrev oldChain : OneChain
+oldChain = record { score = old; rows = old; length = old }
+
+abbrev chainsTo : Chaining → Outcome → Line
+chainsTo l leaves =
+    let table = replicate (l .table) old in
+    let work = replicate (l .work) old in
+    let chain = replicate (l .chain) old in
+    let scores = replicate (l .scores) old in
+    let x = chainingOf (l .script) (l .price) table work chain scores in
+    record {
+      comes =
+          chained (chainDoor (l .script) (l .price) table work chain scores old oldChain) (x .table) (x .work)
+          (x .chain) (x .scores);
+      leaves = leaves;
+    }
+
+-- the table's rows, the score, and the row numbers at the chain buffer's start
+abbrev pub chains : Chaining → List (List ℕ) → ℕ → List ℕ → Line
+chains l rows score ks =
+    chainsTo l
+    (chained (gives (record { score = score; rows = length rows; length = length ks }))
+    (flat rows ++ replicate (l .table - length (flat rows)) old) (replicate (l .work) 0)
+    (ks ++ replicate (l .chain - length ks) old) (replicate (l .scores) 0))
+
+-- the refusal's number and place; 12 alone alters a buffer: work and scores
+abbrev pub chainsNone : Chaining → ℕ → ℕ → Line
+chainsNone l number place =
+    let left = cond (eqb number 12) 0 old in
+    chainsTo l
+    (chained (keeps oldChain number place) (replicate (l .table) old) (replicate (l .work) left)
+    (replicate (l .chain) old) (replicate (l .scores) left))
 
 -- ---- lists
 

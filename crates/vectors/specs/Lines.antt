@@ -1,6 +1,6 @@
 -- 01's lines marked M as one table, and with them lines for what 01 says with numbers but does not mark: each refusal's
 -- number and place, the order of a number's bytes, the limits, which classes are printed, where a position is carried,
--- and for lists what 02 says of them.
+-- and for lists and the backbone what 02 says of them.
 -- TO READ beside 01, "Small scripts at the edges", "Refused scripts and calls" and "One run, complete". All bytes are
 -- written out: the table says by itself in which order a number's bytes stand and how a number is printed.
 --     lines               the table; `specs/Kinds` has the kinds of lines
@@ -11,7 +11,7 @@ use mathlib.Core.List.{List, [], _∷_, _++_}
 use lib.ListN.{replicate}
 use Rattle.vectors.specs.Kinds.{Line, Expected, refused, pieces, flat, refines, reads, refuses, finds, findsNone}
 use Rattle.vectors.specs.Kinds.{to, stays, carriesA, carriesB, marks, sums, covers, prints, hands}
-use Rattle.vectors.specs.Kinds.{writes, writesNone, lists, listsNone}
+use Rattle.vectors.specs.Kinds.{chains, chainsNone, writes, writesNone, lists, listsNone}
 
 -- ---- scripts
 
@@ -72,10 +72,9 @@ pairs = lengths 30 40 ++ direct 3 11 6 ++ backward 12 20 5 ++ end
 abbrev run : List ℕ
 run = lengths 10 10 ++ direct 0 0 6 ++ backward 2 3 5 ++ end
 
-abbrev runPieces : Expected
-runPieces =
-    pieces
-    ((1 ∷ 0 ∷ 0 ∷ 2 ∷ 0 ∷ [])
+abbrev runRows : List (List ℕ)
+runRows =
+    (1 ∷ 0 ∷ 0 ∷ 2 ∷ 0 ∷ [])
     ∷ (1 ∷ 2 ∷ 2 ∷ 1 ∷ 0 ∷ [])
     ∷ (1 ∷ 3 ∷ 3 ∷ 1 ∷ 0 ∷ [])
     ∷ (1 ∷ 4 ∷ 4 ∷ 2 ∷ 0 ∷ [])
@@ -83,8 +82,10 @@ runPieces =
     ∷ (2 ∷ 3 ∷ 6 ∷ 1 ∷ 1 ∷ [])
     ∷ (2 ∷ 4 ∷ 4 ∷ 2 ∷ 1 ∷ [])
     ∷ (2 ∷ 6 ∷ 3 ∷ 1 ∷ 1 ∷ [])
-    ∷ [])
-    7
+    ∷ []
+
+abbrev runPieces : Expected
+runPieces = pieces runRows 7
 
 -- the text of the run above, letter by letter
 abbrev runText : List ℕ
@@ -142,6 +143,19 @@ apartText =
     -- class 2 2
     ∷ (99 ∷ 108 ∷ 97 ∷ 115 ∷ 115 ∷ 32 ∷ 50 ∷ 32 ∷ 50 ∷ 10 ∷ [])
     ∷ [])
+
+-- two ways of two pieces each to a fifth piece, and the rows of the table
+abbrev ways : List ℕ
+ways = lengths 30 30 ++ direct 0 6 2 ++ direct 6 0 2 ++ direct 9 3 2 ++ direct 3 9 2 ++ direct 20 20 2 ++ end
+
+abbrev waysRows : List (List ℕ)
+waysRows =
+    (1 ∷ 0 ∷ 6 ∷ 2 ∷ 0 ∷ [])
+    ∷ (2 ∷ 6 ∷ 0 ∷ 2 ∷ 0 ∷ [])
+    ∷ (3 ∷ 9 ∷ 3 ∷ 2 ∷ 0 ∷ [])
+    ∷ (4 ∷ 3 ∷ 9 ∷ 2 ∷ 0 ∷ [])
+    ∷ (5 ∷ 20 ∷ 20 ∷ 2 ∷ 0 ∷ [])
+    ∷ []
 
 -- direct 1 0 10, and its line, refused 8 9
 abbrev beyond : List ℕ
@@ -326,6 +340,80 @@ lines =
     ∷ carriesB pairs 3 99 (stays 13 0)
     ∷ carriesA (lengths 10 10 ++ direct 0 0 6) 2 99 (stays 3 22)
     ∷ carriesB [] 0 99 (stays 1 0)
+    -- the backbone of the run above at the lowest and the highest gap price, in buffers of the least length: 6
+    ∷ chains (record { script = run; price = 0; table = 40; work = 32; chain = 8; scores = 8 })
+    runRows 6 (1 ∷ 2 ∷ 3 ∷ 4 ∷ [])
+    ∷ chains (record { script = run; price = 1000; table = 40; work = 32; chain = 8; scores = 8 })
+    runRows 6 (1 ∷ 2 ∷ 3 ∷ 4 ∷ [])
+    -- of equals the lower row number first; longer buffers
+    ∷ chains (record { script = ways; price = 0; table = 28; work = 22; chain = 7; scores = 6 })
+    waysRows 6 (1 ∷ 4 ∷ 5 ∷ [])
+    ∷ chains (record { script = ways; price = 1; table = 28; work = 22; chain = 6; scores = 7 })
+    waysRows 2 (1 ∷ [])
+    -- a link of exactly 0 isn't taken
+    ∷ chains
+    (record {
+      script = lengths 20 20 ++ direct 0 0 3 ++ direct 4 5 3 ++ end;
+      price = 1;
+      table = 10;
+      work = 8;
+      chain = 2;
+      scores = 2;
+    })
+    ((1 ∷ 0 ∷ 0 ∷ 3 ∷ 0 ∷ []) ∷ (2 ∷ 4 ∷ 5 ∷ 3 ∷ 0 ∷ []) ∷ []) 3 (1 ∷ [])
+    -- row numbers may fall
+    ∷ chains
+    (record {
+      script = lengths 20 20 ++ direct 10 10 3 ++ direct 0 0 3 ++ end;
+      price = 0;
+      table = 10;
+      work = 8;
+      chain = 2;
+      scores = 2;
+    })
+    ((1 ∷ 10 ∷ 10 ∷ 3 ∷ 0 ∷ []) ∷ (2 ∷ 0 ∷ 0 ∷ 3 ∷ 0 ∷ []) ∷ []) 6 (2 ∷ 1 ∷ [])
+    -- .. and of equals the lower number first behind the first one too
+    ∷ chains
+    (record {
+      script = lengths 40 40 ++ direct 0 0 2 ++ direct 20 20 2 ++ direct 4 10 3 ++ direct 10 4 3 ++ end;
+      price = 0;
+      table = 20;
+      work = 16;
+      chain = 4;
+      scores = 4;
+    })
+    ((1 ∷ 0 ∷ 0 ∷ 2 ∷ 0 ∷ [])
+    ∷ (2 ∷ 20 ∷ 20 ∷ 2 ∷ 0 ∷ [])
+    ∷ (3 ∷ 4 ∷ 10 ∷ 3 ∷ 0 ∷ [])
+    ∷ (4 ∷ 10 ∷ 4 ∷ 3 ∷ 0 ∷ [])
+    ∷ [])
+    7 (1 ∷ 3 ∷ 2 ∷ [])
+    -- reversed matches alone, and none at all: an empty chain
+    ∷ chains
+    (record {
+      script = lengths 10 10 ++ backward 0 0 3 ++ backward 4 4 3 ++ end;
+      price = 0;
+      table = 10;
+      work = 8;
+      chain = 2;
+      scores = 2;
+    })
+    ((1 ∷ 0 ∷ 0 ∷ 3 ∷ 1 ∷ []) ∷ (2 ∷ 4 ∷ 4 ∷ 3 ∷ 1 ∷ []) ∷ []) 0 []
+    ∷ chains (record { script = lengths 1 1 ++ end; price = 0; table = 4; work = 0; chain = 0; scores = 0 }) [] 0 []
+    -- two faults or more at once: the order is script, 11, 17, 18, 12
+    ∷ chainsNone
+    (record { script = lengths 10 10 ++ direct 0 0 6; price = 1001; table = 40; work = 31; chain = 7; scores = 7 })
+    3 22
+    ∷ chainsNone (record { script = run; price = 1001; table = 40; work = 31; chain = 8; scores = 8 }) 11 0
+    ∷ chainsNone (record { script = run; price = 1001; table = 40; work = 32; chain = 7; scores = 8 }) 17 0
+    ∷ chainsNone (record { script = run; price = 1001; table = 39; work = 28; chain = 7; scores = 7 }) 17 0
+    ∷ chainsNone (record { script = run; price = 1000; table = 39; work = 28; chain = 6; scores = 7 }) 18 0
+    ∷ chainsNone (record { script = run; price = 1000; table = 39; work = 28; chain = 7; scores = 6 }) 18 0
+    -- 18 by the capacity of 9, though the 8 rows have a number each
+    ∷ chainsNone (record { script = run; price = 0; table = 45; work = 36; chain = 8; scores = 9 }) 18 0
+    ∷ chainsNone (record { script = run; price = 0; table = 45; work = 36; chain = 9; scores = 8 }) 18 0
+    -- 12 last of all, with a number for each row of the capacity: work and scores are zero, table and chain kept
+    ∷ chainsNone (record { script = run; price = 1000; table = 39; work = 28; chain = 7; scores = 7 }) 12 0
     -- a list as a script: the bytes behind it are kept; one byte too few gives 16 at 0 and alters none
     ∷ writes 10 10 runRecords 36 run
     ∷ writes 10 10 runRecords 39 run
