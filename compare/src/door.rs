@@ -4,9 +4,9 @@
 
 use crate::slow::carrying::Side;
 use notchergrey_sys::{
-    notchergrey_carry_from_a, notchergrey_carry_from_b, notchergrey_match, notchergrey_read,
-    notchergrey_read_records, notchergrey_refine, notchergrey_report, notchergrey_rows_of,
-    notchergrey_summary, notchergrey_write,
+    notchergrey_carry_from_a, notchergrey_carry_from_b, notchergrey_chain, notchergrey_match,
+    notchergrey_read, notchergrey_read_records, notchergrey_refine, notchergrey_report,
+    notchergrey_rows_of, notchergrey_summary, notchergrey_write,
 };
 use std::ptr;
 
@@ -41,6 +41,15 @@ pub struct Writing {
 pub struct Refining {
     pub place: usize,
     pub rows: usize,
+}
+
+/// The numbers lent to the door that finds the backbone, beside the four buffers.
+#[derive(Clone, Copy, Debug, PartialEq, Eq)]
+pub struct Chaining {
+    pub place: usize,
+    pub score: u64,
+    pub rows: usize,
+    pub length: usize,
 }
 
 /// The numbers lent to the doors that carry.
@@ -140,6 +149,36 @@ pub fn refine(script: &[u8], table: &mut [u32], work: &mut [u32], lent: &mut Ref
             work.len(),
             &mut lent.place,
             &mut lent.rows,
+        )
+    }
+}
+
+pub fn chain(
+    script: &[u8],
+    price: u32,
+    table: &mut [u32],
+    work: &mut [u32],
+    chain: &mut [u32],
+    scores: &mut [u32],
+    lent: &mut Chaining,
+) -> u32 {
+    unsafe {
+        notchergrey_chain(
+            start_of(script),
+            script.len(),
+            price,
+            start_of_lent(table),
+            table.len(),
+            start_of_lent(work),
+            work.len(),
+            start_of_lent(chain),
+            chain.len(),
+            start_of_lent(scores),
+            scores.len(),
+            &mut lent.place,
+            &mut lent.score,
+            &mut lent.rows,
+            &mut lent.length,
         )
     }
 }

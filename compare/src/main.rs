@@ -62,6 +62,8 @@ fn all_parts(options: &Options) -> Result<usize, String> {
     calls += one_part(&calls::refine::PART, options)?;
     calls += one_part(&calls::refine::PART_OF_ALL_LENGTHS, options)?;
     calls += one_part(&calls::refine_long::PART, options)?;
+    calls += one_part(&calls::chain::PART, options)?;
+    calls += one_part(&calls::chain::PART_OF_ALL_LENGTHS, options)?;
     calls += one_part(&calls::carry::PART, options)?;
     calls += one_part(&calls::rows_of::PART, options)?;
     calls += one_part(&calls::summary::PART, options)?;

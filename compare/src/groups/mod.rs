@@ -1,5 +1,6 @@
 //! The inputs of the differential run, in groups.
 
+mod chains;
 mod changed;
 mod edges;
 mod faults;
@@ -121,6 +122,17 @@ pub const FEW_ROWS: Groups<u8> = &[
     group("the lines of 01", edges::lines_of_01),
     group("a few tiny scripts", tiny::a_few),
 ];
+
+pub const CHAINS_ONCE: Groups<u8> = &[group("the lines of 104", chains::lines_of_104)];
+
+pub const CHAINS: Groups<u8> = &[
+    group("direct pieces in few letters", chains::few_letters),
+    group("equally long matches on a grid", chains::on_a_grid),
+    group("links that hardly gain anything", chains::hardly_worth_it),
+    group("15 to 60 matches", chains::many_pieces),
+];
+
+pub const CHAINS_OF_FEW_ROWS: Groups<u8> = &[group("up to three matches", chains::a_few)];
 
 pub const LARGE: Groups<u8> = &[
     group("zigzags of up to 3,000 rows", large::zigzags),

@@ -3,6 +3,7 @@
 //! a misreading of a paper would have to be made twice to pass unseen.
 
 pub mod carrying;
+pub mod chaining;
 pub mod covers;
 pub mod records;
 pub mod refinement;

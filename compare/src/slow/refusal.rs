@@ -22,6 +22,8 @@ pub enum Word {
     OffTheMatch = 14,
     MalformedRecords = 15,
     BufferTooShort = 16,
+    PriceTooHigh = 17,
+    ChainTooShort = 18,
 }
 
 /// "A refusal returns its number and a place."
