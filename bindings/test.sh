@@ -2,8 +2,8 @@
 # Holds the header, the Rust wrapper and the example programs to the library and to the slow program, which needs the
 # archive that `rt staticlib capi` writes. Its last line is 'bindings: N runs, 0 differences', and its exit status 0,
 # only if the header compiles without a warning, the declarations for Rust agree with it, every constant of the header
-# is provoked and is what it says, all tests of the wrapper pass, every table that is printed is the slow program's,
-# lists and scripts turn into each other and back, and each wrong list is refused in its line.
+# is provoked and is what it says, all tests of the wrapper pass, every table and every backbone that is printed is the
+# slow program's, lists and scripts turn into each other and back, and each wrong list is refused in its line.
 set -euo pipefail
 
 # What the caller's environment says must not change what is tested: only what the tools need to be found is kept.
@@ -21,10 +21,12 @@ warnings=(-Wall -Wextra -pedantic -Werror)
 offline=(--quiet --release --locked --offline)
 wrapper=("${offline[@]}" --manifest-path bindings/rust/Cargo.toml --target-dir bindings/rust/target)
 
-# None of these may become fewer unseen: the header's constants, the wrapper's tests, the examples.
-least_constants=24
-least_tests=50
+# None of these may become fewer unseen: the header's constants, the wrapper's tests, the examples, those of them with a
+# backbone beside them.
+least_constants=27
+least_tests=62
 least_examples=22
+least_backbones=5
 
 runs=0
 fail() { # WHAT
@@ -91,8 +93,10 @@ runs=$((runs + 2))
 
 echo 'bindings: the example programs'
 cc -std=c99 -O2 "${warnings[@]}" -Iinclude examples/c/print_table.c "$archive" -o "$scratch/in_c"
-cargo build "${wrapper[@]}" --example print_table --example list
+cc -std=c99 -O2 "${warnings[@]}" -Iinclude examples/c/chain.c "$archive" -o "$scratch/chain_in_c"
+cargo build "${wrapper[@]}" --example print_table --example list --example chain
 cp bindings/rust/target/release/examples/print_table "$scratch/in_rust"
+cp bindings/rust/target/release/examples/chain "$scratch/chain_in_rust"
 cp bindings/rust/target/release/examples/list "$scratch/list"
 cargo build "${offline[@]}" --manifest-path compare/Cargo.toml --target-dir compare/target --bin slow
 
@@ -132,15 +136,20 @@ turns() { # WANTED WAY [FILE]
     runs=$((runs + 1))
 }
 
-# Runs it where it must end with this status, write nothing, and begin what it says with these words.
-refuses() { # STATUS WORDS WAY [FILE]
+# Runs a program where it must end with this status, write nothing, and begin what it says with these words.
+refused_by() { # PROGRAM STATUS WORDS [WORD..]
     local status=0
-    "$scratch/list" "${@:3}" > "$scratch/got" 2> "$scratch/said" || status=$?
-    if [ "$status" -ne "$1" ] || [ -s "$scratch/got" ] || [[ $(cat "$scratch/said") != "$2"* ]]; then
+    "$scratch/$1" "${@:4}" > "$scratch/got" 2> "$scratch/said" || status=$?
+    if [ "$status" -ne "$2" ] || [ -s "$scratch/got" ] || [[ $(cat "$scratch/said") != "$3"* ]]; then
         cat "$scratch/said"
-        fail "list ${*:3} must write nothing, end with $1 and say '$2', and it ended with $status"
+        fail "$1 ${*:4} must write nothing, end with $2 and say '$3', and it ended with $status"
     fi
     runs=$((runs + 1))
+}
+
+# The program for lists.
+refuses() { # STATUS WORDS WAY [FILE]
+    refused_by list "$@"
 }
 
 # Writes a list, in which a tab is \t and a new line \n.
@@ -253,5 +262,77 @@ if "$scratch/list" to-script "$scratch/none.tsv" > /dev/full 2> "$scratch/said";
 fi
 grep -q '^list: standard output: No space left' "$scratch/said" || fail 'list does not say that it cannot write'
 runs=$((runs + 2))
+
+# Runs a program for the backbone: it must write just what "$scratch/wanted" has.
+prints_backbone() { # PROGRAM PRICE [SCRIPT]
+    "$scratch/$1" "${@:2}" > "$scratch/got" 2> "$scratch/said" && diff "$scratch/wanted" "$scratch/got" || {
+        cat "$scratch/said"
+        fail "$1 ${*:2} differs"
+    }
+    runs=$((runs + 1))
+}
+
+# Both programs must print the slow program's backbone, or refuse the script as it does.
+hold_backbone() { # PRICE SCRIPT
+    local word number place
+    compare/target/release/slow chain "$1" < "$2" > "$scratch/wanted"
+    read -r word number place < "$scratch/wanted"
+    for program in chain_in_c chain_in_rust; do
+        if [ "$word" = refused ]; then
+            refused_by "$program" 1 "chain: $2: refused " "$1" "$2"
+            grep -qE "refused (with|as .*) \(?$number\)? at (byte )?$place: " "$scratch/said" ||
+                fail "$program refuses $2 otherwise"
+        else
+            prints_backbone "$program" "$1" "$2"
+        fi
+    done
+}
+
+echo 'bindings: the backbone of every example, in C and in Rust'
+backbones=0
+while read -r script; do
+    hold_backbone 0 "$script"
+    hold_backbone 1 "$script"
+    if [ -f "${script%.script}.chain.txt" ]; then
+        cmp "${script%.script}.chain.txt" "$scratch/wanted"
+        backbones=$((backbones + 1))
+    fi
+done < "$scratch/examples"
+[ "$backbones" -ge "$least_backbones" ] || fail "$backbones backbones are kept, not $least_backbones"
+runs=$((runs + backbones))
+
+echo 'bindings: the backbone at the highest price, from standard input, and of as many rows as there is room for'
+put_list fitting 'lengths\t1000000\t1000000\n0\t0\t500000\t+\n0\t1\t500000\t+\n'
+put_list larger 'lengths\t1000000\t1000000\n0\t0\t500001\t+\n0\t1\t500001\t+\n'
+for name in fitting larger; do
+    "$scratch/list" to-script "$scratch/$name.tsv" > "$scratch/$name.script"
+done
+hold_backbone 1000 examples/real/pylori-e.script
+for program in chain_in_c chain_in_rust; do
+    cp examples/two-matches.chain.txt "$scratch/wanted"
+    prints_backbone "$program" 1 < examples/two-matches.script
+    { echo 'score 500000 rows 1000000 chain 500000' && seq 500000 | awk '{ print $1, $1 - 1, $1 - 1, 1 }'; } \
+        > "$scratch/wanted"
+    prints_backbone "$program" 1 "$scratch/fitting.script"
+    refused_by "$program" 1 "chain: $scratch/larger.script: refused " 1 "$scratch/larger.script"
+    grep -qE 'refused (with|as .*) \(?12\)?( at 0)?: ' "$scratch/said" || fail "$program does not say 12"
+done
+
+echo 'bindings: wrong calls of the programs for the backbone'
+for program in chain_in_c chain_in_rust; do
+    refused_by "$program" 1 "chain: $scratch/far.script: No such file" 1 "$scratch/far.script"
+    refused_by "$program" 1 "chain: $scratch: Is a directory" 1 "$scratch"
+    refused_by "$program" 1 'chain: standard input: refused ' 1 < /dev/null
+    refused_by "$program" 2 'usage: chain PRICE '
+    refused_by "$program" 2 'usage: chain PRICE ' 1 examples/two-matches.script 1
+    for price in '' x 1x -1 +1 ' 1' 1001 4294967296 18446744073709551616; do
+        refused_by "$program" 2 'usage: chain PRICE ' "$price" examples/two-matches.script
+    done
+    if "$scratch/$program" 1 examples/two-matches.script > /dev/full 2> "$scratch/said"; then
+        fail "$program does not see that it cannot write"
+    fi
+    grep -q '^chain: standard output: No space left' "$scratch/said" || fail "$program does not say that it cannot write"
+    runs=$((runs + 1))
+done
 
 echo "bindings: $runs runs, 0 differences"

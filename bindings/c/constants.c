@@ -31,7 +31,7 @@ static uint8_t written[sizeof script];
 #define ROWS 8
 #define TABLE_LEN (ROWS * NOTCHERGREY_ROW_NUMBERS)
 #define WORK_LEN (ROWS * NOTCHERGREY_WORK_NUMBERS)
-static uint32_t table[TABLE_LEN], work[WORK_LEN];
+static uint32_t table[TABLE_LEN], work[WORK_LEN], chain[ROWS], scores[ROWS];
 
 /* A refusal that a call must give. */
 struct refusal {
@@ -149,6 +149,16 @@ static void refused_by_refine(struct refusal wanted, size_t table_len, size_t wo
     ensure_refused(wanted, number, place, "notchergrey_refine");
 }
 
+static void refused_by_chain(struct refusal wanted, uint32_t price, size_t table_len, size_t work_len, size_t chain_len,
+                             size_t scores_len)
+{
+    size_t place = NOWHERE, rows, length;
+    uint64_t score;
+    const uint32_t number = notchergrey_chain(script, script_len, price, table, table_len, work, work_len, chain,
+                                              chain_len, scores, scores_len, &place, &score, &rows, &length);
+    ensure_refused(wanted, number, place, "notchergrey_chain");
+}
+
 static void refused_by_carry(struct refusal wanted, uint32_t of, uint32_t position)
 {
     size_t place = NOWHERE;
@@ -189,6 +199,7 @@ static void refused_script(struct refusal wanted)
     refused_by_read_records(wanted, RECORDS_LEN);
     refused_by_match(wanted, 1);
     refused_by_refine(wanted, TABLE_LEN, WORK_LEN);
+    refused_by_chain(wanted, 0, TABLE_LEN, WORK_LEN, ROWS, ROWS);
     refused_by_carry(wanted, 1, 0);
     held(wanted.name, wanted.number);
 }
@@ -251,6 +262,31 @@ static void hold_refining(void)
     refused_by_refine(REFUSAL(NOTCHERGREY_TOO_MANY_PIECES, 0), TABLE_LEN - 1, WORK_LEN);
     HELD(NOTCHERGREY_TOO_MANY_PIECES);
     HELD(NOTCHERGREY_ROW_NUMBERS);
+}
+
+/* With the highest price, and as many numbers as the rows of the table are: then with one number fewer of each. */
+static void hold_chaining(void)
+{
+    const uint32_t most = NOTCHERGREY_MOST_PRICE;
+    size_t place = NOWHERE, rows = 0, length = 0;
+    uint64_t score = 0;
+    two_matches();
+    put('E');
+    const uint32_t number = notchergrey_chain(script, script_len, most, table, TABLE_LEN, work, WORK_LEN, chain, ROWS,
+                                              scores, ROWS, &place, &score, &rows, &length);
+    ensure(number == 0 && score == 6 && rows == ROWS && length == 4, "NOTCHERGREY_MOST_PRICE", "four rows of eight");
+
+    refused_by_chain(REFUSAL(NOTCHERGREY_PRICE_TOO_HIGH, 0), most + 1, TABLE_LEN, WORK_LEN, ROWS, ROWS);
+    refused_by_chain(REFUSAL(NOTCHERGREY_PRICE_TOO_HIGH, 0), UINT32_MAX, TABLE_LEN, WORK_LEN, ROWS, ROWS);
+    HELD(NOTCHERGREY_PRICE_TOO_HIGH);
+    HELD(NOTCHERGREY_MOST_PRICE);
+
+    refused_by_chain(REFUSAL(NOTCHERGREY_CHAIN_TOO_SHORT, 0), most, TABLE_LEN, WORK_LEN, ROWS - 1, ROWS);
+    refused_by_chain(REFUSAL(NOTCHERGREY_CHAIN_TOO_SHORT, 0), most, TABLE_LEN, WORK_LEN, ROWS, ROWS - 1);
+    HELD(NOTCHERGREY_CHAIN_TOO_SHORT);
+
+    refused_by_chain(REFUSAL(NOTCHERGREY_WORK_TOO_SHORT, 0), most, TABLE_LEN, WORK_LEN - 1, ROWS, ROWS);
+    refused_by_chain(REFUSAL(NOTCHERGREY_TOO_MANY_PIECES, 0), most, TABLE_LEN - 1, WORK_LEN, ROWS, ROWS);
 }
 
 static void hold_refusals_of_carrying(void)
@@ -408,6 +444,7 @@ int main(void)
 {
     hold_refusals_of_scripts();
     hold_refining();
+    hold_chaining();
     hold_refusals_of_carrying();
     hold_refusals_of_records();
     hold_writing();

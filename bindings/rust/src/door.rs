@@ -5,9 +5,9 @@ use crate::refusal::Refusal;
 use crate::script::Side;
 use crate::table::CLASSES;
 use notchergrey_sys::{
-    notchergrey_carry_from_a, notchergrey_carry_from_b, notchergrey_match, notchergrey_read,
-    notchergrey_read_records, notchergrey_refine, notchergrey_report, notchergrey_rows_of,
-    notchergrey_summary, notchergrey_write,
+    notchergrey_carry_from_a, notchergrey_carry_from_b, notchergrey_chain, notchergrey_match,
+    notchergrey_read, notchergrey_read_records, notchergrey_refine, notchergrey_report,
+    notchergrey_rows_of, notchergrey_summary, notchergrey_write,
 };
 
 // SAFETY, in each function here: a door takes a pointer and the length behind it as one slice, and any other pointer
@@ -106,6 +106,39 @@ pub fn refine(script: &[u8], table: &mut [u32], work: &mut [u32]) -> Result<usiz
     };
     Refusal::of_script_unless_zero(number, place)?;
     Ok(rows)
+}
+
+/// The score, the count of rows and the length of the chain.
+pub fn chain(
+    script: &[u8],
+    price: u32,
+    table: &mut [u32],
+    work: &mut [u32],
+    chain: &mut [u32],
+    scores: &mut [u32],
+) -> Result<(u64, usize, usize), Refusal> {
+    let (mut place, mut score, mut rows, mut length) = (0, 0, 0, 0);
+    let number = unsafe {
+        notchergrey_chain(
+            script.as_ptr(),
+            script.len(),
+            price,
+            table.as_mut_ptr(),
+            table.len(),
+            work.as_mut_ptr(),
+            work.len(),
+            chain.as_mut_ptr(),
+            chain.len(),
+            scores.as_mut_ptr(),
+            scores.len(),
+            &mut place,
+            &mut score,
+            &mut rows,
+            &mut length,
+        )
+    };
+    Refusal::of_script_unless_zero(number, place)?;
+    Ok((score, rows, length))
 }
 
 /// The position on the other side.

@@ -1,11 +1,13 @@
-//! Why there is no table.
+//! Why there is no table, or no backbone.
 
+use crate::chain::LINK_BYTES;
 use crate::refining::ROW_BYTES;
 use crate::refusal::Refusal;
 use std::error;
 use std::fmt;
 
-/// Why [`refine`](crate::refine) or [`refine_within`](crate::refine_within) made no table.
+/// Why a call that makes room for the rows itself has no answer: [`refine`](crate::refine),
+/// [`backbone`](crate::backbone), and the same within a limit.
 ///
 /// A [`Refusal`] turns into one, so that `?` serves all calls of this crate in one function:
 ///
@@ -20,9 +22,9 @@ use std::fmt;
 /// ```
 #[derive(Clone, Copy, Debug, PartialEq, Eq, Hash)]
 pub enum Error {
-    /// The library refuses the script, or the table has more rows than were allowed.
+    /// The library refuses the script or the gap price, or the table has more rows than were allowed.
     Refused(Refusal),
-    /// There is no memory to refine with a table of so many rows. It says nothing about the rows that the script needs.
+    /// There is no memory to work with a table of so many rows. It says nothing about the rows that the script needs.
     OutOfMemory {
         /// The rows that the table had room for, had it been made.
         rows: usize,
@@ -49,12 +51,16 @@ impl fmt::Display for Error {
     fn fmt(&self, f: &mut fmt::Formatter<'_>) -> fmt::Result {
         match self {
             Error::Refused(refusal) => refusal.fmt(f),
-            Error::OutOfMemory { rows } => write!(
-                f,
-                "out of memory: a table of {rows} rows takes {} bytes while it is made; make memory free, leave out \
-                 matches that overlap many others, or set a limit of rows",
-                *rows as u128 * ROW_BYTES as u128
-            ),
+            Error::OutOfMemory { rows } => {
+                let bytes = |of_a_row: usize| *rows as u128 * of_a_row as u128;
+                write!(
+                    f,
+                    "out of memory: a table of {rows} rows takes {} bytes while it is made, and {} with its backbone; \
+                     make memory free, leave out matches that overlap many others, or set a limit of rows",
+                    bytes(ROW_BYTES),
+                    bytes(ROW_BYTES + LINK_BYTES)
+                )
+            }
         }
     }
 }

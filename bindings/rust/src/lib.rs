@@ -30,9 +30,11 @@
 //! letter counts of A and B, `D` (44) a direct match and `R` (52) a reversed one, each with left-A, left-B and length,
 //! and `E` (45) is the end.
 //!
-//! What cannot be answered comes back as a [`Refusal`], which says in plain words what to do about it. [`refine`] and
-//! [`refine_within`] make room for the rows themselves, so that memory may end: they return an [`Error`], which a
-//! refusal turns into by `?`.
+//! [`backbone`] finds the best run of direct pieces that are in the same order on both genomes.
+//!
+//! What cannot be answered comes back as a [`Refusal`], which says in plain words what to do about it. [`refine`],
+//! [`backbone`] and the same within a limit make room for the rows themselves, so that memory may end: they return an
+//! [`Error`], which a refusal turns into by `?`.
 //!
 //! The archive is written by `rt staticlib capi` to `target/staticlib` of the repository. If it lies elsewhere, the
 //! environment variable `NOTCHERGREY_STATICLIB` names its folder when this crate is built; a relative one is seen from
@@ -42,21 +44,24 @@
 //!
 //! The calls need no more than the main thread and the threads of the standard library have by default. A thread with a
 //! stack of 512 kB may call any of them, and one with 256 kB any but [`report`]: that takes 275 kB, the summary 170 kB,
-//! refining 110 kB, the others next to nothing, whatever the input, as measured on x86-64. With less the program is
-//! aborted, as on any overflow of the stack.
+//! refining and the backbone 110 kB, the others next to nothing, whatever the input, as measured on x86-64. With less
+//! the program is aborted, as on any overflow of the stack.
 
 #![warn(missing_docs)]
 
+mod chain;
 mod door;
 mod error;
 mod list;
 mod refining;
 mod refusal;
 mod report;
+mod room;
 mod script;
 mod table;
 mod word;
 
+pub use chain::{backbone, backbone_within, chain_into, Backbone, Chained, MOST_PRICE};
 pub use error::Error;
 pub use list::{read_matches, read_records_into, write, write_into, List, RECORD_NUMBERS};
 pub use refining::{refine, refine_into, refine_within, WORK_NUMBERS};

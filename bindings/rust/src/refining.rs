@@ -3,9 +3,8 @@
 use crate::door;
 use crate::error::Error;
 use crate::refusal::Refusal;
-use crate::script::{letters, read};
+use crate::room::{room_for, start_of, with_growing_room};
 use crate::table::{Table, ROW_NUMBERS};
-use crate::word::Word;
 use std::mem::size_of;
 
 /// The numbers of work that refining needs for each row that the table has room for.
@@ -13,9 +12,6 @@ pub const WORK_NUMBERS: usize = 4;
 
 /// The bytes that a row of room takes while a table is made: its numbers, and those of work.
 pub(crate) const ROW_BYTES: usize = (ROW_NUMBERS + WORK_NUMBERS) * size_of::<u32>();
-
-/// The rows that [`refine`] makes room for at first: as many as the program does.
-const FIRST_ROWS: usize = 3_000;
 
 /// The piece table of a script, however many rows it has.
 ///
@@ -35,8 +31,9 @@ const FIRST_ROWS: usize = 3_000;
 ///
 /// # Errors
 ///
-/// The refusals of [`read`], as [`Error::Refused`]; [`Error::OutOfMemory`] if the allocator has no room for the rows. A
-/// system that lends more memory than it has (Linux may) ends the program instead: only a limit is safe against that.
+/// The refusals of [`read`](crate::read), as [`Error::Refused`]; [`Error::OutOfMemory`] if the allocator has no room
+/// for the rows. A system that lends more memory than it has (Linux may) ends the program instead: only a limit is safe
+/// against that.
 pub fn refine(script: &[u8]) -> Result<Table, Error> {
     refine_within(script, usize::MAX)
 }
@@ -58,38 +55,12 @@ pub fn refine(script: &[u8]) -> Result<Table, Error> {
 ///
 /// Those of [`refine`], and 12 as [`Error::Refused`] if the table has more rows than these.
 pub fn refine_within(script: &[u8], most_rows: usize) -> Result<Table, Error> {
-    let matches = read(script)?.matches;
-    let most_rows = most_rows.min(letters(script, matches));
-    let mut room = FIRST_ROWS.min(most_rows);
-    loop {
-        match refine_with_room(script, room) {
-            Err(Error::Refused(refusal))
-                if refusal.word() == Word::TooManyPieces && room < most_rows =>
-            {
-                room = room.saturating_mul(2).min(most_rows);
-            }
-            answer => return answer,
-        }
-    }
-}
-
-fn refine_with_room(script: &[u8], rows: usize) -> Result<Table, Error> {
-    let room = |each| zeros(rows.checked_mul(each)?);
-    let (Some(mut numbers), Some(mut work)) = (room(ROW_NUMBERS), room(WORK_NUMBERS)) else {
-        return Err(Error::OutOfMemory { rows });
-    };
-    let length = refine_into(script, &mut numbers, &mut work)?.len();
-    numbers.truncate(length);
-    numbers.shrink_to_fit();
-    Ok(Table::of_numbers(numbers))
-}
-
-/// None: there is no memory for so many numbers.
-fn zeros(length: usize) -> Option<Vec<u32>> {
-    let mut numbers = Vec::new();
-    numbers.try_reserve_exact(length).ok()?;
-    numbers.resize(length, 0);
-    Some(numbers)
+    with_growing_room(script, most_rows, |rows| {
+        let mut table = room_for(rows, ROW_NUMBERS)?;
+        let mut work = room_for(rows, WORK_NUMBERS)?;
+        let length = refine_into(script, &mut table, &mut work)?.len();
+        Ok(Table::of_numbers(start_of(table, length)))
+    })
 }
 
 /// Makes the piece table of a script in a lent table and returns the part of it that holds the rows, from its start.
@@ -110,8 +81,8 @@ fn zeros(length: usize) -> Option<Vec<u32>> {
 ///
 /// # Errors
 ///
-/// The refusals of [`read`]; then 11 if `work` is too short for the table, and 12 if the table is too short for the
-/// rows. A refusal keeps both buffers, but under 12 all of `work` is zero.
+/// The refusals of [`read`](crate::read); then 11 if `work` is too short for the table, and 12 if the table is too
+/// short for the rows. A refusal keeps both buffers, but under 12 all of `work` is zero.
 pub fn refine_into<'table>(
     script: &[u8],
     table: &'table mut [u32],

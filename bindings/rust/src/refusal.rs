@@ -57,7 +57,7 @@ impl Refusal {
         if number == 0 {
             return Ok(());
         }
-        let word = Word::of_number(number).expect("the library refuses by the numbers 1 to 16");
+        let word = Word::of_number(number).expect("the library refuses by the numbers 1 to 18");
         let place = place_of(word);
         Err(Refusal { word, place })
     }
@@ -67,7 +67,7 @@ impl Refusal {
         self.word
     }
 
-    /// The number of the word, 1 to 16.
+    /// The number of the word, 1 to 18.
     pub fn number(&self) -> u32 {
         self.word.number()
     }

@@ -105,10 +105,18 @@ words! {
     BufferTooShort = 16, "buffer too short":
         "the script or the records do not fit into the lent buffer",
         "lend 10 bytes and 13 more for each match to a script, and four numbers for each match to records";
+    /// The gap price is above 1,000.
+    PriceTooHigh = 17, "price too high":
+        "the gap price is above 1,000",
+        "give a price from 0 to 1,000 for each letter that a chain skips";
+    /// The chain or score buffer has fewer numbers than the table has rows, or the rows have no 32-bit numbers.
+    ChainTooShort = 18, "chain too short":
+        "the chain or score buffer has no number for each row that the table has room for",
+        "lend one number for each row to either, and a table of at most 4,294,967,295 rows";
 }
 
 impl Word {
-    /// The number that the specification gives it, 1 to 16.
+    /// The number that the specification gives it, 1 to 18.
     pub fn number(self) -> u32 {
         self as u32
     }

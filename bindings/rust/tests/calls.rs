@@ -6,7 +6,7 @@ use notchergrey::{carry, read, refine, refine_into, refine_within, report, rows_
 use notchergrey::{read_matches, read_records_into, summary, write, write_into, List, Match};
 use notchergrey::{Row, Script, Side, Word, CLASSES, ROW_NUMBERS, WORK_NUMBERS};
 use scripts::{direct, many_matches, records, reversed, run_of_the_specification, script};
-use scripts::{zigzag, LONG};
+use scripts::{zigzag, EXAMPLES, LONG};
 use std::collections::HashSet;
 
 #[test]
@@ -146,18 +146,6 @@ fn the_text_is_that_of_the_program() {
         include_str!("../../../examples/2048-matches.txt")
     );
 }
-
-/// Scripts that others made, admitted by the reader.
-const EXAMPLES: [&[u8]; 8] = [
-    include_bytes!("../../../examples/two-matches.script"),
-    include_bytes!("../../../examples/no-matches.script"),
-    include_bytes!("../../../examples/2048-matches.script"),
-    include_bytes!("../../../examples/3000-pieces.script"),
-    include_bytes!("../../../examples/real/human-orang.script"),
-    include_bytes!("../../../examples/real/human-orang-refused.script"),
-    include_bytes!("../../../examples/real/pylori-b.script"),
-    include_bytes!("../../../examples/real/pylori-e.script"),
-];
 
 #[test]
 fn a_script_goes_to_its_list_and_back() {

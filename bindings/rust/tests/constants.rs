@@ -3,10 +3,11 @@
 
 mod scripts;
 
+use notchergrey::WORK_NUMBERS;
+use notchergrey::{backbone, backbone_within, chain_into, read_matches, read_records_into, write};
 use notchergrey::{carry, find_match, read, refine, refine_into, refine_within, summary, Refusal};
-use notchergrey::{read_matches, read_records_into, write, write_into, Match};
-use notchergrey::{Error, Side, Word, CLASSES, RECORD_NUMBERS, ROW_NUMBERS, WORK_NUMBERS};
-use notchergrey::{LONGEST_SCRIPT, MATCH_BYTES, MOST_MATCHES, SHORTEST_SCRIPT};
+use notchergrey::{write_into, Error, Match, Side, Word, CLASSES, RECORD_NUMBERS, ROW_NUMBERS};
+use notchergrey::{LONGEST_SCRIPT, MATCH_BYTES, MOST_MATCHES, MOST_PRICE, SHORTEST_SCRIPT};
 use scripts::{command, direct, many_matches, records, reversed, run_of_the_specification};
 use scripts::{script, LONG};
 
@@ -15,6 +16,9 @@ const ROWS: usize = 8;
 const TABLE_LEN: usize = ROWS * ROW_NUMBERS;
 const WORK_LEN: usize = ROWS * WORK_NUMBERS;
 
+/// The numbers of table, work, chain and scores that its backbone takes.
+const CHAINING: [usize; 4] = [TABLE_LEN, WORK_LEN, ROWS, ROWS];
+
 /// Its matches, and the numbers and bytes that they take as records and as a script.
 const MATCHES: usize = 2;
 const RECORDS_LEN: usize = MATCHES * RECORD_NUMBERS;
@@ -22,6 +26,20 @@ const SCRIPT_LEN: usize = SHORTEST_SCRIPT + MATCHES * MATCH_BYTES;
 
 fn refused_refining(script: &[u8], table_len: usize, work_len: usize) -> Refusal {
     refine_into(script, &mut vec![0; table_len], &mut vec![0; work_len]).unwrap_err()
+}
+
+/// The call for the backbone in lent buffers: so many numbers of table, work, chain and scores.
+fn refused_chaining(script: &[u8], price: u32, lengths: [usize; 4]) -> Refusal {
+    let [mut table, mut work, mut chain, mut scores] = lengths.map(|length| vec![0; length]);
+    chain_into(
+        script,
+        price,
+        &mut table,
+        &mut work,
+        &mut chain,
+        &mut scores,
+    )
+    .unwrap_err()
 }
 
 fn refused_reading(script: &[u8], records_len: usize) -> Refusal {
@@ -37,6 +55,12 @@ fn refused_script(script: &[u8]) -> Refusal {
     assert_eq!(refused_refining(script, TABLE_LEN, WORK_LEN), refusal);
     assert_eq!(refine(script), Err(Error::Refused(refusal)));
     assert_eq!(refine_within(script, ROWS), Err(Error::Refused(refusal)));
+    assert_eq!(refused_chaining(script, 0, CHAINING), refusal);
+    assert_eq!(backbone(script, 0), Err(Error::Refused(refusal)));
+    assert_eq!(
+        backbone_within(script, 0, ROWS),
+        Err(Error::Refused(refusal))
+    );
     assert_eq!(carry(script, 1, Side::A, 0), Err(refusal));
     assert_eq!(carry(script, 1, Side::B, 0), Err(refusal));
     refusal
@@ -83,6 +107,32 @@ fn too_short() -> Refusal {
     refusal
 }
 
+/// What refining and the call for the backbone say, which is the same.
+fn refused_table(script: &[u8], table_len: usize, work_len: usize) -> Refusal {
+    let refusal = refused_refining(script, table_len, work_len);
+    let lengths = [table_len, work_len, ROWS, ROWS];
+    assert_eq!(refused_chaining(script, MOST_PRICE, lengths), refusal);
+    refusal
+}
+
+/// What every call says that finds a backbone at this price.
+fn refused_price(script: &[u8], price: u32) -> Refusal {
+    let refusal = refused_chaining(script, price, CHAINING);
+    assert_eq!(backbone(script, price), Err(Error::Refused(refusal)));
+    let within = backbone_within(script, price, ROWS);
+    assert_eq!(within, Err(Error::Refused(refusal)));
+    refusal
+}
+
+/// The refusal of a chain buffer that is one number too short, or of such a score buffer.
+fn chain_too_short(script: &[u8]) -> Refusal {
+    let [table, work, chain, scores] = CHAINING;
+    let refusal = refused_chaining(script, MOST_PRICE, [table, work, chain - 1, scores]);
+    let short_scores = [table, work, chain, scores - 1];
+    assert_eq!(refused_chaining(script, MOST_PRICE, short_scores), refusal);
+    refusal
+}
+
 /// Each word with the place that it has and a refusal that it must be.
 fn provoked() -> Vec<(Word, usize, Refusal)> {
     let good = run_of_the_specification();
@@ -93,6 +143,8 @@ fn provoked() -> Vec<(Word, usize, Refusal)> {
     let off_the_match = carry(&good, 2, Side::A, 8).unwrap_err();
     assert_eq!(carry(&good, 2, Side::B, 9), Err(off_the_match));
     assert_eq!(no_such_match(&good, 0), no_such_match(&good, 3));
+    let high_price = refused_price(&good, MOST_PRICE + 1);
+    assert_eq!(refused_price(&good, u32::MAX), high_price);
     vec![
         (Word::Headless, 0, refused_script(&[])),
         (Word::UnknownCommand, at, with(b"X")),
@@ -115,17 +167,19 @@ fn provoked() -> Vec<(Word, usize, Refusal)> {
         (
             Word::WorkTooShort,
             0,
-            refused_refining(&good, TABLE_LEN, WORK_LEN - 1),
+            refused_table(&good, TABLE_LEN, WORK_LEN - 1),
         ),
         (
             Word::TooManyPieces,
             0,
-            refused_refining(&good, TABLE_LEN - 1, WORK_LEN),
+            refused_table(&good, TABLE_LEN - 1, WORK_LEN),
         ),
         (Word::NoSuchMatch, 0, no_such_match(&good, 3)),
         (Word::OffTheMatch, 0, off_the_match),
         (Word::MalformedRecords, 2, refused_direction(2)),
         (Word::BufferTooShort, 0, too_short()),
+        (Word::PriceTooHigh, 0, high_price),
+        (Word::ChainTooShort, 0, chain_too_short(&good)),
     ]
 }
 
@@ -153,7 +207,7 @@ fn provoked_by_lists() -> Vec<(Word, Option<usize>, Refusal)> {
 fn every_word_is_provoked() {
     let words: Vec<Word> = provoked().iter().map(|&(word, ..)| word).collect();
     assert_eq!(words, Word::ALL);
-    assert_eq!(words.len(), 16);
+    assert_eq!(words.len(), 18);
 }
 
 #[test]
@@ -202,6 +256,23 @@ fn table_and_work_are_just_enough() {
     let (mut table, mut work) = ([0; TABLE_LEN], [0; WORK_LEN]);
     let refined = refine_into(&script, &mut table, &mut work);
     assert_eq!(refined.map(<[u32]>::len), Ok(TABLE_LEN));
+}
+
+#[test]
+fn four_buffers_and_the_highest_price_are_just_enough() {
+    let script = run_of_the_specification();
+    let [mut table, mut work, mut chain, mut scores] = CHAINING.map(|length| vec![0; length]);
+    let made = chain_into(
+        &script,
+        MOST_PRICE,
+        &mut table,
+        &mut work,
+        &mut chain,
+        &mut scores,
+    );
+    let made = made.unwrap();
+    assert_eq!((made.score, made.table.len()), (6, TABLE_LEN));
+    assert_eq!(MOST_PRICE, 1_000);
 }
 
 #[test]

@@ -3,7 +3,8 @@
 
 mod scripts;
 
-use notchergrey::{find_match, read, refine, refine_within, Error, Refusal, Word};
+use notchergrey::{backbone, backbone_within, find_match, read, refine, refine_within};
+use notchergrey::{Error, Refusal, Word};
 use scripts::{script, zigzag, LONG};
 use std::alloc::{GlobalAlloc, Layout, System};
 use std::cell::Cell;
@@ -56,6 +57,9 @@ unsafe impl GlobalAlloc for Limited {
 /// A row of the table and the work for it.
 const ROW_BYTES: usize = 36;
 
+/// The same with a number of the chain and one of the scores.
+const BACKBONE_ROW_BYTES: usize = 44;
+
 /// Calls with so many bytes of memory.
 fn with_bytes<T>(bytes: usize, call: impl FnOnce() -> T) -> T {
     HELD.set(0);
@@ -70,13 +74,19 @@ fn with_memory<T>(rows: usize, call: impl FnOnce() -> T) -> T {
     with_bytes(rows * ROW_BYTES, call)
 }
 
-/// The most rows that the call asks memory for at once.
-fn most_rows<T>(call: impl FnOnce() -> T) -> usize {
+/// The most bytes that the call asks for at once.
+fn most_bytes<T>(call: impl FnOnce() -> T) -> usize {
     HELD.set(0);
     MOST.set(0);
     call();
-    assert_eq!(MOST.get() % ROW_BYTES, 0);
-    MOST.get() / ROW_BYTES
+    MOST.get()
+}
+
+/// The most rows that the call asks memory for at once.
+fn most_rows<T>(call: impl FnOnce() -> T) -> usize {
+    let bytes = most_bytes(call);
+    assert_eq!(bytes % ROW_BYTES, 0);
+    bytes / ROW_BYTES
 }
 
 fn is_too_many_pieces(error: Error) -> bool {
@@ -116,19 +126,41 @@ fn a_limit_is_told_from_memory_that_ends() {
 }
 
 #[test]
+fn the_backbone_needs_eight_bytes_more_for_a_row() {
+    let script = zigzag(50_000);
+    let found = || backbone(&script, 1);
+    let within = |rows| backbone_within(&script, 1, rows);
+    assert_eq!(most_bytes(found), 100_000 * BACKBONE_ROW_BYTES);
+    for limit in [0, 1, 2_999, 3_000, 3_001, 10_000] {
+        assert!(is_too_many_pieces(within(limit).unwrap_err()));
+        assert_eq!(most_bytes(|| within(limit)), limit * BACKBONE_ROW_BYTES);
+    }
+    // Room for 3,000 rows but for the last number of each buffer in turn.
+    for numbers in [5, 9, 10, 11] {
+        let error = with_bytes(3_000 * 4 * numbers - 1, found).unwrap_err();
+        assert_eq!(error, Error::OutOfMemory { rows: 3_000 });
+    }
+    let best = with_bytes(100_000 * BACKBONE_ROW_BYTES, found).unwrap();
+    assert_eq!(best.chain().len(), 50_000);
+}
+
+#[test]
 fn a_script_is_refused_whatever_memory_there_is() {
-    let error = with_memory(0, || refine(b"")).unwrap_err();
-    assert_eq!(
-        error.refusal().map(|refusal| refusal.word()),
-        Some(Word::Headless)
-    );
+    let refined = with_memory(0, || refine(b"")).map(|_| ());
+    let found = with_memory(0, || backbone(b"", 0)).map(|_| ());
+    for error in [refined.unwrap_err(), found.unwrap_err()] {
+        assert_eq!(
+            error.refusal().map(|refusal| refusal.word()),
+            Some(Word::Headless)
+        );
+    }
 }
 
 #[test]
 fn it_says_what_to_do() {
     let text = Error::OutOfMemory { rows: usize::MAX }.to_string();
-    let start =
-        "out of memory: a table of 18446744073709551615 rows takes 664082786653543858140 bytes";
+    let start = "out of memory: a table of 18446744073709551615 rows takes 664082786653543858140 \
+                 bytes while it is made, and 811656739243220271060 with its backbone; ";
     assert!(text.starts_with(start), "{text}");
     assert!(text.ends_with("or set a limit of rows"), "{text}");
 }

@@ -57,3 +57,15 @@ pub fn records(matches: &[Match]) -> Vec<u32> {
     let record = |one: &Match| [one.left_a, one.left_b, one.length, one.reversed as u32];
     matches.iter().flat_map(record).collect()
 }
+
+/// Scripts that others made, admitted by the reader.
+pub const EXAMPLES: [&[u8]; 8] = [
+    include_bytes!("../../../../examples/two-matches.script"),
+    include_bytes!("../../../../examples/no-matches.script"),
+    include_bytes!("../../../../examples/2048-matches.script"),
+    include_bytes!("../../../../examples/3000-pieces.script"),
+    include_bytes!("../../../../examples/real/human-orang.script"),
+    include_bytes!("../../../../examples/real/human-orang-refused.script"),
+    include_bytes!("../../../../examples/real/pylori-b.script"),
+    include_bytes!("../../../../examples/real/pylori-e.script"),
+];
