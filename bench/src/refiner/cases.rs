@@ -10,11 +10,11 @@ use compare::slow::report::ROWS;
 use compare::slow::script::{LONGEST_SEQUENCE, MOST_MATCHES};
 use compare::slow::table::NUMBERS_OF_A_ROW;
 
-const LONGEST: u32 = LONGEST_SEQUENCE as u32;
-const SIZES: [usize; 3] = [ROWS, 100_000, 1_000_000];
+pub const LONGEST: u32 = LONGEST_SEQUENCE as u32;
+pub const SIZES: [usize; 3] = [ROWS, 100_000, 1_000_000];
 
 /// Matches of real sequences.
-const REAL: [(&str, &[u8]); 3] = [
+pub const REAL: [(&str, &[u8]); 3] = [
     (
         "human-orang",
         include_bytes!("../../../examples/real/human-orang.script"),

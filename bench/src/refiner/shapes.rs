@@ -93,6 +93,15 @@ pub fn repeats(random: &mut Random, copies: u32) -> Vec<DraftMatch> {
     matches
 }
 
+/// Matches that begin one letter apart on A and two apart on B. Each is cut into single letters: 48 of them, or more if
+/// 2,048 such matches do not fill the table.
+pub fn overlapping(rows: u32) -> Vec<DraftMatch> {
+    let letters = (rows / MOST).max(48);
+    let count = (rows / letters).min(MOST);
+    let nth = |k| DraftMatch::direct(k, 2 * k, letters);
+    (0..count).map(nth).collect()
+}
+
 /// The match of an index below 2,048.
 type Nth = fn(u32) -> DraftMatch;
 

@@ -1,15 +1,12 @@
 //! The tables that are summed up.
 
-use crate::refiner::shapes::zigzag_at;
+use crate::refiner::shapes::{overlapping, zigzag_at, MOST};
 use compare::door::{self, Refining};
 use compare::draft::DraftMatch;
 use compare::groups::patterned;
 use compare::groups::shapes::{script, zigzag};
 use compare::random::Random;
-use compare::slow::script::MOST_MATCHES;
 use compare::slow::table::{NUMBERS_OF_A_ROW, WORK_OF_A_ROW};
-
-const MOST: u32 = MOST_MATCHES as u32;
 
 /// Tables of one length; the first is the ordinary one.
 pub struct Length {
@@ -42,7 +39,7 @@ fn length(rows: usize, random: &mut Random) -> Length {
         ("gaps, shuffled", shuffled(&gaps, random)),
         (
             "overlapping matches",
-            refined(&overlapping(count, random), rows),
+            refined(&in_any_order(overlapping(count), random), rows),
         ),
         (
             "separate zigzags",
@@ -56,15 +53,6 @@ fn length(rows: usize, random: &mut Random) -> Length {
         _ => (),
     }
     Length { rows, tables }
-}
-
-/// Matches that begin one letter apart on A and two apart on B, in any order. Each is cut into single letters: 48 of
-/// them, or more if 2,048 such matches do not fill the table.
-fn overlapping(rows: u32, random: &mut Random) -> Vec<DraftMatch> {
-    let letters = (rows / MOST).max(48);
-    let count = (rows / letters).min(MOST);
-    let matches = (0..count).map(|k| DraftMatch::direct(k, 2 * k, letters));
-    in_any_order(matches.collect(), random)
 }
 
 /// 1,024 zigzags of two matches that share no letter with each other, in any order.
