@@ -19,6 +19,7 @@ TOTAL = {
     ("writer/src/lib.rt", "write"),
     ("record_reader/src/lib.rt", "read_records"),
     ("refine/src/lib.rt", "refine"),
+    ("chain/src/lib.rt", "chain"),
     ("carrying/src/lib.rt", "carry"),
     ("match_rows/src/lib.rt", "rows_of"),
     ("match_rows/src/lib.rt", "span_of"),
