@@ -27,7 +27,7 @@ def main():
     }
     size = SIDE + 2 * MARGIN
     print(f'<svg xmlns="http://www.w3.org/2000/svg" viewBox="0 0 {size} {size}" font-family="sans-serif" font-size="13">')
-    print(f"<title>Pieces of a table, and its backbone</title>")
+    print("<title>Pieces of a table, and its backbone</title>")
     print(f'<rect width="{size}" height="{size}" fill="#ffffff"/>')
     print(f'<rect x="{MARGIN}" y="{MARGIN}" width="{SIDE}" height="{SIDE}" fill="none" stroke="#444444"/>')
     for kind, width in (("direct", 2), ("reversed", 2), ("backbone", 4)):
