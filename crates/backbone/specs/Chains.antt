@@ -8,9 +8,10 @@
 --     scoreOf price rs ks    the score of a chain: one signed number
 --     Before js ks           the list js comes before the list ks
 --     Lettered rs            every row has a letter
--- 02, #104. Source document 000 (Definitions 1 and 2) and 001 have the same chains, by letters: a match precedes another
--- if its last letter is before the other's first. Here ends are positions between letters, so that a piece may begin at
--- the very position where the other ends. The score is 001's, with its gap cost as the price; 000 has none. Assumes nothing.
+-- 02, #104. Source document 000 (Definitions 1 and 2) and 001 have the same chains, by letters: a match precedes
+-- another if its last letter is before the other's first. Here ends are positions between letters, so that a piece may
+-- begin at the very position where the other ends. The score is 001's, with its gap cost as the price; 000 has none.
+-- Assumes nothing.
 use Prim.Native.Nat.{ℕ, _+_, _-_, _*_, _≤_, _<_}
 use mathlib.Core.Path.{_≡_}
 use mathlib.Core.List.{List, [], _∷_}

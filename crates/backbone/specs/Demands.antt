@@ -83,7 +83,7 @@ pub data ChainingOutcome (script : List ℕ) (price : ℕ) (table work chain sco
 
 -- chain and score buffer before and after
 pub record ChainLeaves (answer : Answer Scored) (chain scores chain′ scores′ : List ℕ) : Type 0 where
-  -- SCOPE, "Kept when refused": a refused call alters of these two nothing but the score buffer, and that under 12 alone
+  -- SCOPE, "Kept when refused": a refused call alters of these two the score buffer alone, and that under 12 alone
   pub refused-chain : (number place : ℕ) → answer ≡ refusal number place → chain′ ≡ chain
   pub refused-scores : (number place : ℕ) → answer ≡ refusal number place → number ≢ 12 → scores′ ≡ scores
   -- SCOPE, "Buffers of chaining": "zero after success and after 12"

@@ -48,7 +48,7 @@ module _ {script : List ℕ} {g : Given} (a : Admitted script g) where
   pub least-apart : Apart (leastRows g)
   least-apart =
       record {
-        lettered = least-lettered g (admitted-matches a) .lettered;
+        lettered = least-lettered g (admitted-matches a);
         fits = λ s i below. let r = least-row g i below in rw (r .is) (piece-fits (r .among) s);
         disjoint = λ s i j below below′.
             let r = least-row g i below in

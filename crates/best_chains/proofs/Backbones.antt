@@ -93,7 +93,7 @@ module _ (price : ℕ) (rs : List Row) where
             best .most [] (single direct),
             alone-letters price rs k,
             alone-costs price rs k,
-            apart .lettered (k - 1) (omega arith),
+            apart .lettered .lettered (k - 1) (omega arith),
           ))
       first (j ∷ js) c e =
           let known = known j (head-direct c) in

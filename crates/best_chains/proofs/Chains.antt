@@ -16,7 +16,7 @@ use Rattle.best_chains.specs.Best.{Apart, BestFrom}
 
 module _ {rs : List Row} (apart : Apart rs) where
   pub chain-short : {ks : List ℕ} → Chain rs ks → length ks ≤ length rs
-  chain-short {ks} c = lettered-short rs (record { lettered = apart .lettered }) ks c
+  chain-short {ks} c = lettered-short rs (apart .lettered) ks c
 
   pub letters-bound :
       {k : ℕ} {ks : List ℕ} → Chain rs (k ∷ ks) → leftOf A (rowNumbered rs k) + lettersIn rs (k ∷ ks) < 2 ^ 32

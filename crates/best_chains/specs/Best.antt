@@ -4,11 +4,11 @@
 --     BestFrom price rs k ks score     of the chains that begin with row k, k and then ks is the first of the best
 --     Outdone m n j k                  row k with m is no better than row j with n: less, or no lower of two equals
 --     Known price rs k P               a best chain from row k is known, and its score is such that P
--- A score is told without signs here: a chain's letters are its score and the price of what it skips. How the best chain
--- from a row is made of those from the rows that may follow it (laws best-alone and best-linked) is the recurrence of
--- source documents 000 (its simple algorithm) and 001 (OPT), seen from the other end: they have the best chain that ends
--- with a match, and leave open which of equals is given. The first list of row numbers is found only from the front.
--- Assumes nothing.
+-- A score is told without signs here: a chain's letters are its score and the price of what it skips. How the best
+-- chain from a row is made of those from the rows that may follow it (laws best-alone and best-linked) is the
+-- recurrence of source documents 000 (its simple algorithm) and 001 (OPT), seen from the other end: they have the best
+-- chain that ends with a match, and leave open which of equals is given. The first list of row numbers is found only
+-- from the front. Assumes nothing.
 use Prim.Native.Nat.{ℕ, _+_, _*_, _^_, _≤_, _<_}
 use mathlib.Core.Path.{_≡_}
 use mathlib.Core.Logic.{_⊎_}
@@ -18,10 +18,10 @@ use Rattle.rows.specs.Rows.{rowAt}
 use Rattle.rows.specs.declared.Row.{Row}
 use Rattle.refinement.specs.declared.Side.{Side}
 use Rattle.table.specs.Covering.{leftOf, rightOf}
-use Rattle.backbone.specs.Chains.{Chain, lettersIn, skippedIn, Before}
+use Rattle.backbone.specs.Chains.{Chain, lettersIn, skippedIn, Before, Lettered}
 
 pub record Apart (rs : List Row) : Type 0 where
-  pub lettered : (i : ℕ) → i < length rs → 1 ≤ rowAt rs i .length
+  pub lettered : Lettered rs
   pub fits : (s : Side) (i : ℕ) → i < length rs → rightOf s (rowAt rs i) < 2 ^ 32
   pub disjoint :
       (s : Side) (i j : ℕ) → i < length rs → j < length rs → leftOf s (rowAt rs i) < leftOf s (rowAt rs j)

@@ -74,7 +74,7 @@ module _ {rs : List Row} (apart : Apart rs) where
     -- .. and the other way about, since the other has a letter
     beyond : (s : Side) → rightOf s (rowNumbered rs k) ≤ leftOf s (rowNumbered rs j)
         → leftOf s (rowNumbered rs k) < leftOf s (rowNumbered rs j)
-    beyond s l = omega (arith, apart .lettered (k - 1) k-inside)
+    beyond s l = omega (arith, apart .lettered .lettered (k - 1) k-inside)
 
   module _ {order places : List ℕ} (arranged : Arranged rs order places) (t : ℕ) (inside : t < length order) where
     -- the row at place t

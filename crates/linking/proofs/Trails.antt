@@ -21,7 +21,7 @@ use Rattle.walking.specs.Trail.{Trail, ends, leads}
 pub chain-other : {rs : List Row} {j k : ℕ} {js : List ℕ} → Apart rs → Chain rs (j ∷ js)
     → leftOf A (rowNumbered rs k) ≤ leftOf A (rowNumbered rs j) → (m : ℕ) → m ∈ js → m ≢ k
 chain-other {rs} apart chain le m among e =
-    let up = rw e at (goes-up rs (record { lettered = apart .lettered }) chain m among) in
+    let up = rw e at (goes-up rs (apart .lettered) chain m among) in
     omega arith
 
 module _ (k v : ℕ) (some : 1 ≤ k) where

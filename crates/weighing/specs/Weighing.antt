@@ -6,9 +6,9 @@
 --     NoWorse price rs scores j k   to go on with row j is no worse than with row k, of equal ones j is not behind
 --     betterOf price rs scores j k  the one that is no worse; 0 is none
 --     Top price rs scores P v       v is the best row such that P, or 0 if there is none
--- What is compared is the score of the best chain from the row, less the price of the letters left of it: the measure of
--- source document 001 (OPT with its index λ) and of 004, from the other end. With it, which row is best to go on with does
--- not depend on the row that the chain comes from. Assumes nothing.
+-- What is compared is the score of the best chain from the row, less the price of the letters left of it: the measure
+-- of source document 001 (OPT with its index λ) and of 004, from the other end. With it, which row is best to go on
+-- with does not depend on the row that the chain comes from. Assumes nothing.
 use Prim.Native.Nat.{ℕ, _+_, _-_, _*_, _≤_, _<_}
 use mathlib.Core.Path.{_≡_}
 use mathlib.Core.Logic.{_⊎_}

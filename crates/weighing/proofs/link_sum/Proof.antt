@@ -4,7 +4,8 @@ use native.Mathlib.Omega.{arith}
 use borrow.Author.Needs.{needs}
 use mir.Syntax.{w64}
 use mir.ValLaws.{toZ-ofZ}
-use Rattle.weighing.proofs.Signed.{Half, difference, read, fits}
+use Rattle.backbone.proofs.Signed.{difference}
+use Rattle.weighing.proofs.Signed.{Half, read, fits}
 use Rattle.weighing.proofs.link_sum.Statement.{statement}
 use Rattle.weighing.proofs.link_sum.Tie as tie
 

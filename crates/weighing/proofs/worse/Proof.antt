@@ -2,7 +2,7 @@
 use borrow.Author.Needs.{needs}
 use mir.Syntax.{w64}
 use mir.ValLaws.{toZ-ofZ}
-use Rattle.weighing.proofs.Signed.{difference, order}
+use Rattle.backbone.proofs.Signed.{difference, order}
 use Rattle.weighing.proofs.worse.Statement.{statement}
 use Rattle.weighing.proofs.worse.Tie as tie
 
