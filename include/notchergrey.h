@@ -156,15 +156,16 @@ uint32_t notchergrey_carry_from_b(const uint8_t *script, size_t script_len, uint
 uint32_t notchergrey_rows_of(const uint32_t *table, size_t table_len, uint32_t number, size_t *start, size_t *end);
 
 /*
- * Sums a table up: its pieces, the distinct ones among them (by left-A, left-B and length), the letters that they cover
- * on A in covers[0] and on B in covers[1], and in classes[c] the pieces whose length is at least 2^c and below 2^(c+1).
- * A letter is covered if it lies in at least one row's stretch; in how many makes no difference. The stretch of a row
- * is `length` letters from left-A on of A and from left-B on of B, whatever its direction. The sum of left end and
- * length does not wrap at 2^32, and a row of length 0 covers nothing. `covers` must point to two numbers and `classes`
- * to thirty; all are set. Always returns 0. Hand over the finished rows alone, as for notchergrey_rows_of. Of tables
- * that notchergrey_refine made it took 0.003 s for 100,000 rows and 0.16 s for 1,000,000 where it was measured; of rows
- * that touch no other one, in an order not by their left ends, 0.035 s and 1.9 s. From some 100,000 rows on its time
- * grows with their square.
+ * Sums a table up: its pieces, the distinct ones among them, the letters that they cover on A in covers[0] and on B in
+ * covers[1], and in classes[c] the pieces whose length is at least 2^c and below 2^(c+1). Rows are one piece if they
+ * have the same left-A, left-B, length and direction, whatever their match numbers: a stretch and its mirror image are
+ * two. Directions are compared as numbers, also those above 1. A letter is covered if it lies in at least one row's
+ * stretch; in how many makes no difference. The stretch of a row is `length` letters from left-A on of A and from
+ * left-B on of B, whatever its direction. The sum of left end and length does not wrap at 2^32, and a row of length 0
+ * covers nothing. `covers` must point to two numbers and `classes` to thirty; all are set. Always returns 0. Hand over
+ * the finished rows alone, as for notchergrey_rows_of. Of tables that notchergrey_refine made it took 0.003 s for
+ * 100,000 rows and 0.16 s for 1,000,000 where it was measured; of rows that touch no other one, in an order not by
+ * their left ends, 0.035 s and 1.9 s. From some 100,000 rows on its time grows with their square.
  */
 uint32_t notchergrey_summary(const uint32_t *table, size_t table_len, size_t *pieces, size_t *distinct,
                              uint64_t covers[2], size_t classes[NOTCHERGREY_CLASSES]);

@@ -17,7 +17,7 @@ fn scattered(k: u32) -> u32 {
 }
 
 fn sorted_count(table: &[u32]) -> usize {
-    let mut pieces: Vec<[u32; 3]> = table.chunks_exact(5).map(|row| [row[1], row[2], row[3]]).collect();
+    let mut pieces: Vec<[u32; 4]> = table.chunks_exact(5).map(|row| [row[1], row[2], row[3], row[4]]).collect();
     pieces.sort_unstable();
     pieces.dedup();
     pieces.len()

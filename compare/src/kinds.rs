@@ -1,9 +1,10 @@
-//! How the stretches of a table lie, found from the table itself: the run says what it met, whatever
-//! the groups meant to draw.
+//! How the stretches of a table lie, and what its pieces differ in, found from the table itself: the
+//! run says what it met, whatever the groups meant to draw.
 
 use crate::slow::carrying::Side;
 use crate::slow::covers::Stretch;
-use crate::slow::table::{stretches, Summary};
+use crate::slow::table::{stretches, Summary, NUMBERS_OF_A_ROW};
+use std::collections::BTreeSet;
 
 pub const UNDER_TWO_ROWS: &str = "a letter under two rows";
 pub const ON_ONE_SIDE_ALONE: &str = "a letter under two rows on one side alone";
@@ -15,6 +16,9 @@ pub const NOTHING_COVERED: &str = "rows that cover nothing";
 pub const PAST_32_BITS: &str = "a right end past 2^32";
 pub const COVERS_PAST_32_BITS: &str = "covers of 2^32 and more";
 pub const SIDES_DIFFER: &str = "A and B covered differently";
+pub const DIRECTION_TELLS: &str = "a stretch in two directions";
+pub const OTHER_DIRECTIONS: &str = "a stretch in two directions, neither of them 0";
+pub const NUMBER_MISLEADS: &str = "stretches in other counts of match numbers than of directions";
 pub const OVER_4096: &str = "more than 4,096 separate stretches";
 pub const OVER_8192: &str = "more than 8,192 separate stretches";
 pub const OVER_16384: &str = "more than 16,384 separate stretches";
@@ -32,6 +36,10 @@ const MANY: usize = 4_096;
 pub fn of(table: &[u32], summary: &Summary) -> Vec<&'static str> {
     let [a, b] = [Side::A, Side::B].map(|side| Lying::of(stretches(table, side)));
     let any = |is: fn(&Lying) -> bool| is(&a) || is(&b);
+    let told_by = |last: fn(&[u32]) -> u32| {
+        let rows = table.chunks_exact(NUMBERS_OF_A_ROW);
+        rows.map(|row| (&row[1..4], last(row))).collect::<BTreeSet<_>>().len()
+    };
     let most_separate = a.separate.max(b.separate);
     let most_covered = summary.covers[0].max(summary.covers[1]);
     let kinds = [
@@ -40,6 +48,9 @@ pub fn of(table: &[u32], summary: &Summary) -> Vec<&'static str> {
         (TOUCHING, any(|side| side.touching)),
         (NESTED, any(|side| side.nested)),
         (EQUAL, summary.distinct < summary.pieces),
+        (DIRECTION_TELLS, told_by(|_| 0) != summary.distinct),
+        (OTHER_DIRECTIONS, told_by(|row| row[4].min(1)) != summary.distinct),
+        (NUMBER_MISLEADS, told_by(|row| row[0]) != summary.distinct),
         (EMPTY_ROW, a.empty_rows && a.separate > 0),
         (NOTHING_COVERED, a.empty_rows && a.separate == 0),
         (PAST_32_BITS, any(|side| side.past_32_bits)),

@@ -7,7 +7,7 @@ use compare::slow::report::report;
 fn the_run_of_01() {
     let script = Draft::lengths(10, 10).direct(0, 0, 6).reversed(2, 3, 5);
     let text = "lengths 10 10
-matches 2 pieces 8 distinct 7 covers 7 8
+matches 2 pieces 8 distinct 8 covers 7 8
 1 0 0 2 +
 1 2 2 1 +
 1 3 3 1 +
@@ -58,7 +58,7 @@ fn small_scripts() {
         ),
         (
             Draft::lengths(4, 4).direct(0, 0, 4).reversed(0, 0, 4),
-            "matches 2 pieces 2 distinct 1 covers 4 4",
+            "matches 2 pieces 2 distinct 2 covers 4 4",
         ),
         (
             Draft::lengths(5, 5).direct(0, 0, 4).direct(0, 1, 4),

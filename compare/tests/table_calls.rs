@@ -57,17 +57,24 @@ fn nothing_to_sum_up() {
 }
 
 #[test]
-fn distinct_pieces_differ_in_left_a_left_b_or_length() {
+fn distinct_pieces_differ_in_left_a_left_b_length_or_direction() {
     let rows = [
         [1, 10, 20, 30, 0],
-        [2, 10, 20, 30, 1],
-        [3, 11, 20, 30, 0],
-        [3, 10, 21, 30, 0],
-        [3, 10, 20, 31, 0],
+        [1, 11, 20, 30, 0],
+        [1, 10, 21, 30, 0],
+        [1, 10, 20, 31, 0],
+        [1, 10, 20, 30, 1],
         [1, 10, 20, 30, 0],
+        [2, 10, 20, 30, 1],
     ];
     let summary = summary(rows.as_flattened());
-    assert_eq!((summary.pieces, summary.distinct), (6, 4));
+    assert_eq!((summary.pieces, summary.distinct), (7, 5));
+}
+
+#[test]
+fn directions_are_compared_as_numbers() {
+    let rows = [2, 3, u32::MAX, 3, 2].map(|direction| [1, 10, 20, 30, direction]);
+    assert_eq!(summary(rows.as_flattened()).distinct, 3);
 }
 
 #[test]

@@ -25,12 +25,15 @@ fn number(random: &mut Random, kind: u32, span: u32) -> u32 {
     }
 }
 
-fn piece(row: &[u32]) -> [u32; 3] {
-    [row[1], row[2], row[3]]
+// All numbers of a row but the match number.
+type Piece = [u32; 4];
+
+fn piece(row: &[u32]) -> Piece {
+    [row[1], row[2], row[3], row[4]]
 }
 
 // The greatest pieces where a sample looks: it then says that windows end too late.
-fn misleading(pieces: &mut Vec<[u32; 3]>) {
+fn misleading(pieces: &mut Vec<Piece>) {
     pieces.sort();
     let step = pieces.len() / SAMPLES + 1;
     let mut greatest = pieces.split_off(pieces.len() - pieces.len().div_ceil(step));
@@ -45,8 +48,8 @@ fn misleading(pieces: &mut Vec<[u32; 3]>) {
 fn table(random: &mut Random) -> (Vec<u32>, bool) {
     let most = random.one_of(&[4, 40, 400, 3_000, 30_000]);
     let rows = random.count_between(0, most as usize);
-    let columns = [0; 3].map(|_| (random.between(0, 2), random.one_of(&[1, 3, 30, most, 1 << 20])));
-    let mut pieces: Vec<[u32; 3]> = (0..rows)
+    let columns = [0; 4].map(|_| (random.between(0, 2), random.one_of(&[1, 3, 30, most, 1 << 20])));
+    let mut pieces: Vec<Piece> = (0..rows)
         .map(|_| columns.map(|(kind, span)| number(random, kind, span)))
         .collect();
     if random.any_bool() {
@@ -61,7 +64,7 @@ fn table(random: &mut Random) -> (Vec<u32>, bool) {
     }
     let mut table: Vec<u32> = pieces
         .iter()
-        .flat_map(|[a, b, length]| [random.between(0, 8), *a, *b, *length, random.between(0, 1)])
+        .flat_map(|[a, b, length, direction]| [random.between(0, 8), *a, *b, *length, *direction])
         .collect();
     let others = random.count_between(0, 4);
     table.extend(random.any_numbers(others));
@@ -71,10 +74,10 @@ fn table(random: &mut Random) -> (Vec<u32>, bool) {
 fn main() {
     let tables: usize = std::env::args().nth(1).map_or(4_000, |n| n.parse().expect("a count of tables"));
     let mut random = Random::from_seed(2002);
-    let (mut empty, mut repeated, mut several, mut misled) = (0, 0, 0, 0);
+    let (mut empty, mut repeated, mut mirrored, mut several, mut misled) = (0, 0, 0, 0, 0);
     for number in 0..tables {
         let (table, misleads) = table(&mut random);
-        let pieces: BTreeSet<[u32; 3]> = table.chunks_exact(5).map(piece).collect();
+        let pieces: BTreeSet<Piece> = table.chunks_exact(5).map(piece).collect();
         let counted = door::count(&table);
         if counted != pieces.len() {
             eprintln!("windows: table {number} has {} distinct pieces, and {counted} were counted", pieces.len());
@@ -82,14 +85,16 @@ fn main() {
         }
         empty += usize::from(pieces.is_empty());
         repeated += usize::from(0 < pieces.len() && pieces.len() < table.len() / 5);
+        let stretches: BTreeSet<&[u32]> = pieces.iter().map(|piece| &piece[..3]).collect();
+        mirrored += usize::from(stretches.len() < pieces.len());
         several += usize::from(ROOM < pieces.len());
         misled += usize::from(ROOM < pieces.len() && misleads);
     }
     println!(
-        "windows: {empty} tables without a row, {repeated} with a piece twice, {several} of several windows, {misled} of \
-         them with a sample that misleads"
+        "windows: {empty} tables without a row, {repeated} with a piece twice, {mirrored} with a stretch in two \
+         directions, {several} of several windows, {misled} of them with a sample that misleads"
     );
-    let enough = 100 < empty && 1_000 < repeated && 300 < several && 60 < misled;
+    let enough = 100 < empty && 1_000 < repeated && 1_000 < mirrored && 300 < several && 60 < misled;
     assert!(tables < 4_000 || enough, "each kind of table comes up");
     println!("windows: {tables} tables, 0 differences");
 }

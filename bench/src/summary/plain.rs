@@ -7,10 +7,11 @@ const CLASSES: usize = 30;
 const LEFT_A: usize = 1;
 const LEFT_B: usize = 2;
 const LENGTH: usize = 3;
+const DIRECTION: usize = 4;
 
 pub fn sum_up(table: &[u32]) -> Summary {
-    let mut pieces: Vec<[u32; 3]> = rows(table)
-        .map(|row| [row[LEFT_A], row[LEFT_B], row[LENGTH]])
+    let mut pieces: Vec<[u32; 4]> = rows(table)
+        .map(|row| [row[LEFT_A], row[LEFT_B], row[LENGTH], row[DIRECTION]])
         .collect();
     let mut summary = Summary {
         pieces: pieces.len(),
@@ -18,7 +19,7 @@ pub fn sum_up(table: &[u32]) -> Summary {
         covers: covers(table),
         classes: [0; CLASSES],
     };
-    for &[_, _, length] in &pieces {
+    for &[_, _, length, _] in &pieces {
         let class = length.checked_ilog2().map(|class| class as usize);
         if let Some(count) = class.and_then(|class| summary.classes.get_mut(class)) {
             *count += 1;

@@ -22,7 +22,7 @@
 //!     println!("match {}: {} letters from {} of A", row.number, row.length, row.left_a);
 //! }
 //! let summary = table.summary();
-//! assert_eq!((summary.distinct, summary.covers), (7, [7, 8]));
+//! assert_eq!((summary.distinct, summary.covers), (8, [7, 8]));
 //! # Ok::<(), notchergrey::Error>(())
 //! ```
 //!

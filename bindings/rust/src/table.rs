@@ -39,7 +39,8 @@ pub struct Table {
 pub struct Summary {
     /// The count of pieces.
     pub pieces: usize,
-    /// The count of distinct pieces: those of the same left-A, left-B and length are one.
+    /// The count of distinct pieces: rows of the same left-A, left-B, length and direction are one, whatever their match
+    /// numbers. A stretch and its mirror image are two.
     pub distinct: usize,
     /// The letters in at least one row's stretch: those of A first, then those of B. A letter under two rows counts
     /// once. Of a refined table, `covers[0]` of the `p` letters of A and `covers[1]` of the `q` of B are covered; see
@@ -80,10 +81,10 @@ pub fn rows_of(table: &[u32], number: u32) -> &[u32] {
 /// 0.035 s and 1.9 s. From some 100,000 rows on its time grows with their square.
 ///
 /// ```
-/// let summary = notchergrey::summary(&[1, 0, 3, 6, 0, 2, 0, 3, 6, 1]);
-/// assert_eq!((summary.pieces, summary.distinct), (2, 1));
+/// let summary = notchergrey::summary(&[1, 0, 3, 6, 0, 2, 0, 3, 6, 0, 3, 0, 3, 6, 1]);
+/// assert_eq!((summary.pieces, summary.distinct), (3, 2));
 /// assert_eq!(summary.covers, [6, 6]);
-/// assert_eq!(summary.classes[2], 2);
+/// assert_eq!(summary.classes[2], 3);
 /// ```
 ///
 /// Where stretches overlap, on A here from 2 to 6 and on B from 3 to 6, each letter counts once. Left end and length

@@ -36,6 +36,8 @@ pub const PART_OF_OWN_TABLES: Part<u8> = Part {
         Need::kind(kinds::ON_ONE_SIDE_ALONE, 100, 3),
         Need::kind(kinds::TOUCHING, 1_000, 20),
         Need::kind(kinds::EQUAL, 500, 10),
+        Need::kind(kinds::DIRECTION_TELLS, 100, 5),
+        Need::kind(kinds::NUMBER_MISLEADS, 500, 10),
         Need::kind(kinds::SIDES_DIFFER, 1_000, 20),
     ]],
 };
@@ -47,6 +49,9 @@ const KINDS_OF_TABLES: &[Need] = &[
     Need::kind(kinds::TOUCHING, 5_000, 50),
     Need::kind(kinds::NESTED, 5_000, 30),
     Need::kind(kinds::EQUAL, 5_000, 50),
+    Need::kind(kinds::DIRECTION_TELLS, 5_000, 30),
+    Need::kind(kinds::OTHER_DIRECTIONS, 5_000, 30),
+    Need::kind(kinds::NUMBER_MISLEADS, 5_000, 30),
     Need::kind(kinds::EMPTY_ROW, 5_000, 30),
     Need::kind(kinds::NOTHING_COVERED, 1_000, 20),
     Need::kind(kinds::PAST_32_BITS, 5_000, 40),

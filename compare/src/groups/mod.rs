@@ -187,6 +187,7 @@ pub const TABLES: Groups<u32> = &[
     group("rows of few numbers", tables::few_numbers),
     group("any numbers", tables::any_numbers),
     group("lengths around powers of two", tables::powers_of_two),
+    group("few stretches in many directions", tables::directions),
     group("tables of the slow program", tables::of_scripts),
     group("every length up to three rows", tables::every_small_length),
 ];

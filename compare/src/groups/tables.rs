@@ -38,6 +38,23 @@ pub fn powers_of_two(random: &mut Random) -> Vec<Vec<u32>> {
     tables
 }
 
+/// Pieces that differ in direction or match number alone.
+pub fn directions(random: &mut Random) -> Vec<Vec<u32>> {
+    let mut tables = Vec::new();
+    for _ in 0..500 {
+        let rows = random.count_between(0, 40);
+        let stretches = random.between(0, 2);
+        let directions = &[0, 1, 2, 3, 1 << 31, u32::MAX][..random.count_between(1, 6)];
+        let row = |_| {
+            let left = random.between(0, stretches);
+            let number = random.between(1, 3);
+            [number, left, left, 5, random.one_of(directions)]
+        };
+        tables.push((0..rows).flat_map(row).collect());
+    }
+    tables
+}
+
 /// What scripts refine to, often with numbers behind it that form no row.
 pub fn of_scripts(random: &mut Random) -> Vec<Vec<u32>> {
     let scripts = [
@@ -64,7 +81,7 @@ pub fn every_small_length(random: &mut Random) -> Vec<Vec<u32>> {
 }
 
 /// Rows that rise by match number as in our own tables, and rows in no order. Their left ends are
-/// few, many, or many with the same last bits.
+/// few, many, or many with the same last bits; of some the mirror image is there too.
 pub fn long(random: &mut Random) -> Vec<Vec<u32>> {
     let mut tables = Vec::new();
     for rows in [ROWS, 10_000] {
@@ -75,7 +92,7 @@ pub fn long(random: &mut Random) -> Vec<Vec<u32>> {
             }
             let row = |number| {
                 let left_a = step * random.between(0, most);
-                [number, left_a, 3, random.between(0, 9), 0]
+                [number, left_a, 3, random.between(0, 9), random.between(0, 1)]
             };
             tables.push(numbers.into_iter().flat_map(row).collect());
         }

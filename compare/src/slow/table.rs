@@ -1,12 +1,12 @@
 //! 01, "The table and its buffers": the refining call, the pieces of one match, the summary, whose
-//! letters are those of 02, #102.
+//! letters are those of 02, #102, and whose distinct pieces are those of #105.
 
 use super::carrying::Side;
 use super::covers::{letters_in_some_row, Stretch};
 use super::refinement::{self, Piece};
 use super::refusal::{Refusal, Word};
 use super::script;
-use std::collections::BTreeSet;
+use std::collections::{BTreeMap, BTreeSet};
 use std::ops::Range;
 
 /// "A row is five 32-bit numbers."
@@ -90,10 +90,9 @@ pub struct Summary {
 
 /// "The summary counts pieces, distinct pieces (same left-A, left-B and length), letters [..], and,
 /// as thirty class counts beside them, the pieces whose length is at least 2^c and below 2^(c+1)".
-/// "Letters counted once."
+/// "Letters counted once." "Direction counts in distinct."
 pub fn summary(table: &[u32]) -> Summary {
     let lengths = || rows(table).map(|row| u64::from(row[3]));
-    let distinct: BTreeSet<&[u32]> = rows(table).map(|row| &row[1..4]).collect();
     let mut classes = [0; CLASSES];
     for (c, count) in classes.iter_mut().enumerate() {
         let class = 1 << c..1 << (c + 1);
@@ -101,10 +100,20 @@ pub fn summary(table: &[u32]) -> Summary {
     }
     Summary {
         pieces: rows(table).count(),
-        distinct: distinct.len(),
+        distinct: distinct(table),
         covers: [Side::A, Side::B].map(|side| letters_in_some_row(&stretches(table, side))),
         classes,
     }
+}
+
+/// "Two pieces are now the same only if their directions agree too": those of each stretch by
+/// their directions, which may be any numbers.
+fn distinct(table: &[u32]) -> usize {
+    let mut directions: BTreeMap<&[u32], BTreeSet<u32>> = BTreeMap::new();
+    for row in rows(table) {
+        directions.entry(&row[1..4]).or_default().insert(row[4]);
+    }
+    directions.values().map(BTreeSet::len).sum()
 }
 
 /// The letters of each row, whatever its direction.

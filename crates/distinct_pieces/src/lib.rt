@@ -77,8 +77,9 @@ fn stir_in(pool: Pool, first: Row, second: Row) -> Pool {
     let one = (first.left_a as u64) << 32 | first.left_b as u64;
     let two = (second.left_a as u64) << 32 | second.left_b as u64;
     let lengths = (first.length as u64) << 32 | second.length as u64;
+    let directions = (first.direction as u64) << 32 | second.direction as u64;
     let stirred = stir(Pool {
-        a: pool.a,
+        a: pool.a ^ directions,
         b: pool.b ^ lengths,
         c: pool.c ^ two,
         d: pool.d ^ one,
@@ -87,7 +88,7 @@ fn stir_in(pool: Pool, first: Row, second: Row) -> Pool {
         a: stirred.a ^ one,
         b: stirred.b ^ two,
         c: stirred.c ^ lengths,
-        d: stirred.d,
+        d: stirred.d ^ directions,
     }
 }
 
@@ -120,6 +121,7 @@ fn drawn_dealing(table: &[u32], attempt: u64, shares: u32, homes: u32) -> Dealin
         left_a: (pool.a >> 32) as u32,
         left_b: (pool.b >> 32) as u32,
         length: (pool.c >> 32) as u32,
+        direction: (pool.d >> 32) as u32,
         shares,
         homes,
     }

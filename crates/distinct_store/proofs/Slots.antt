@@ -36,7 +36,7 @@ same-spot : (by : Dealing) (r s : Row) → same r s ≡ true → spot by r ≡ s
 unfolding spot mixed summed
 same-spot by r s e =
     let f = same-fields r s e in
-    rw (f .left-a, f .left-b, f .letters)
+    rw (f .left-a, f .left-b, f .letters, f .direction)
 
 pub same-share : (by : Dealing) (r s : Row) → same r s ≡ true → shareOf by r ≡ shareOf by s
 same-share by r s e = rw (same-spot by r s e)

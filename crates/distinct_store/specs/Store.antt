@@ -1,5 +1,5 @@
 -- How the count of distinct pieces looks a piece up.
---     summed by r                       the piece's three numbers, each times its factor, added up
+--     summed by r                       the piece's four numbers, each times its factor, added up
 --     folded x                          the two halves of x joined, below 2^32
 --     scattered x                       another number for each x, below 2^32 as x is
 --     mixed by r                        the sum folded and scattered: what a piece is dealt by
@@ -33,10 +33,12 @@ use Rattle.distinct_store.specs.declared.Sought.{Sought}
 use Rattle.distinct_store.specs.declared.Enrolled.{Enrolled}
 use Rattle.distinct_store.specs.declared.Counting.{Counting}
 
--- the sum of a piece's three numbers, each times its factor
+-- the sum of a piece's four numbers, each times its factor
 unfoldable pub summed : Dealing → Row → ℕ
 summed by r =
-    ((r .«left_a» * by .«left_a» + r .«left_b» * by .«left_b») % 2 ^ 64 + r .length * by .length) % 2 ^ 64
+    let lefts = (r .«left_a» * by .«left_a» + r .«left_b» * by .«left_b») % 2 ^ 64 in
+    let rest = (r .length * by .length + r .direction * by .direction) % 2 ^ 64 in
+    (lefts + rest) % 2 ^ 64
 
 -- the upper half on the lower one
 unfoldable pub folded : ℕ → ℕ

@@ -16,12 +16,13 @@ ghost use Rattle.distinct_store.specs.Store.{Seeking, Enrolling, Sharing
 // An odd number without a pattern in its bits.
 const MIXER: u32 = 0x9E37_79B1;
 
-// How rows are dealt: the factors of a piece's three numbers, how many shares there are, and how many slots of a store
+// How rows are dealt: the factors of a piece's four numbers, how many shares there are, and how many slots of a store
 // are homes.
 pub struct Dealing {
     pub left_a: u32,
     pub left_b: u32,
     pub length: u32,
+    pub direction: u32,
     pub shares: u32,
     pub homes: u32,
 }
@@ -55,7 +56,10 @@ pub fn same_piece(r: Row, s: Row) -> bool
     if r.left_b != s.left_b {
         return false;
     }
-    r.length == s.length
+    if r.length != s.length {
+        return false;
+    }
+    r.direction == s.direction
 }
 
 fn product(a: u32, b: u32) -> u64
@@ -71,7 +75,11 @@ fn sum_of(row: Row, by: Dealing) -> u64
         product(row.left_a, by.left_a),
         product(row.left_b, by.left_b),
     );
-    std::num::wrapping_add_u64(lefts, product(row.length, by.length))
+    let rest = std::num::wrapping_add_u64(
+        product(row.length, by.length),
+        product(row.direction, by.direction),
+    );
+    std::num::wrapping_add_u64(lefts, rest)
 }
 
 fn folded_of(x: u64) -> u32

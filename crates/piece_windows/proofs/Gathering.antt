@@ -23,8 +23,7 @@ use Rattle.piece_windows.specs.Windows.{inSpan, Rooms, Gathered, Roomier
 use Rattle.rows.specs.declared.Row.{Row}
 use Rattle.piece_windows.specs.declared.Span.{Span}
 use Rattle.piece_windows.specs.declared.Window.{Window}
-use Rattle.table.proofs.Pieces.{never-both, same-trans, occurs-passed}
-use Rattle.sorted_pieces.proofs.Order.{same-itself}
+use Rattle.table.proofs.Pieces.{never-both, same-itself, same-trans, occurs-passed}
 use Rattle.piece_windows.proofs.Parts.{rooms-kept}
 use Rattle.piece_windows.proofs.Spans.{in-span-same}
 

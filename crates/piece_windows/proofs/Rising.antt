@@ -20,8 +20,8 @@ use Rattle.table.specs.Summing.{total, count}
 use Rattle.sorted_pieces.specs.Order.{pieceAt, Rising, Among}
 use Rattle.rows.specs.declared.Row.{Row}
 use Rattle.table.proofs.Counting.{count-joined, count-no-one}
-use Rattle.table.proofs.Pieces.{never-both, bool-same, same-sym, occurs-at, occurs-same}
-use Rattle.sorted_pieces.proofs.Order.{same-itself, before-same, before-not-same}
+use Rattle.table.proofs.Pieces.{never-both, bool-same, same-itself, same-sym, occurs-at, occurs-same}
+use Rattle.sorted_pieces.proofs.Order.{before-same, before-not-same}
 
 -- ---- one first row for each piece
 

@@ -15,8 +15,8 @@ use Rattle.sorted_pieces.specs.Order.{before, pieceAt, Among, Sorted}
 use Rattle.piece_windows.specs.Windows.{inSpan, Gathered, Roomier}
 use Rattle.rows.specs.declared.Row.{Row}
 use Rattle.piece_windows.specs.declared.Span.{Span}
-use Rattle.table.proofs.Pieces.{same-sym}
-use Rattle.sorted_pieces.proofs.Order.{same-itself, before-same, same-before, before-trans}
+use Rattle.table.proofs.Pieces.{same-itself, same-sym}
+use Rattle.sorted_pieces.proofs.Order.{before-same, same-before, before-trans}
 use Rattle.sorted_pieces.proofs.Order.{before-not-same, before-not-after}
 use Rattle.piece_windows.proofs.Spans.{span-start, span-end, span-is}
 

@@ -10,7 +10,7 @@ use Rattle.sorted_pieces.specs.Order.{before}
 use Rattle.piece_windows.specs.Windows.{inSpan}
 use Rattle.rows.specs.declared.Row.{Row}
 use Rattle.piece_windows.specs.declared.Span.{Span}
-use Rattle.table.proofs.Pieces.{same-fields}
+use Rattle.table.proofs.Pieces.{same-numbers}
 
 first-test : (a c b : Bool) → (not a && (not c || b)) ≡ true → a ≡ false
 first-test true c b e = absurd (false≢true e)
@@ -42,6 +42,4 @@ module _ (span : Span) (r : Row) where
 
 pub in-span-same : (span : Span) (r s : Row) → same r s ≡ true → inSpan span r ≡ inSpan span s
 unfolding inSpan before
-in-span-same span r s e =
-    let f = same-fields r s e in
-    rw (f .left-a, f .left-b, f .letters)
+in-span-same span r s e = rw (same-numbers r s e)

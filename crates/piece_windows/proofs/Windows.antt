@@ -2,7 +2,7 @@
 --     sorted-counts, sorted-spanned     a window's numbers, once they are sorted, are as many as its pieces
 --     Sized numbers spare               the lengths of the two arrays
 --     Passed rs from found              the pieces before `from` are counted
---     passed-starts                     none before three zeros
+--     passed-starts                     none before four zeros
 --     passed-more, passed-less          after a closed window, and there is less to do
 --     passed-all                        after a window that is not closed
 --     passed-bound                      no more pieces than rows
@@ -12,9 +12,9 @@ use mathlib.Core.Bool.{Bool, true, false, not, Bool·not-not}
 use mathlib.Core.Path.{_≡_, refl, sym, ap, _∙_}
 use mathlib.Core.List.{List, []}
 use native.Mathlib.Omega.{arith}
-use lib.ListN.{length, take}
+use lib.ListN.{length, take, replicate}
 use lib.Seq.{take-length}
-use Rattle.table.specs.Distinct.{firstOfEach}
+use Rattle.table.specs.Distinct.{firstOfEach, pieceOf}
 use Rattle.table.specs.Summing.{count}
 use Rattle.sorted_pieces.specs.Order.{before, Sorted}
 use Rattle.piece_windows.specs.Windows.{inSpan, Spanned, Gathered, Counted}
@@ -58,10 +58,9 @@ pub record Sized (numbers spare : List ℕ) : Type 0 where
 pub record Passed (rs : List Row) (from : Row) (found : ℕ) : Type 0 where
   pub counted : found ≡ count (λ r. before r from) (firstOfEach rs)
 
-pub passed-starts : (rs : List Row) (from : Row) → from .«left_a» ≡ 0 → from .«left_b» ≡ 0 → from .length ≡ 0
-    → Passed rs from 0
-passed-starts rs from a b l =
-    let none = count-agrees (λ r. before r from) false (λ r. nothing-before r from a b l) (firstOfEach rs) in
+pub passed-starts : (rs : List Row) (from : Row) → pieceOf from ≡ replicate 4 0 → Passed rs from 0
+passed-starts rs from zeros =
+    let none = count-agrees (λ r. before r from) false (λ r. nothing-before r from zeros) (firstOfEach rs) in
     record { counted = sym (none ∙ count-no-one (firstOfEach rs)) }
 
 turned : {b d : Bool} → not b ≡ d → b ≡ not d

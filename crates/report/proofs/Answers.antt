@@ -18,9 +18,9 @@ use Rattle.refine.proofs.Calls.{refining-met}
 use Rattle.brief_report.proofs.Trying.{rows-room}
 use Rattle.reporting.specs.Reporting.{lentRows, lentTable, lentWork, reportOf, reportOfReply, reportOfRefining}
 use Rattle.reporting.specs.Reporting.{Reporting, reportingOfText, reportingOf, Briefly}
-use Rattle.reporting.specs.Covers.{CoversPrinted}
+use Rattle.reporting.specs.LineTwo.{LineTwoPrinted}
 use Rattle.reporting.specs.declared.Reported.{Reported}
-use Rattle.reporting.proofs.Own.{covers-printed}
+use Rattle.reporting.proofs.Own.{line-two-printed}
 use Rattle.reporting.specs.declared.Brief.{Brief}
 
 report-admits :
@@ -53,19 +53,19 @@ report-refined script text p q count admits t w refined e printed =
     let told = ap₂ (reportOfReply p q count) wrote (sym e ∙ replied) in
     ap (λ (b : List ℕ). reportingOfText b text) (report-admits script admits ∙ sym (told ∙ lent)) ∙ printed
 
--- the reply and the text, by what they are together, and what line two then ends in
+-- the reply and the text, by what they are together, and what line two then says
 reported : (script text : List ℕ) {r : Reported} {text′ : List ℕ}
     → reportingOf script text ≡ record { reply = r; text = text′ }
-    → (r ≡ reportingOf script text .reply) × ((text′ ≡ reportingOf script text .text) × CoversPrinted script r text′)
+    → (r ≡ reportingOf script text .reply) × ((text′ ≡ reportingOf script text .text) × LineTwoPrinted script r text′)
 reported script text e =
     let replied = ap (λ (y : Reporting). y .reply) e in
     let wrote = ap (λ (y : Reporting). y .text) e in
-    (sym replied, (sym wrote, rw (← replied, ← wrote) (covers-printed script text)))
+    (sym replied, (sym wrote, rw (← replied, ← wrote) (line-two-printed script text)))
 
 pub brief-reported :
     (script text text′ : List ℕ) {answer : Brief} {r : Reported} → answer ≡ Brief.Answered r
     → Briefly script text text′ answer
-    → (r ≡ reportingOf script text .reply) × ((text′ ≡ reportingOf script text .text) × CoversPrinted script r text′)
+    → (r ≡ reportingOf script text .reply) × ((text′ ≡ reportingOf script text .text) × LineTwoPrinted script r text′)
 brief-reported script text text′ e tried = reported script text (subst (Briefly script text text′) e tried)
 
 pub brief-admits :
@@ -79,7 +79,7 @@ pub large-reported :
     → answer ≡ Brief.Larger p q count
     → Briefly script text text′ answer
     → reportingOf script text′ ≡ record { reply = r; text = text″ }
-    → (r ≡ reportingOf script text .reply) × ((text″ ≡ reportingOf script text .text) × CoversPrinted script r text″)
+    → (r ≡ reportingOf script text .reply) × ((text″ ≡ reportingOf script text .text) × LineTwoPrinted script r text″)
 large-reported script text text′ e tried printed =
     let kept = subst (Briefly script text text′) e tried .1 in
     reported script text (ap (reportingOf script) (sym kept) ∙ printed)

@@ -10,7 +10,7 @@ use rows::ROW_WIDTH;
 ghost use mathlib.Core.Path.{_≡_};
 ghost use Rattle.script.specs.Reading.{readScript, verdictOf};
 ghost use Rattle.script.specs.declared.Verdict.the-variants.{Admitted};
-ghost use Rattle.reporting.specs.Covers.{CoversPrinted};
+ghost use Rattle.reporting.specs.LineTwo.{LineTwoPrinted};
 ghost use Rattle.reporting.specs.Reporting.{lentTable, lentWork, reportingOf};
 
 // The rows of the table that the program lends.
@@ -48,7 +48,7 @@ fn report_admitted(script: &[u8], p: u32, q: u32, count: usize, text: &mut [u8])
 pub fn report(script: &[u8], text: &mut [u8]) -> Reported
     ensures reply { λ r. ⌜ r ≡ reportingOf (now (script .entry)) (now (text .entry)) .reply ⌝ }
     ensures text { λ _. ⌜ now (text .exit) ≡ reportingOf (now (script .entry)) (now (text .entry)) .text ⌝ }
-    ensures covers { λ r. ⌜ CoversPrinted (now (script .entry)) r (now (text .exit)) ⌝ }
+    ensures line_two { λ r. ⌜ LineTwoPrinted (now (script .entry)) r (now (text .exit)) ⌝ }
 {
     match report_brief(script, text) {
         Brief::Answered(reply) => reply,

@@ -3,7 +3,8 @@
 --     covers-kept        so the letters covered are those in at least one match, each counted once
 --     pieces-counted     its pieces are the rows counted
 --     classes-full       and each of them is in a class
---     line-two, covers-printed     line two of the text ends in the numbers of these letters, also in a lent buffer
+--     line-two, line-two-printed     line two of the text has the number of distinct pieces, and ends in the numbers of
+--                                    these letters, also in a lent buffer
 -- Assumes nothing.
 use Prim.Native.Nat.{ℕ, suc, _*_, _^_, _≤_}
 use mathlib.Core.Path.{_≡_, refl, sym, ap, _∙_}
@@ -33,6 +34,7 @@ use Rattle.rows.specs.Rows.{rowWidth, rowsOf}
 use Rattle.table.specs.Covering.{coverOf, CountedOnce, InStretch, Covered}
 use Rattle.table.specs.Summing.{total, count, classCount, summaryOf, summaryOfRows}
 use Rattle.rows.specs.declared.Row.{Row}
+use Rattle.table.proofs.OneOfEach.{distinct-counted}
 use Rattle.table.proofs.Covers.{cover-counted, counted-alike}
 use Rattle.table.proofs.Laws.{sumOf, between, classes-sum}
 use Rattle.refining.specs.Rows.{rowOfPiece}
@@ -43,7 +45,7 @@ use Rattle.reporting.specs.Lines.{lengthsLine, summaryLine, rowLines, cl
 use Rattle.reporting.specs.Reporting.{lentRows, lentTable, lentWork, reportOf}
 use Rattle.reporting.specs.Reporting.{reportingOfText, reportingOf}
 use Rattle.reporting.specs.declared.Reported.the-variants.{Printed, TextTooShort}
-use Rattle.reporting.specs.Covers.{Matched, LineTwo, CoversPrinted}
+use Rattle.reporting.specs.LineTwo.{Matched, LineTwo, LineTwoPrinted}
 use Rattle.reporting.proofs.LeastRows.{LeastRows, least-rows, report-rows}
 use Rattle.reporting.proofs.Lent.{lent-rows}
 
@@ -173,6 +175,7 @@ module _ (script : List ℕ) {p q : ℕ} {ms : List ScriptMatch} (read : readScr
             (report-rows p q (length ms) (givenBy ms) lentTable lentWork (omega (arith, lent-rows))
             (omega (arith, lent-rows .0))
             ∙ append-assoc (lengthsLine p q ++ summaryLine (length ms) s) (rowLines rows) (classLines 0 (s .classes)));
+        counted-different = distinct-counted rows;
         counted-a = matched-counted A;
         counted-b = matched-counted B;
       }
@@ -194,9 +197,9 @@ printed-whole printed text {n} e =
     other : TextTooShort (length printed) ≡ Printed n → ⊥
     other e = let z : _≡_ {A = ℕ} 0 1 = cc in omega arith
 
-pub covers-printed : (script text : List ℕ)
-    → CoversPrinted script (reportingOf script text .reply) (reportingOf script text .text)
-covers-printed script text =
+pub line-two-printed : (script text : List ℕ)
+    → LineTwoPrinted script (reportingOf script text .reply) (reportingOf script text .text)
+line-two-printed script text =
     record {
-      covers = λ replied read room. rw (printed-whole (reportOf script) text replied) (line-two script read room);
+      line-two = λ replied read room. rw (printed-whole (reportOf script) text replied) (line-two script read room);
     }

@@ -1,3 +1,3 @@
 pub mod Lines
 pub mod Reporting
-pub mod Covers
+pub mod LineTwo

@@ -12,6 +12,7 @@ ghost use Prim.Native.Nat.{ℕ, _<_};
 ghost use lib.Dec.{eqb};
 ghost use Rattle.refinement.specs.declared.Side.{Side};
 ghost use Rattle.rows.specs.Rows.{rowsOf};
+ghost use Rattle.table.specs.Distinct.{DistinctPieces};
 ghost use Rattle.table.specs.Covering.{coverOf, LettersOnce};
 ghost use Rattle.table.specs.Summing.{classCount, lengthInClass, classesOf, summaryOf};
 
@@ -58,6 +59,7 @@ fn count_covers(table: &[u32]) -> [u64; 2]
 // The summary of a table.
 pub fn sum_up(table: &[u32]) -> Summary
     ensures summary { λ r. ⌜ r ≡ summaryOf (now (table .entry)) ⌝ }
+    ensures distinct { λ r. ⌜ DistinctPieces (rowsOf (now (table .entry))) (r .distinct) ⌝ }
     ensures covers { λ r. ⌜ LettersOnce (rowsOf (now (table .entry))) (r .covers) ⌝ }
 {
     Summary {

@@ -5,4 +5,6 @@ pub mod Tally
 pub mod Covers
 pub mod Sums
 pub mod Laws
+pub mod OneOfEach
+pub mod WrongCounts
 pub mod Examples

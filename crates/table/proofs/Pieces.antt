@@ -2,8 +2,10 @@
 --     false-of, never-both, bool-same         a test is false where it cannot be true, and never both; equal tests
 --     and-left, and-right, or-right, or-cases     two tests joined
 --     or-turned                               three, in another order
---     SamePiece, same-fields, fields-same     the test for the same piece is equality of its three numbers
---     same-sym, same-trans                    whichever comes first, and through a third row
+--     same-fields, fields-same                the test for the same piece is equality field by field ..
+--     piece-numbers, numbers-piece            .. and so of all numbers of a row but its match number
+--     same-numbers, numbers-same              the same of the test
+--     same-itself, same-sym, same-trans       of itself, whichever comes first, and through a third row
 --     occurs-at, occurs-where                 a piece occurs in a list where some row is that piece
 --     occurs-before                           the same of the first k rows
 --     occurs-same                             with a piece occur all that are the same
@@ -19,11 +21,11 @@ use mathlib.Core.List.{List, [], _∷_, _++_, append-nil}
 use native.Mathlib.Omega.{arith}
 use native.Mathlib.Nat.{le-of-suc-le-suc, not-suc-le-zero}
 use borrow.Author.Tests.{eq-eqb, eqb-true}
-use lib.ListN.{length, take}
+use lib.ListN.{length, getD, take}
 use lib.Dec.{eqb}
 use lib.Seq.{length-take-le, getD-take}
 use Rattle.rows.specs.Rows.{rowOf, rowAt}
-use Rattle.table.specs.Distinct.{same, occurs, firstsAfter, firstOfEach}
+use Rattle.table.specs.Distinct.{same, occurs, firstsAfter, firstOfEach, pieceOf, SamePiece}
 use Rattle.rows.specs.declared.Row.{Row}
 use Rattle.rows.proofs.TableRows.{take-more}
 
@@ -67,42 +69,52 @@ bool-same false b f g = sym (false-of b (λ e. never-both (g e) refl))
 
 -- ---- the same piece
 
-pub record SamePiece (r s : Row) : Type 0 where
-  pub left-a : r .«left_a» ≡ s .«left_a»
-  pub left-b : r .«left_b» ≡ s .«left_b»
-  pub letters : r .length ≡ s .length
-
 pub same-fields : (r s : Row) → same r s ≡ true → SamePiece r s
 same-fields r s e =
-    let a = eqb (r .«left_a») (s .«left_a») in
-    let b = eqb (r .«left_b») (s .«left_b») in
-    let d = eqb (r .length) (s .length) in
-    let behind = and-right a (b && d) e in
+    let behind-a = and-right (eqb (r .«left_a») (s .«left_a»)) _ e in
+    let behind-b = and-right (eqb (r .«left_b») (s .«left_b»)) _ behind-a in
     record {
-      left-a = eqb-true (r .«left_a») (s .«left_a») (and-left a (b && d) e);
-      left-b = eqb-true (r .«left_b») (s .«left_b») (and-left b d behind);
-      letters = eqb-true (r .length) (s .length) (and-right b d behind);
+      left-a = eqb-true _ _ (and-left _ _ e);
+      left-b = eqb-true _ _ (and-left _ _ behind-a);
+      letters = eqb-true _ _ (and-left _ _ behind-b);
+      direction = eqb-true _ _ (and-right (eqb (r .length) (s .length)) _ behind-b);
     }
 
 pub fields-same : (r s : Row) → SamePiece r s → same r s ≡ true
 fields-same r s h =
     rw (
-      eq-eqb (r .«left_a») (s .«left_a») (h .left-a),
-      eq-eqb (r .«left_b») (s .«left_b») (h .left-b),
-      eq-eqb (r .length) (s .length) (h .letters),
+      eq-eqb _ _ (h .left-a),
+      eq-eqb _ _ (h .left-b),
+      eq-eqb _ _ (h .letters),
+      eq-eqb _ _ (h .direction),
     )
 
+pub piece-numbers : (r s : Row) → SamePiece r s → pieceOf r ≡ pieceOf s
+piece-numbers r s h = rw (h .left-a, h .left-b, h .letters, h .direction)
+
+pub numbers-piece : (r s : Row) → pieceOf r ≡ pieceOf s → SamePiece r s
+numbers-piece r s e =
+    record {
+      left-a = ap (λ (ns : List ℕ). getD ns 0 0) e;
+      left-b = ap (λ (ns : List ℕ). getD ns 1 0) e;
+      letters = ap (λ (ns : List ℕ). getD ns 2 0) e;
+      direction = ap (λ (ns : List ℕ). getD ns 3 0) e;
+    }
+
+pub same-numbers : (r s : Row) → same r s ≡ true → pieceOf r ≡ pieceOf s
+same-numbers r s e = piece-numbers r s (same-fields r s e)
+
+pub numbers-same : (r s : Row) → pieceOf r ≡ pieceOf s → same r s ≡ true
+numbers-same r s e = fields-same r s (numbers-piece r s e)
+
+pub same-itself : (r : Row) → same r r ≡ true
+same-itself r = numbers-same r r refl
+
 pub same-trans : (q r s : Row) → same q r ≡ true → same r s ≡ true → same q s ≡ true
-same-trans q r s e e′ =
-    let f = same-fields q r e in
-    let g = same-fields r s e′ in
-    fields-same q s
-    (record { left-a = f .left-a ∙ g .left-a; left-b = f .left-b ∙ g .left-b; letters = f .letters ∙ g .letters })
+same-trans q r s e e′ = numbers-same q s (same-numbers q r e ∙ same-numbers r s e′)
 
 pub same-sym : (r s : Row) → same r s ≡ true → same s r ≡ true
-same-sym r s e =
-    let f = same-fields r s e in
-    fields-same s r (record { left-a = sym (f .left-a); left-b = sym (f .left-b); letters = sym (f .letters) })
+same-sym r s e = numbers-same s r (sym (same-numbers r s e))
 
 -- ---- a piece among rows
 

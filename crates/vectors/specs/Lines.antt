@@ -1,6 +1,6 @@
 -- 01's lines marked M as one table, and with them lines for what 01 says with numbers but does not mark: each refusal's
 -- number and place, the order of a number's bytes, the limits, which classes are printed, where a position is carried,
--- and for lists and the backbone what 02 says of them.
+-- and for lists, distinct pieces and the backbone what 02 says of them.
 -- TO READ beside 01, "Small scripts at the edges", "Refused scripts and calls" and "One run, complete". All bytes are
 -- written out: the table says by itself in which order a number's bytes stand and how a number is printed.
 --     lines               the table; `specs/Kinds` has the kinds of lines
@@ -85,7 +85,7 @@ runRows =
     ∷ []
 
 abbrev runPieces : Expected
-runPieces = pieces runRows 7
+runPieces = pieces runRows 8
 
 -- the text of the run above, letter by letter
 abbrev runText : List ℕ
@@ -93,9 +93,9 @@ runText =
     flat
     -- lengths 10 10
     ((108 ∷ 101 ∷ 110 ∷ 103 ∷ 116 ∷ 104 ∷ 115 ∷ 32 ∷ 49 ∷ 48 ∷ 32 ∷ 49 ∷ 48 ∷ 10 ∷ [])
-    -- matches 2 pieces 8 distinct 7 covers 7 8
+    -- matches 2 pieces 8 distinct 8 covers 7 8
     ∷ (109 ∷ 97 ∷ 116 ∷ 99 ∷ 104 ∷ 101 ∷ 115 ∷ 32 ∷ 50 ∷ 32 ∷ 112 ∷ 105 ∷ 101 ∷ 99 ∷ 101 ∷ 115 ∷ 32 ∷ 56 ∷ 32
-    ∷ 100 ∷ 105 ∷ 115 ∷ 116 ∷ 105 ∷ 110 ∷ 99 ∷ 116 ∷ 32 ∷ 55 ∷ 32 ∷ 99 ∷ 111 ∷ 118 ∷ 101 ∷ 114 ∷ 115
+    ∷ 100 ∷ 105 ∷ 115 ∷ 116 ∷ 105 ∷ 110 ∷ 99 ∷ 116 ∷ 32 ∷ 56 ∷ 32 ∷ 99 ∷ 111 ∷ 118 ∷ 101 ∷ 114 ∷ 115
     ∷ 32 ∷ 55 ∷ 32 ∷ 56 ∷ 10 ∷ [])
     -- 1 0 0 2 +
     ∷ (49 ∷ 32 ∷ 48 ∷ 32 ∷ 48 ∷ 32 ∷ 50 ∷ 32 ∷ 43 ∷ 10 ∷ [])
@@ -172,7 +172,7 @@ anything =
     ((4 ∷ 10 ∷ 20 ∷ 8 ∷ 7 ∷ [])
     ∷ (2 ∷ 0 ∷ 0 ∷ 1 ∷ 0 ∷ [])
     ∷ (2 ∷ 5 ∷ 6 ∷ 0 ∷ 7 ∷ [])
-    ∷ (9 ∷ 10 ∷ 20 ∷ 8 ∷ 1 ∷ [])
+    ∷ (9 ∷ 10 ∷ 20 ∷ 8 ∷ 7 ∷ [])
     ∷ (2 ∷ 0 ∷ 0 ∷ 4294967295 ∷ 0 ∷ [])
     ∷ (2 ∷ 0 ∷ 7 ∷ 1073741824 ∷ 0 ∷ [])
     ∷ (0 ∷ 3 ∷ 7 ∷ 1073741823 ∷ 7 ∷ [])
@@ -222,12 +222,12 @@ lines =
       work = 8;
       expected = pieces ((1 ∷ 0 ∷ 0 ∷ 4 ∷ 0 ∷ []) ∷ (2 ∷ 0 ∷ 0 ∷ 4 ∷ 0 ∷ []) ∷ []) 1;
     })
-    -- the same lengths, direct 0 0 4 and reversed 0 0 4: 2 pieces, 1 distinct
+    -- the same lengths, direct 0 0 4 and reversed 0 0 4: 2 pieces, 2 distinct
     ∷ refines (record {
       script = lengths 4 4 ++ direct 0 0 4 ++ backward 0 0 4 ++ end;
       table = 10;
       work = 8;
-      expected = pieces ((1 ∷ 0 ∷ 0 ∷ 4 ∷ 0 ∷ []) ∷ (2 ∷ 0 ∷ 0 ∷ 4 ∷ 1 ∷ []) ∷ []) 1;
+      expected = pieces ((1 ∷ 0 ∷ 0 ∷ 4 ∷ 0 ∷ []) ∷ (2 ∷ 0 ∷ 0 ∷ 4 ∷ 1 ∷ []) ∷ []) 2;
     })
     -- lengths 5 5, direct 0 0 4, direct 0 1 4: 8 pieces of length 1; one round of carrying would miss some
     ∷ refines (record {
@@ -456,6 +456,14 @@ lines =
     -- the summary of the same: seven rows, two of them the same piece, three in no class; classes 0, 3 and 29
     ∷ sums anything 7 6 4294967295 4294967295
     (flat ((1 ∷ 0 ∷ 0 ∷ 2 ∷ []) ∷ replicate 25 0 ∷ (1 ∷ []) ∷ []))
+    -- a stretch and its mirror image are two pieces
+    ∷ sums (flat ((1 ∷ 0 ∷ 0 ∷ 4 ∷ 0 ∷ []) ∷ (1 ∷ 0 ∷ 0 ∷ 4 ∷ 1 ∷ []) ∷ [])) 2 2 4 4 (0 ∷ 0 ∷ 2 ∷ replicate 27 0)
+    -- directions are compared as numbers, not as zero and not zero
+    ∷ sums
+    (flat ((1 ∷ 0 ∷ 0 ∷ 4 ∷ 2 ∷ []) ∷ (1 ∷ 0 ∷ 0 ∷ 4 ∷ 3 ∷ []) ∷ (1 ∷ 0 ∷ 0 ∷ 4 ∷ 4294967295 ∷ []) ∷ []))
+    3 3 4 4 (0 ∷ 0 ∷ 3 ∷ replicate 27 0)
+    -- match numbers are not compared
+    ∷ sums (flat ((1 ∷ 0 ∷ 0 ∷ 4 ∷ 3 ∷ []) ∷ (2 ∷ 0 ∷ 0 ∷ 4 ∷ 3 ∷ []) ∷ [])) 2 1 4 4 (0 ∷ 0 ∷ 2 ∷ replicate 27 0)
     -- of no row at all
     ∷ sums (1 ∷ 0 ∷ 0 ∷ 2 ∷ []) 0 0 0 0 (replicate 30 0)
     -- letters counted once: a row of 4 letters, one within it on A and behind it on B, one that touches, one of none

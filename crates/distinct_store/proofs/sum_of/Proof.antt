@@ -19,6 +19,12 @@ product-requires-3 c κs = search needs
 wrapping-add-u64-requires-2 : tie.Need-wrapping-add-u64-requires-2
 wrapping-add-u64-requires-2 c κs = search needs
 
+product-requires-4 : tie.Need-product-requires-4
+product-requires-4 c κs = search needs
+
+wrapping-add-u64-requires-3 : tie.Need-wrapping-add-u64-requires-3
+wrapping-add-u64-requires-3 c κs = search needs
+
 returns : tie.Need-returns
 unfolding summed
 returns c = cc
@@ -31,5 +37,7 @@ sum-of-spec =
     product-requires-2
     wrapping-add-u64-requires
     product-requires-3
+    product-requires-4
     wrapping-add-u64-requires-2
+    wrapping-add-u64-requires-3
     returns)

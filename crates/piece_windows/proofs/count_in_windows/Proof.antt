@@ -21,7 +21,7 @@ abbrev μ-loop : tie.MeasureT-loop
 μ-loop table numbers₀ spare₀ from₀ found₀ numbers spare from found = length (firstOfEach (rowsOf table)) - found
 
 loop-holds : tie.Need-loop-holds Inv-loop μ-loop
-loop-holds c = (record { numbers-room = search needs; spare-room = search needs }, passed-starts _ _ refl refl refl)
+loop-holds c = (record { numbers-room = search needs; spare-room = search needs }, passed-starts _ _ refl)
 
 slice-aggregate-count-window : tie.Need-slice-aggregate-count-window Inv-loop μ-loop
 slice-aggregate-count-window c = search needs

@@ -1,6 +1,7 @@
--- `sum_up` meets its contract: each field is what its call counts, and what is worked out by hand counts each letter
--- once. Assumes nothing.
+-- `sum_up` meets its contract: each field is what its call counts, first rows are as many as one row of each piece, and
+-- what is worked out by hand counts each letter once. Assumes nothing.
 use borrow.Author.Needs.{needs}
+use Rattle.table.proofs.OneOfEach.{distinct-counted}
 use Rattle.table.proofs.Covers.{letters-once}
 use Rattle.summary.proofs.sum_up.Statement.{statement}
 use Rattle.summary.proofs.sum_up.Tie as tie
@@ -19,8 +20,14 @@ count-classes-requires c κs = search needs
 
 returns : tie.Need-returns
 returns c =
-    let covered : tie.After-count-covers = search in
-    (cc, rw (covered .count-covers .ensures) (letters-once _))
+    let counted : tie.After-count-distinct = search in
+    let covered : tie.After-count-covers = search in (
+      cc,
+      (
+        rw (counted .count-distinct .ensures) (distinct-counted _),
+        rw (covered .count-covers .ensures) (letters-once _),
+      ),
+    )
 
 pub sum-up-spec : {M : Type 1} → statement M
 sum-up-spec =

@@ -1,11 +1,12 @@
--- What the last two numbers of line two are, in a text that has a table. TO READ: contracts mean what stands here.
+-- What the last three numbers of line two are, in a text that has a table. TO READ: contracts mean what stands here.
 --     Matched s ms h           the letter behind the position h is in at least one match, on the side s
---     LineTwo p q ms text      line two ends in "covers" and the numbers of such letters, for A and for B
---     CoversPrinted            what the call that makes the text promises of it
--- 02, #102. Assumes nothing.
+--     LineTwo p q ms text      line two has "distinct" and the number of distinct pieces, and ends in "covers" and the
+--                              numbers of such letters, for A and for B
+--     LineTwoPrinted           what the call that makes the text promises of it
+-- 02, #102 and #105. Assumes nothing.
 use Prim.Native.Nat.{ℕ, _+_, _≤_, _<_}
 use mathlib.Core.Path.{_≡_}
-use mathlib.Core.List.{List, [], _∷_, _++_}
+use mathlib.Core.List.{List, [], _∷_, _++_, map}
 use lib.ListN.{length, take}
 use Rattle.script.specs.Reading.{admitted, readScript}
 use Rattle.script.specs.declared.command.Match.{Match as ScriptMatch}
@@ -13,8 +14,10 @@ use Rattle.refinement.specs.declared.Side.{Side}
 use Rattle.refinement.specs.declared.Side.the-variants.{A, B}
 use Rattle.refinement.specs.Match.{onSide}
 use Rattle.refinement.specs.Order.{_∈_}
+use Rattle.table.specs.Distinct.{DistinctPieces}
 use Rattle.table.specs.Covering.{CountedOnce}
 use Rattle.text.specs.Decimal.{decimal}
+use Rattle.refining.specs.Rows.{rowOfPiece}
 use Rattle.refining.specs.Refining.{givenBy, leastOf}
 use Rattle.reporting.specs.Lines.{matches, pieces, distinct, covers, line, lengthsLine}
 use Rattle.reporting.specs.Reporting.{lentRows}
@@ -27,7 +30,7 @@ pub record Matched (s : Side) (ms : List ScriptMatch) (h : ℕ) : Type 0 where
   pub from-left : onSide s (which .«left_a») (which .«left_b») ≤ h
   pub before-right : h < onSide s (which .«left_a») (which .«left_b») + which .length
 
--- SCOPE, "Text": line two ends in `covers` and two numbers, for A and for B
+-- SCOPE, "Text": line two has `distinct` and a number, and ends in `covers` and two numbers, for A and for B
 pub record LineTwo (p q : ℕ) (ms : List ScriptMatch) (text : List ℕ) : Type 0 where
   pub all : ℕ
   pub different : ℕ
@@ -37,10 +40,11 @@ pub record LineTwo (p q : ℕ) (ms : List ScriptMatch) (text : List ℕ) : Type 
   pub line-two : text ≡ lengthsLine p q
       ++ line (matches ∷ decimal (length ms) ∷ pieces ∷ decimal all ∷ distinct ∷ decimal different
       ∷ covers ∷ decimal on-a ∷ decimal on-b ∷ []) ++ below
+  pub counted-different : DistinctPieces (map rowOfPiece (leastOf (givenBy ms))) different
   pub counted-a : CountedOnce (Matched A ms) on-a
   pub counted-b : CountedOnce (Matched B ms) on-b
 
 -- the text of an admitted script whose pieces have room in the program's table
-pub record CoversPrinted (script : List ℕ) (reply : Reported) (text : List ℕ) : Type 0 where
-  pub covers : {n p q : ℕ} {ms : List ScriptMatch} → reply ≡ Reported.Printed n → readScript script ≡ admitted p q ms
+pub record LineTwoPrinted (script : List ℕ) (reply : Reported) (text : List ℕ) : Type 0 where
+  pub line-two : {n p q : ℕ} {ms : List ScriptMatch} → reply ≡ Reported.Printed n → readScript script ≡ admitted p q ms
       → length (leastOf (givenBy ms)) ≤ lentRows → LineTwo p q ms (take n text)
