@@ -32,6 +32,15 @@ fn piece(row: &[u32]) -> Piece {
     [row[1], row[2], row[3], row[4]]
 }
 
+// Few stretches in all, each piece with the direction that it had.
+fn share_stretches(random: &mut Random, pieces: &mut [Piece]) {
+    let few = pieces[..pieces.len().min(30)].to_vec();
+    for piece in pieces {
+        let [a, b, length, _] = random.one_of(&few);
+        *piece = [a, b, length, piece[3]];
+    }
+}
+
 // The greatest pieces where a sample looks: it then says that windows end too late.
 fn misleading(pieces: &mut Vec<Piece>) {
     pieces.sort();
@@ -54,6 +63,9 @@ fn table(random: &mut Random) -> (Vec<u32>, bool) {
         .collect();
     if random.any_bool() {
         pieces = (0..rows).map(|_| random.one_of(&pieces)).collect();
+    }
+    if random.any_bool() {
+        share_stretches(random, &mut pieces);
     }
     let order = random.between(0, 4);
     match order {

@@ -50,7 +50,7 @@ const KINDS_OF_TABLES: &[Need] = &[
     Need::kind(kinds::NESTED, 5_000, 30),
     Need::kind(kinds::EQUAL, 5_000, 50),
     Need::kind(kinds::DIRECTION_TELLS, 5_000, 30),
-    Need::kind(kinds::OTHER_DIRECTIONS, 5_000, 30),
+    Need::kind(kinds::OTHER_DIRECTIONS, 3_000, 30),
     Need::kind(kinds::NUMBER_MISLEADS, 5_000, 30),
     Need::kind(kinds::EMPTY_ROW, 5_000, 30),
     Need::kind(kinds::NOTHING_COVERED, 1_000, 20),
