@@ -58,7 +58,7 @@ Refinement refined(const uint8_t *script, size_t script_len) {
 
 }  // namespace
 
-// Returns the count of edges: one joins the stretch on A and the stretch on B of each distinct piece.
+// Returns the count of edges: one joins the stretch on A and the stretch on B of each piece, once for equal ones.
 extern "C" size_t seqan_refine(const uint8_t *script, size_t script_len) {
     return numEdges(refined(script, script_len));
 }

@@ -35,7 +35,7 @@ pub fn run(cases: &[Case]) {
     for case in cases.iter().filter(|case| case.capacity <= MOST_ROWS) {
         report(case);
     }
-    println!("SeqAn: matchRefinement. Its edges are the table's distinct pieces, in each case");
+    println!("SeqAn: matchRefinement. Its edges are the table's stretches, each once, in each case");
     println!("and in {} small scripts of many shapes.", small_scripts());
 }
 
@@ -88,22 +88,23 @@ fn counts_of_all(lent: &mut Lent, scripts: &[Vec<u8>]) -> Option<Vec<Counts>> {
 }
 
 /// None if the script is refused. An edge joins the two stretches of a piece, once however many
-/// matches have that piece: so the edges must be the distinct pieces.
+/// matches have them, direct or reversed: so the edges must be the pieces that differ in their
+/// stretches.
 fn counts_of(lent: &mut Lent, script: &[u8]) -> Option<Counts> {
     if lent.refine(script) != 0 {
         return None;
     }
     let rows = lent.numbers.rows;
     let table = &lent.table[..rows * NUMBERS_OF_A_ROW];
-    let pieces: BTreeSet<Edge> = table
+    let stretches: BTreeSet<Edge> = table
         .chunks_exact(NUMBERS_OF_A_ROW)
         .map(|row| [row[1], row[2], row[3], row[3]].map(|number| number as usize))
         .collect();
-    let mut lent_edges = vec![[0; 4]; pieces.len()];
+    let mut lent_edges = vec![[0; 4]; stretches.len()];
     let edges = edges(script, &mut lent_edges);
-    assert_eq!(edges, pieces.len(), "{script:?}");
+    assert_eq!(edges, stretches.len(), "{script:?}");
     assert!(
-        pieces.iter().eq(&BTreeSet::from_iter(lent_edges)),
+        stretches.iter().eq(&BTreeSet::from_iter(lent_edges)),
         "{script:?}"
     );
     Some(Counts { rows, edges })
