@@ -163,9 +163,9 @@ uint32_t notchergrey_rows_of(const uint32_t *table, size_t table_len, uint32_t n
  * stretch; in how many makes no difference. The stretch of a row is `length` letters from left-A on of A and from
  * left-B on of B, whatever its direction. The sum of left end and length does not wrap at 2^32, and a row of length 0
  * covers nothing. `covers` must point to two numbers and `classes` to thirty; all are set. Always returns 0. Hand over
- * the finished rows alone, as for notchergrey_rows_of. Of tables that notchergrey_refine made it took 0.003 s for
- * 100,000 rows and 0.16 s for 1,000,000 where it was measured; of rows that touch no other one, in an order not by
- * their left ends, 0.035 s and 1.9 s. From some 100,000 rows on its time grows with their square.
+ * the finished rows alone, as for notchergrey_rows_of. Of tables that notchergrey_refine made it took 0.005 s for
+ * 100,000 rows and 0.26 s for 1,000,000 where it was measured; of rows that touch no other one, in an order not by
+ * their left ends, 0.05 s and 2.2 s. From some 100,000 rows on its time grows with their square.
  */
 uint32_t notchergrey_summary(const uint32_t *table, size_t table_len, size_t *pieces, size_t *distinct,
                              uint64_t covers[2], size_t classes[NOTCHERGREY_CLASSES]);

@@ -76,9 +76,9 @@ pub fn rows_of(table: &[u32], number: u32) -> &[u32] {
 }
 
 /// Sums a table up. Of a table that was refined into a buffer, hand over the finished rows alone, as
-/// [`refine_into`](crate::refine_into) returns them. Of tables that were refined it took 0.003 s for 100,000 rows and
-/// 0.16 s for 1,000,000 where it was measured; of rows that touch no other one, in an order not by their left ends,
-/// 0.035 s and 1.9 s. From some 100,000 rows on its time grows with their square.
+/// [`refine_into`](crate::refine_into) returns them. Of tables that were refined it took 0.005 s for 100,000 rows and
+/// 0.26 s for 1,000,000 where it was measured; of rows that touch no other one, in an order not by their left ends,
+/// 0.05 s and 2.2 s. From some 100,000 rows on its time grows with their square.
 ///
 /// ```
 /// let summary = notchergrey::summary(&[1, 0, 3, 6, 0, 2, 0, 3, 6, 0, 3, 0, 3, 6, 1]);
