@@ -1,5 +1,6 @@
 -- The byte of a match command tells its direction, asked once for both or one after the other.
 --     match-command       a remainder whose first byte begins a match, by whether that is 52
+--     mark-command        one that begins with 4D
 --     end-command         one that begins with 45
 --     unknown-command     one whose first byte begins no command
 -- Assumes nothing.
@@ -12,7 +13,7 @@ use native.Mathlib.Decide.{ℕ-discrete}
 use borrow.Author.Tests.{eq-eqb, ne-eqb}
 use lib.Dec.{eqb}
 use lib.ListN.{length, getD}
-use Rattle.script.specs.Commands.{commandOf, matchOf, endOf}
+use Rattle.script.specs.Commands.{commandOf, matchOf, markOf, endOf}
 use Rattle.script.specs.declared.command.Command.{Command}
 use Rattle.script.specs.declared.command.Command.the-variants.{Unknown}
 
@@ -43,13 +44,20 @@ module _ (s : List ℕ) (some : length s ≢ 0) (later : getD s 0 0 ≢ 0x4C) {i
       rw (ne-eqb (length s) 0 some, ne-eqb (getD s 0 0) 0x4C later)
       (is ∙ ap (λ (b : Bool). matchOf b s) way ∙ sym (match-told (getD s 0 0) (λ b. matchOf b s) _ (sym asked ∙ told)))
 
-  neither : is-match ≡ false → commandOf s ≡ cond (eqb (getD s 0 0) 0x45) (endOf s) Unknown
+  neither : is-match ≡ false
+      → commandOf s ≡ cond (eqb (getD s 0 0) 0x4D) (markOf s) (cond (eqb (getD s 0 0) 0x45) (endOf s) Unknown)
   neither other =
       rw (ne-eqb (length s) 0 some, ne-eqb (getD s 0 0) 0x4C later)
       (other-told (getD s 0 0) (λ b. matchOf b s) _ (sym asked ∙ other))
 
-  pub end-command : {r : Command} → is-match ≡ false → getD s 0 0 ≡ 0x45 → r ≡ endOf s → r ≡ commandOf s
-  end-command other e is = rw (neither other, eq-eqb (getD s 0 0) 0x45 e) is
+  pub mark-command : {r : Command} → is-match ≡ false → getD s 0 0 ≡ 0x4D → r ≡ markOf s → r ≡ commandOf s
+  mark-command other e is = rw (neither other, eq-eqb (getD s 0 0) 0x4D e) is
 
-  pub unknown-command : is-match ≡ false → getD s 0 0 ≢ 0x45 → Unknown ≡ commandOf s
-  unknown-command other n = rw (neither other, ne-eqb (getD s 0 0) 0x45 n)
+  pub end-command : {r : Command} → is-match ≡ false → getD s 0 0 ≢ 0x4D → getD s 0 0 ≡ 0x45 → r ≡ endOf s
+      → r ≡ commandOf s
+  end-command other no-mark e is =
+      rw (neither other, ne-eqb (getD s 0 0) 0x4D no-mark, eq-eqb (getD s 0 0) 0x45 e) is
+
+  pub unknown-command : is-match ≡ false → getD s 0 0 ≢ 0x4D → getD s 0 0 ≢ 0x45 → Unknown ≡ commandOf s
+  unknown-command other no-mark n =
+      rw (neither other, ne-eqb (getD s 0 0) 0x4D no-mark, ne-eqb (getD s 0 0) 0x45 n)

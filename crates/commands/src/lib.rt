@@ -1,14 +1,17 @@
 // One command at the start of a remainder of the script: what stands there, without what it means for the script.
 use script::command::Command;
 use script::command::LENGTHS_WIDTH;
+use script::command::MARK_WIDTH;
 use script::command::MATCH_WIDTH;
+use script::command::Mark;
 use script::command::Match;
 ghost use mathlib.Core.Path.{_≡_};
 ghost use mathlib.Core.Bool.{_||_};
 ghost use Prim.Native.Nat.{_+_, _<_, _≤_};
 ghost use lib.Dec.{eqb};
 ghost use lib.ListN.{length};
-ghost use Rattle.script.specs.Commands.{matchWidth, numberAt, commandOf, lengthsOf, fieldsOf, matchOf, endOf, bitOf};
+ghost use Rattle.script.specs.Commands.{matchWidth, numberAt, commandOf, lengthsOf, fieldsOf, matchOf};
+ghost use Rattle.script.specs.Commands.{markOf, endOf, bitOf};
 
 fn wide(byte: u8) -> u32
     ensures { λ r. ⌜ (r ≡ byte) × (r < 256) ⌝ }
@@ -45,6 +48,8 @@ pub fn read_fields(rest: &[u8], reversed: bool) -> Match
     ensures { λ r. ⌜ r ≡ fieldsOf reversed (now (rest .entry)) ⌝ }
 {
     Match {
+        track_a: 0,
+        track_b: 1,
         left_a: number_at(rest, 1),
         left_b: number_at(rest, 5),
         length: number_at(rest, 9),
@@ -59,6 +64,18 @@ fn read_match(rest: &[u8], reversed: bool) -> Command
         return Command::MatchCutShort;
     }
     Command::Pairing(read_fields(rest, reversed))
+}
+
+fn read_mark(rest: &[u8]) -> Command
+    ensures { λ r. ⌜ r ≡ markOf (now (rest .entry)) ⌝ }
+{
+    if rest.len() < MARK_WIDTH {
+        return Command::MarkCutShort;
+    }
+    Command::Marking(Mark {
+        side: rest[1],
+        position: number_at(rest, 2),
+    })
 }
 
 fn read_end(rest: &[u8]) -> Command
@@ -104,6 +121,9 @@ pub fn read_command(rest: &[u8]) -> Command
     }
     if is_match(code) {
         return read_match(rest, is_reversed(code));
+    }
+    if code == 0x4D {
+        return read_mark(rest);
     }
     if code == 0x45 {
         return read_end(rest);

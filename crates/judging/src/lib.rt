@@ -1,8 +1,10 @@
 // What one command does to the script read so far, with the refusals in 01's order.
 use script::Refusal;
 use script::command::Command;
+use script::command::Mark;
 use script::command::Match;
 use script::limits::LONGEST;
+use script::limits::MOST_MARKS;
 use script::limits::MOST_MATCHES;
 use script::step::Judgement;
 use script::step::Opening;
@@ -10,7 +12,8 @@ use script::step::Step;
 ghost use mathlib.Core.Path.{_≡_};
 ghost use Prim.Native.Nat.{_<_};
 ghost use Rattle.script.specs.Steps.{inRange, lengthsStep, openingOf};
-ghost use Rattle.script.specs.Steps.{matchJudgement, matchStep, cutShortStep, stepOf};
+ghost use Rattle.script.specs.Steps.{matchJudgement, matchStep, cutShortStep, lettersOn};
+ghost use Rattle.script.specs.Steps.{markJudgement, markStep, markCutShortStep, stepOf};
 
 // Whether a sequence may have this many letters.
 fn in_range(letters: u32) -> bool
@@ -43,6 +46,8 @@ pub fn judge_opening(command: Command) -> Opening
         Command::LengthsCutShort => Opening::Refuse(Refusal::CutShort(0)),
         Command::Pairing(_) => Opening::Refuse(Refusal::Headless),
         Command::MatchCutShort => Opening::Refuse(Refusal::Headless),
+        Command::Marking(_) => Opening::Refuse(Refusal::Headless),
+        Command::MarkCutShort => Opening::Refuse(Refusal::Headless),
         Command::End => Opening::Refuse(Refusal::Headless),
         Command::EndThenMore => Opening::Refuse(Refusal::Headless),
     }
@@ -87,10 +92,53 @@ fn judge_cut_short(count: usize, at: usize) -> Step
     Step::Refuse(Refusal::CutShort(at))
 }
 
-// A command after the first, found at the offset `at` with `count` matches before it.
-pub fn judge(command: Command, p: u32, q: u32, count: usize, at: usize) -> Step
+// The letters of the sequence on this side.
+fn letters_on(p: u32, q: u32, side: u32) -> u32
+    ensures { λ r. ⌜ r ≡ lettersOn p q side ⌝ }
+{
+    if side == 0 { p } else { q }
+}
+
+// The numbers of a mark, of a script or of a list: 20, 21.
+pub fn judge_point(side: u32, position: u32, p: u32, q: u32, place: usize) -> Judgement
+    ensures { λ r. ⌜ r ≡ markJudgement p q place (record { side = side; position = position }) ⌝ }
+{
+    if 1 < side {
+        return Judgement::Faulty(Refusal::NoSuchSide(place));
+    }
+    if letters_on(p, q, side) < position {
+        return Judgement::Faulty(Refusal::MarkBeyond(place));
+    }
+    Judgement::Sound
+}
+
+// A whole mark: 19, then its numbers.
+fn judge_mark(found: Mark, p: u32, q: u32, marks: usize, at: usize) -> Step
+    ensures { λ r. ⌜ r ≡ markStep p q marks at found ⌝ }
+{
+    if MOST_MARKS <= marks {
+        return Step::Refuse(Refusal::TooManyMarks(at));
+    }
+    match judge_point(found.side as u32, found.position, p, q, at) {
+        Judgement::Sound => Step::Keep(found),
+        Judgement::Faulty(refusal) => Step::Refuse(refusal),
+    }
+}
+
+// A mark whose operands are incomplete: 19, 3.
+fn judge_mark_cut_short(marks: usize, at: usize) -> Step
+    ensures { λ r. ⌜ r ≡ markCutShortStep marks at ⌝ }
+{
+    if MOST_MARKS <= marks {
+        return Step::Refuse(Refusal::TooManyMarks(at));
+    }
+    Step::Refuse(Refusal::CutShort(at))
+}
+
+// A command after the first, found at the offset `at` with so many matches and marks before it.
+pub fn judge(command: Command, p: u32, q: u32, count: usize, marks: usize, at: usize) -> Step
     requires { ⌜ at < 4294967296 ⌝ }
-    ensures { λ r. ⌜ r ≡ stepOf p q count at command ⌝ }
+    ensures { λ r. ⌜ r ≡ stepOf p q count marks at command ⌝ }
 {
     match command {
         Command::Missing => Step::Refuse(Refusal::CutShort(at)),
@@ -99,6 +147,8 @@ pub fn judge(command: Command, p: u32, q: u32, count: usize, at: usize) -> Step
         Command::LengthsCutShort => Step::Refuse(Refusal::SecondLengths(at)),
         Command::Pairing(found) => judge_match(found, p, q, count, at),
         Command::MatchCutShort => judge_cut_short(count, at),
+        Command::Marking(found) => judge_mark(found, p, q, marks, at),
+        Command::MarkCutShort => judge_mark_cut_short(marks, at),
         Command::End => Step::Finish,
         Command::EndThenMore => Step::Refuse(Refusal::Tail(at + 1)),
     }

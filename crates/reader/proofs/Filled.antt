@@ -1,133 +1,197 @@
--- What filling the columns brings: the values at the fixed offsets are the fields of the matches.
---     inside            the matches counted lie in the script
---     Filling           what is stored, and what is still to come, make the column
---     filling-start, filling-next, filling-ends     at the start, a turn later, and when the matches or the room end
---     filled-columns    the four columns, filled
---     kept-columns      and behind a refusal
---     columns-contract  with the demands that follow
+-- What the walk that fills the columns keeps, and what they hold at its end.
+--     admits-reach     behind the lengths of an admitted script
+--     Filled, as-long  the columns hold what the commands said, and are as long as they were
+--     Filling          good commands alone were passed, of a script that is admitted, and the columns are filled so
+--     filling-start, filling-taken, filling-kept     at the start, and behind one more match or mark
+--     filling-ends     at the end the columns hold what the reading leaves
+--     never-refused    a script that was admitted is not refused on the second walk
+--     kept-columns     behind a refusal
+--     columns-contract the contract of the call, with the demands that follow
 -- Assumes nothing.
-use Prim.Native.Nat.{ℕ, suc, _+_, _*_, _-_, _≤_, _<_}
+use Prim.Native.Nat.{ℕ, _+_}
 use mathlib.Core.Path.{_≡_, refl, sym, ap, _∙_}
-use mathlib.Core.Logic.{_⊎_, inl, inr}
 use mathlib.Core.Bool.{Bool}
-use mathlib.Core.List.{List, [], _∷_, map}
+use mathlib.Core.List.{List, [], _∷_, _++_}
 use native.Mathlib.Omega.{arith}
-use native.Mathlib.Numerals.{add-one}
-use lib.ListN.{length, getD, set, length-set}
-use lib.Seq.{sets, set-out}
-use Rattle.script.specs.Commands.{lengthsWidth, matchWidth}
-use Rattle.script.specs.Outcomes.{MatchAt}
-use Rattle.script.specs.Reading.{readScript, verdictOf}
-use Rattle.script.specs.Columns.{columnRead, ColumnsRead}
-use Rattle.script.specs.Demands.{verdictAnswer, ReadingDemand, ColumnsDemand}
+use lib.ListN.{length, drop, set}
+use Rattle.script.specs.Commands.{lengthsWidth, matchWidth, markWidth, commandOf}
+use Rattle.script.specs.Steps.{stepOf}
+use Rattle.script.specs.Outcomes.{Reach, opened, taken, marked}
+use Rattle.script.specs.Reading.{refused, readScript, verdictOf}
+use Rattle.script.specs.Columns.{columnOf, ColumnsRead, MarksRead}
+use Rattle.script.specs.Demands.{verdictAnswer, ReadingDemand, ColumnsDemand, MarksDemand}
 use Rattle.script.specs.declared.command.Match.{Match}
+use Rattle.script.specs.declared.command.Mark.{Mark}
 use Rattle.script.specs.declared.refusal.Refusal.{Refusal}
+use Rattle.script.specs.declared.step.Step.{Step}
 use Rattle.script.specs.declared.Verdict.{Verdict}
-use Rattle.script.proofs.Outcome.{reach-place, reach-inside}
-use Rattle.script.proofs.Admitted.{Holds, holds-admitted, reading-refused, admitted-ended}
-use Rattle.script.proofs.Places.{match-placed}
-use Rattle.script.proofs.Columns.{columns-demand}
+use Rattle.script.proofs.Admitted.{Ended, holds-admitted, reading-refused, admitted-ended}
+use Rattle.script.proofs.Columns.{column-length, column-next, columns-demand, marks-demand}
 use Rattle.script.proofs.Demands.{reading-demand}
-use Rattle.reader.specs.Offsets.{offsetOf, operandOf, directionOf, valuesFrom, OffsetsStored}
-use Rattle.reader.proofs.Finds.{way-told, noMatch}
+use Rattle.reader.specs.Walking.{Admits, MatchPut, MarkPut}
+use Rattle.reader.proofs.Progress.{Progress, progress-start, step-refused, step-finished, step-taken, step-kept}
 
--- ---- values and stores
+-- ---- where the walk begins
 
-sets-out : {X : Type 0} (vs l : List X) (i : ℕ) → length l ≤ i → sets l i vs ≡ l
-sets-out [] l i h = refl
-sets-out (v ∷ vs) l i h = rw (set-out l i v h) (sets-out vs l (suc i) (omega arith))
+first-reach : {s : List ℕ} {p q at : ℕ} {ms : List Match} {ks : List Mark} → Reach s p q at ms ks
+    → Reach s p q lengthsWidth [] []
+first-reach (opened l a b) = opened l a b
+first-reach (taken r _ _ _) = first-reach r
+first-reach (marked r _ _ _) = first-reach r
 
-values-map : {X : Type 0} (value : ℕ → X) (field : Match → X) (ms : List Match) (k : ℕ)
-    → ((i : ℕ) → i < length ms → value (k + i) ≡ field (getD ms i noMatch))
-    → valuesFrom value k (length ms) ≡ map field ms
-unfolding valuesFrom
-values-map value field [] k same = refl
-values-map value field (m ∷ ms) k same =
-    let here : k ≡ k + 0 = omega arith in
-    let later : valuesFrom value (suc k) (length ms) ≡ map field ms = values-map value field ms (suc k) (λ i h.
-    let one-on : suc k + i ≡ k + suc i = omega arith in ap value one-on ∙ same (suc i) (omega arith)) in
-    rw (ap value here ∙ same 0 (omega arith), later)
+ended-reach : {s ls : List ℕ} {ms : List Match} {ks : List Mark} {p q : ℕ} → Ended s ls ms ks → ls ≡ p ∷ q ∷ []
+    → Reach s p q lengthsWidth [] []
+ended-reach {p = p} {q = q} end e =
+    let lengths = end .lengths in
+    let ep : p ≡ end .p = cc in
+    let eq : q ≡ end .q = cc in
+    rw (ep, eq) (first-reach (end .reach))
 
--- the column that is wanted is the column so far with the values from k on stored in it
-pub record Filling {X : Type 0} (value : ℕ → X) (count : ℕ) (before column : List X) (k : ℕ) : Type 0 where
-  pub as-long : length column ≡ length before
-  pub wanted : sets before 0 (valuesFrom value 0 count) ≡ sets column k (valuesFrom value k (count - k))
+pub admits-reach : {s : List ℕ} {p q : ℕ} → Admits s p q → Reach s p q lengthsWidth [] []
+admits-reach {s} a = ended-reach (admitted-ended (holds-admitted s (a .told) refl .read)) refl
 
-module _ {X : Type 0} (value : ℕ → X) (count : ℕ) (before : List X) where
-  pub filling-start : Filling value count before before 0
-  filling-start =
-      let all : count ≡ count - 0 = omega arith in
-      record { as-long = refl; wanted = ap (λ (n : ℕ). sets before 0 (valuesFrom value 0 n)) all }
+-- ---- the walk
 
-  module _ {column : List X} {k : ℕ} (h : Filling value count before column k) where
-    pub filling-next : {v : X} → k < count → v ≡ value k → Filling value count before (set column k v) (k + 1)
-    unfolding valuesFrom
-    filling-next {v} below is =
-        let one-more : count - k ≡ suc (count - suc k) = omega arith in
-        rw (is, add-one) (record {
-          as-long = length-set column k (value k) ∙ h .as-long;
-          wanted = rw one-more at (h .wanted);
-        })
+-- the columns with what was passed; each before and now
+pub record Filled (ms : List Match) (ks : List Mark) (a b d : List ℕ) (r : List Bool) (z x : List ℕ)
+    (a′ b′ d′ : List ℕ) (r′ : List Bool) (z′ x′ : List ℕ) : Type 0 where
+  pub left-a : a′ ≡ columnOf ms (λ m. m .«left_a») a
+  pub left-b : b′ ≡ columnOf ms (λ m. m .«left_b») b
+  pub letters : d′ ≡ columnOf ms (λ m. m .length) d
+  pub reversed : r′ ≡ columnOf ms (λ m. m .reversed) r
+  pub side : z′ ≡ columnOf ks (λ k. k .side) z
+  pub position : x′ ≡ columnOf ks (λ k. k .position) x
 
-    filling-done : (count ≤ k) ⊎ (length before ≤ k) → column ≡ sets before 0 (valuesFrom value 0 count)
-    unfolding valuesFrom
-    filling-done (inl all) =
-        let none : count - k ≡ 0 = omega arith in
-        sym (rw none at (h .wanted))
-    filling-done (inr full) =
-        sym (h .wanted ∙ sets-out (valuesFrom value k (count - k)) column k (omega (arith, h .as-long)))
+pub as-long : {ms : List Match} {ks : List Mark} {a b d : List ℕ} {r : List Bool} {z x a′ b′ d′ : List ℕ}
+    {r′ : List Bool} {z′ x′ : List ℕ} → Filled ms ks a b d r z x a′ b′ d′ r′ z′ x′
+    → (length a′ ≡ length a)
+    × ((length b′ ≡ length b)
+    × ((length d′ ≡ length d)
+    × ((length r′ ≡ length r) × ((length z′ ≡ length z) × (length x′ ≡ length x)))))
+as-long {ms} {ks} {a} {b} {d} {r} {z} {x} f = (
+  ap length (f .left-a) ∙ column-length ms (λ m. m .«left_a») a,
+  (
+    ap length (f .left-b) ∙ column-length ms (λ m. m .«left_b») b,
+    (
+      ap length (f .letters) ∙ column-length ms (λ m. m .length) d,
+      (
+        ap length (f .reversed) ∙ column-length ms (λ m. m .reversed) r,
+        (
+          ap length (f .side) ∙ column-length ks (λ k. k .side) z,
+          ap length (f .position) ∙ column-length ks (λ k. k .position) x,
+        ),
+      ),
+    ),
+  ),
+)
 
-    pub filling-ends : {room : ℕ} → (room ≡ count) ⊎ (room ≡ length before) → room ≤ k
-        → column ≡ sets before 0 (valuesFrom value 0 count)
-    filling-ends (inl e) ends = filling-done (inl (omega arith))
-    filling-ends (inr e) ends = filling-done (inr (omega arith))
+-- one more value, stored behind those that are
+one-more : {X Y : Type 0} (field : X → Y) (column : List Y) (xs : List X) {n : ℕ} {now next : List Y} (x : X)
+    → length xs ≡ n → now ≡ columnOf xs field column → next ≡ set now n (field x)
+    → next ≡ columnOf (xs ++ x ∷ []) field column
+one-more field column xs x counted is put = put ∙ rw (is, ← counted) (sym (column-next xs field column x))
 
--- ---- the columns
+pub record Filling (s : List ℕ) (p q : ℕ) (a b d : List ℕ) (r : List Bool) (z x : List ℕ) (a′ b′ d′ : List ℕ)
+    (r′ : List Bool) (z′ x′ : List ℕ) (count marks at : ℕ) : Type 0 where
+  pub admits : Admits s p q
+  pub progress : Progress s p q count marks at
+  pub filled : Filled (progress .matches) (progress .points) a b d r z x a′ b′ d′ r′ z′ x′
 
-module _ (s : List ℕ) {told : Verdict} (reads : told ≡ verdictOf (readScript s)) where
-  pub kept-columns : {f : Refusal} → told ≡ Verdict.Refused f → (a b d : List ℕ) (r : List Bool)
-      → ColumnsRead s a b d r a b d r
-  unfolding columnRead
-  kept-columns v a b d r =
-      let refused = reading-refused s reads v in
-      record { left-a = rw refused; left-b = rw refused; letters = rw refused; reversed = rw refused }
+module _ {s : List ℕ} {p q : ℕ} {a b d : List ℕ} {r : List Bool} {z x : List ℕ} where
+  pub filling-start : Admits s p q → Filling s p q a b d r z x a b d r z x 0 0 lengthsWidth
+  unfolding columnOf
+  filling-start admits =
+      record {
+        admits = admits;
+        progress = progress-start (admits-reach admits);
+        filled =
+            record { left-a = refl; left-b = refl; letters = refl; reversed = refl; side = refl; position = refl };
+      }
 
-  module _ {p q count : ℕ} (v : told ≡ Verdict.Admitted p q count) where
-    held : Holds s p q count
-    held = holds-admitted s reads v
-
-    pub inside : matchWidth * count ≤ length s - lengthsWidth
-    inside =
-        let reach = admitted-ended (held .read) .reach in
-        omega (arith, reach-place reach, reach-inside reach, held .counted)
-
-    -- a column that takes a value for each match, which is the match's field
-    column-is : {X : Type 0} (field : Match → X) (value : ℕ → X)
-        → ((k : ℕ) (m : Match) → MatchAt s (offsetOf k) m → value k ≡ field m)
-        → (before : List X) {after : List X} → after ≡ sets before 0 (valuesFrom value 0 count)
-        → after ≡ columnRead s field before
-    unfolding columnRead
-    column-is field value same before filled =
-        let fields : valuesFrom value 0 (length (held .matches)) ≡ map field (held .matches) =
-        values-map value field (held .matches) 0 (λ i h.
-        let from-start : 0 + i ≡ i = omega arith in
-        ap value from-start ∙ same i _ (match-placed s (held .read) i h noMatch)) in
-        rw (held .read) (filled ∙ ap (λ (n : ℕ). sets before 0 (valuesFrom value 0 n)) (sym (held .counted))
-        ∙ ap (λ vs. sets before 0 vs) fields)
-
-    pub filled-columns : {a b d a′ b′ d′ : List ℕ} {r r′ : List Bool} → OffsetsStored s count a b d r a′ b′ d′ r′
-        → ColumnsRead s a b d r a′ b′ d′ r′
-    filled-columns {a} {b} {d} {r = r} h =
+  module _ {a′ b′ d′ : List ℕ} {r′ : List Bool} {z′ x′ : List ℕ} {count marks at : ℕ}
+      (h : Filling s p q a b d r z x a′ b′ d′ r′ z′ x′ count marks at) {t : Step}
+      (et : t ≡ stepOf p q count marks at (commandOf (drop at s))) where
+    pub filling-taken : {m : Match} {a″ b″ d″ : List ℕ} {r″ : List Bool} → t ≡ Step.Take m
+        → MatchPut m count a′ b′ d′ r′ a″ b″ d″ r″
+        → Filling s p q a b d r z x a″ b″ d″ r″ z′ x′ (count + 1) marks (at + matchWidth)
+    unfolding step-taken
+    filling-taken {m} e put =
+        let f = h .filled in
+        let ms = h .progress .matches in
+        let n = h .progress .counted in
         record {
-          left-a = column-is (λ m. m .«left_a») (operandOf s 1) (λ _ _ m. sym (m .left-a)) a (h .left-a);
-          left-b = column-is (λ m. m .«left_b») (operandOf s 5) (λ _ _ m. sym (m .left-b)) b (h .left-b);
-          letters = column-is (λ m. m .length) (operandOf s 9) (λ _ _ m. sym (m .letters)) d (h .letters);
-          reversed = column-is (λ m. m .reversed) (directionOf s) (λ _ _ m. way-told (m .code)) r (h .reversed);
+          admits = h .admits;
+          progress = step-taken (h .progress) et e;
+          filled =
+              record {
+                left-a = one-more (λ m. m .«left_a») a ms m n (f .left-a) (put .left-a);
+                left-b = one-more (λ m. m .«left_b») b ms m n (f .left-b) (put .left-b);
+                letters = one-more (λ m. m .length) d ms m n (f .letters) (put .letters);
+                reversed = one-more (λ m. m .reversed) r ms m n (f .reversed) (put .reversed);
+                side = f .side;
+                position = f .position;
+              };
         }
 
-  pub columns-contract : {a b d a′ b′ d′ : List ℕ} {r r′ : List Bool} → ColumnsRead s a b d r a′ b′ d′ r′
+    pub filling-kept : {k : Mark} {z″ x″ : List ℕ} → t ≡ Step.Keep k → MarkPut k marks z′ x′ z″ x″
+        → Filling s p q a b d r z x a′ b′ d′ r′ z″ x″ count (marks + 1) (at + markWidth)
+    unfolding step-kept
+    filling-kept {k} e put =
+        let f = h .filled in
+        let ks = h .progress .points in
+        let n = h .progress .counted-marks in
+        record {
+          admits = h .admits;
+          progress = step-kept (h .progress) et e;
+          filled =
+              record {
+                left-a = f .left-a;
+                left-b = f .left-b;
+                letters = f .letters;
+                reversed = f .reversed;
+                side = one-more (λ k. k .side) z ks k n (f .side) (put .side);
+                position = one-more (λ k. k .position) x ks k n (f .position) (put .position);
+              };
+        }
+
+    pub filling-ends : t ≡ Step.Finish → ColumnsRead s a b d r a′ b′ d′ r′ × MarksRead s z x z′ x′
+    filling-ends e =
+        let f = h .filled in
+        let read = step-finished (h .progress) et e in (
+          record {
+            left-a = rw read (f .left-a);
+            left-b = rw read (f .left-b);
+            letters = rw read (f .letters);
+            reversed = rw read (f .reversed);
+          },
+          record { side = rw read (f .side); position = rw read (f .position) },
+        )
+
+    pub never-refused : {f : Refusal} → t ≡ Step.Refuse f → ⊥
+    never-refused e =
+        let read = holds-admitted s (h .admits .told) refl .read in
+        let both = sym (step-refused (h .progress) et e) ∙ read in
+        let z : _≡_ {A = ℕ} 0 1 = cc in omega arith
+
+-- ---- the call
+
+module _ (s : List ℕ) {told : Verdict} (reads : told ≡ verdictOf (readScript s)) where
+  pub kept-columns : {f : Refusal} → told ≡ Verdict.Refused f → (a b d : List ℕ) (r : List Bool) (z x : List ℕ)
+      → ColumnsRead s a b d r a b d r × MarksRead s z x z x
+  unfolding columnOf
+  kept-columns v a b d r z x =
+      let refused = reading-refused s reads v in (
+        record { left-a = rw refused; left-b = rw refused; letters = rw refused; reversed = rw refused },
+        record { side = rw refused; position = rw refused },
+      )
+
+  pub columns-contract : {a b d a′ b′ d′ : List ℕ} {r r′ : List Bool} {z x z′ x′ : List ℕ}
+      → ColumnsRead s a b d r a′ b′ d′ r′ × MarksRead s z x z′ x′
       → (told ≡ verdictOf (readScript s))
       × (ColumnsRead s a b d r a′ b′ d′ r′
+      × (MarksRead s z x z′ x′
       × (ReadingDemand s (verdictAnswer told)
-      × ColumnsDemand s a b d r a′ b′ d′ r′))
-  columns-contract h = (reads, (h, (reading-demand s reads, columns-demand h)))
+      × (ColumnsDemand s a b d r a′ b′ d′ r′
+      × MarksDemand s z x z′ x′))))
+  columns-contract h =
+      (reads, (h .0, (h .1, (reading-demand s reads, (columns-demand (h .0), marks-demand (h .1))))))

@@ -1,90 +1,95 @@
--- What finding a match brings, by the verdict and by what stands at the match's offset.
---     way-told                   the byte of a match command tells its direction
---     noMatch                    a match for places where there is none
---     fields-at                  a part of the script from an offset to its end is read like the remainder
---     unread-finding             of a refused script
---     zero-finding, above-finding, placed-finding     by the number: 0, above the count, or one of a match
---     match-reaches              the match of a number up to the count lies in the script
+-- What the walk to the match of a number keeps, and what it finds.
+--     noMatch       a match for places where there is none
+--     Seeking       good commands alone were passed, and the match of the number is kept if it was among them
+--     seeking-start, seeking-taken, seeking-other, seeking-kept     at the start, and behind one more match or mark
+--     sought        at the end, what is kept is what is found
 -- Assumes nothing.
-use Prim.Native.Nat.{ℕ, _+_, _-_, _≤_, _<_}
-use mathlib.Core.Path.{_≡_, sym, ap, ap₂, _∙_}
+use Prim.Native.Nat.{ℕ, suc, _+_, _-_, _≤_, _<_}
+use mathlib.Core.Path.{_≡_, sym, ap, _∙_}
 use mathlib.Core.Logic.{_≢_}
-use mathlib.Core.Bool.{Bool, false}
-use mathlib.Core.List.{List}
+use mathlib.Core.Bool.{false}
+use mathlib.Core.List.{List, [], _∷_}
 use native.Mathlib.Omega.{arith}
-use lib.Dec.{eqb}
-use lib.ListN.{length, getD, take, drop}
-use Rattle.script.specs.Commands.{matchWidth, fieldsOf}
-use Rattle.script.specs.Outcomes.{MatchByte, MatchAt}
-use Rattle.script.specs.Reading.{readScript, verdictOf}
-use Rattle.script.specs.Finding.{findingOf}
+use native.Mathlib.Decide.{decLe, ℕ-discrete}
+use native.Mathlib.Nat.{lt-of-not-le}
+use borrow.Author.Tests.{ne-eqb, lt-ltb, le-ltb}
+use lib.ListN.{length, getD, drop, List·getD-append}
+use lib.Seq.{getD-at}
+use Rattle.script.specs.Commands.{lengthsWidth, matchWidth, markWidth, commandOf}
+use Rattle.script.specs.Steps.{stepOf}
+use Rattle.script.specs.Outcomes.{Reach}
+use Rattle.script.specs.Reading.{admitted, readScript}
+use Rattle.script.specs.Finding.{foundIn, findingOf}
 use Rattle.script.specs.declared.command.Match.{Match}
-use Rattle.script.specs.declared.refusal.Refusal.{Refusal}
-use Rattle.script.specs.declared.refusal.Refusal.the-variants.{NoSuchMatch}
+use Rattle.script.specs.declared.command.Mark.{Mark}
+use Rattle.script.specs.declared.step.Step.{Step}
 use Rattle.script.specs.declared.Finding.{Finding}
-use Rattle.script.specs.declared.Verdict.{Verdict}
-use Rattle.script.proofs.Seen.{number-drop}
-use Rattle.script.proofs.Admitted.{Holds, holds-admitted, reading-refused}
-use Rattle.script.proofs.Places.{match-placed}
-use Rattle.script.proofs.Found.{found-none-zero, found-none-above, found-held}
-use Rattle.reader.specs.Offsets.{offsetOf, directionOf}
-use Rattle.reader.proofs.Progress.{rest-drop}
-
--- ---- a match command
-
--- its byte tells the direction
-pub way-told : {s : List ℕ} {at : ℕ} {way : Bool} → MatchByte s at way → eqb (getD s at 0) 0x52 ≡ way
-way-told (MatchByte.direct b) = rw (b .is)
-way-told (MatchByte.backward b) = rw (b .is)
-
--- and its fields stand behind it
-fields-told : {s : List ℕ} {at : ℕ} {m : Match} → MatchAt s at m
-    → fieldsOf (eqb (getD s at 0) 0x52) (drop at s) ≡ m
-fields-told {s} {at} d =
-    rw (
-      way-told (d .code),
-      number-drop at 1 s,
-      number-drop at 5 s,
-      number-drop at 9 s,
-      ← d .left-a,
-      ← d .left-b,
-      ← d .letters,
-    )
+use Rattle.script.proofs.Found.{found-zero, found-above, found-at}
+use Rattle.reader.specs.Walking.{foundAmong}
+use Rattle.reader.proofs.Progress.{Progress, progress-start, step-taken, step-kept}
 
 pub noMatch : Match
-noMatch = record { «left_a» = 0; «left_b» = 0; length = 0; reversed = false }
+noMatch = record { «track_a» = 0; «track_b» = 1; «left_a» = 0; «left_b» = 0; length = 0; reversed = false }
 
--- the part of the script from the command on is its remainder
-pub fields-at : (s : List ℕ) (at : ℕ) {way : Bool} {m : Match} → way ≡ eqb (getD s at 0) 0x52
-    → m ≡ fieldsOf way (take (length s - at) (drop at s)) → m ≡ fieldsOf (eqb (getD s at 0) 0x52) (drop at s)
-fields-at s at way is = is ∙ ap₂ fieldsOf way (rest-drop s at)
+pub record Seeking (s : List ℕ) (p q number : ℕ) (found : Match) (count marks at : ℕ) : Type 0 where
+  pub progress : Progress s p q count marks at
+  pub kept : 0 < number → number ≤ count → found ≡ getD (progress .matches) (number - 1) noMatch
 
--- ---- the finder
+module _ {s : List ℕ} {p q number : ℕ} where
+  pub seeking-start : {found : Match} → Reach s p q lengthsWidth [] [] → Seeking s p q number found 0 0 lengthsWidth
+  seeking-start r = record { progress = progress-start r; kept = λ some none. absurd (omega arith) }
 
-module _ (script : List ℕ) (number : ℕ) {told : Verdict} (reads : told ≡ verdictOf (readScript script)) where
-  pub unread-finding : {f : Refusal} {reply : Finding} → told ≡ Verdict.Refused f → reply ≡ Finding.Refused f
-      → reply ≡ findingOf (readScript script) number
-  unread-finding v is = rw (reading-refused script reads v) is
+  module _ {found : Match} {count marks at : ℕ} (h : Seeking s p q number found count marks at) {t : Step}
+      (et : t ≡ stepOf p q count marks at (commandOf (drop at s))) where
+    -- the match that is taken has the number
+    pub seeking-taken : {m : Match} → t ≡ Step.Take m → count + 1 ≡ number
+        → Seeking s p q number m (count + 1) marks (at + matchWidth)
+    unfolding step-taken
+    seeking-taken {m} e is =
+        let before = h .progress .matches in
+        record {
+          progress = step-taken (h .progress) et e;
+          kept = λ some few. sym (getD-at before m [] noMatch (number - 1) (omega (arith, h .progress .counted)));
+        }
 
-  module _ {p q count : ℕ} (v : told ≡ Verdict.Admitted p q count) where
-    pub zero-finding : number ≡ 0 → Finding.Refused NoSuchMatch ≡ findingOf (readScript script) number
-    zero-finding z = rw z (sym (found-none-zero (holds-admitted script reads v)))
+    -- or another
+    pub seeking-other : {m : Match} → t ≡ Step.Take m → count + 1 ≢ number
+        → Seeking s p q number found (count + 1) marks (at + matchWidth)
+    unfolding step-taken
+    seeking-other {m} e other =
+        let before = h .progress .matches in
+        record {
+          progress = step-taken (h .progress) et e;
+          kept = λ some few.
+              h .kept some (omega (arith, other))
+              ∙ sym (List·getD-append before (m ∷ []) noMatch (number - 1)
+              (omega (arith, other, h .progress .counted)));
+        }
 
-    pub above-finding : count < number → Finding.Refused NoSuchMatch ≡ findingOf (readScript script) number
-    above-finding h = sym (found-none-above (holds-admitted script reads v) number h)
+    pub seeking-kept : {k : Mark} → t ≡ Step.Keep k → Seeking s p q number found count (marks + 1) (at + markWidth)
+    unfolding step-kept
+    seeking-kept e = record { progress = step-kept (h .progress) et e; kept = h .kept }
 
-    module _ (some : number ≢ 0) (h : number ≤ count) where
-      held : Holds script p q count
-      held = holds-admitted script reads v
+  -- at the end
+  module _ {found : Match} {count marks at : ℕ} (h : Seeking s p q number found count marks at)
+      (read : readScript s ≡ admitted (p ∷ q ∷ []) (h .progress .matches) (h .progress .points)) where
+    found-here : 0 < number → number ≤ count → Finding.Found found ≡ foundIn (h .progress .matches) number
+    found-here some few =
+        let ms = h .progress .matches in
+        let index : ℕ = number - 1 in
+        let one-more : suc index ≡ number = omega arith in
+        ap Finding.Found (h .kept some few)
+        ∙ sym (found-at ms index noMatch (omega (arith, h .progress .counted))) ∙ ap (foundIn ms) one-more
 
-      placed : MatchAt script (offsetOf (number - 1)) (getD (held .matches) (number - 1) noMatch)
-      placed = match-placed script (held .read) (number - 1) (omega (arith, held .counted)) noMatch
-
-      pub match-reaches : offsetOf (number - 1) + matchWidth ≤ length script
-      match-reaches = placed .whole
-
-      pub placed-finding : {m : Match} {reply : Finding}
-          → m ≡ fieldsOf (directionOf script (number - 1)) (drop (offsetOf (number - 1)) script)
-          → reply ≡ Finding.Found m → reply ≡ findingOf (readScript script) number
-      placed-finding e is =
-          is ∙ ap Finding.Found (e ∙ fields-told placed) ∙ sym (found-held held number noMatch (omega arith) h)
+    pub sought : {r : Finding} → r ≡ foundAmong found number count → r ≡ findingOf (readScript s) number
+    sought is =
+        let ms = h .progress .matches in
+        rw read (is ∙ elim (ℕ-discrete number 0) [
+          | yes e ↦ rw (e, found-zero ms)
+          | no some ↦ rw (ne-eqb number 0 some) (elim (decLe number count) [
+            | yes few ↦ rw (le-ltb count number few) (found-here (omega (arith, some)) few)
+            | no many ↦ let above = lt-of-not-le many in
+                rw (lt-ltb count number above)
+                (sym (found-above ms number (omega (arith, h .progress .counted))))
+          ])
+        ])

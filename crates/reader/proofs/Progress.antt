@@ -1,71 +1,90 @@
--- What the reader's loop keeps: the commands passed are good, and as many matches as are counted.
+-- What a walk over the commands keeps: the commands passed are good, and as many matches and marks as are counted.
 --     rest-drop           a part of a slice from an offset to the end is the remainder
---     next-reach          the match that a step takes leads one good command further
+--     next-reach, next-mark     what a step takes leads one good command further
 --     opens-script, refuses-script     what the two calls on the first command bring
 --     Progress            what holds between two commands
---     step-refused, step-finished, step-taken     what the loop's two calls bring
+--     progress-start      behind the lengths
+--     inside, small       the offset of the next command
+--     step-refused, step-finished, step-taken, step-kept     what the step at the offset brings
 -- Assumes nothing.
-use Prim.Native.Nat.{ℕ, _+_, _-_}
+use Prim.Native.Nat.{ℕ, _+_, _-_, _≤_, _<_}
 use mathlib.Core.Path.{_≡_, refl, sym, ap, subst, _∙_}
 use mathlib.Core.List.{List, [], _∷_, _++_}
 use native.Mathlib.Omega.{arith}
-use native.Mathlib.Decide.{decLe}
-use native.Mathlib.Nat.{lt-of-not-le}
 use lib.ListN.{length, take, drop, length-drop, length-append}
 use lib.Seq.{take-all}
-use Rattle.script.specs.Limits.{mostMatches}
-use Rattle.script.specs.Commands.{lengthsWidth, matchWidth, numberAt, commandOf}
+use Rattle.script.specs.Limits.{mostMatches, mostMarks}
+use Rattle.script.specs.Commands.{lengthsWidth, matchWidth, markWidth, numberAt, commandOf}
 use Rattle.script.specs.Steps.{openingOf, stepOf}
-use Rattle.script.specs.Reading.{refused, readScript, verdictOf}
-use Rattle.script.specs.Outcomes.{MatchAt, LengthsAt, Reach, opened, taken}
+use Rattle.script.specs.Reading.{admitted, refused, readScript}
+use Rattle.script.specs.Outcomes.{MatchAt, MarkAt, LengthsAt, Reach, opened, taken, marked}
 use Rattle.script.specs.declared.refusal.Refusal.{Refusal}
+use Rattle.script.specs.declared.refusal.Refusal.the-variants.{CutShort, TooManyMatches, TooManyMarks}
 use Rattle.script.specs.declared.command.Match.{Match}
+use Rattle.script.specs.declared.command.Mark.{Mark}
 use Rattle.script.specs.declared.command.Command.{Command}
 use Rattle.script.specs.declared.step.Opening.{Opening}
 use Rattle.script.specs.declared.step.Step.{Step}
-use Rattle.script.specs.declared.Verdict.{Verdict}
 use Rattle.script.proofs.Seen.{Seen, seen}
-use Rattle.script.proofs.Outcome.{reach-ends, opening-at}
-use Rattle.script.proofs.Judged.{Weighed, Judged, judged, short-room, short-full, Opens, opens}
+use Rattle.script.proofs.Outcome.{reach-place, reach-inside, reach-ends, opening-at}
+use Rattle.script.proofs.Judged.{Weighed, Judged, judged, Measured, Pointed, pointed, Roomy, roomy, Opens, opens}
 
 pub rest-drop : (s : List ℕ) (at : ℕ) → take (length s - at) (drop at s) ≡ drop at s
 rest-drop s at = take-all (length s - at) (drop at s) (omega (arith, length-drop at s))
 
 -- ---- the commands passed
 
--- what holds of the match that a step takes, if it takes one
-abbrev Next : (Match → Type 0) → Step → Type 0
-Next P (Step.Refuse r) = Unit
-Next P Step.Finish = Unit
-Next P (Step.Take m) = P m
+-- what holds of the match or the mark that a step takes, if it takes one
+abbrev Next : (Match → Type 0) → (Mark → Type 0) → Step → Type 0
+Next P R (Step.Refuse r) = Unit
+Next P R Step.Finish = Unit
+Next P R (Step.Take m) = P m
+Next P R (Step.Keep k) = R k
 
-match-next : {s : List ℕ} {p q at : ℕ} {ms : List Match} {m : Match} {t : Step} → Reach s p q at ms → MatchAt s at m
-    → Judged p q (length ms) at m t → Next (λ n. Reach s p q (at + matchWidth) (ms ++ n ∷ [])) t
+-- one good command further
+abbrev Further : List ℕ → ℕ → ℕ → ℕ → List Match → List Mark → Step → Type 0
+Further s p q at ms ks t =
+    Next (λ m. Reach s p q (at + matchWidth) (ms ++ m ∷ []) ks) (λ k. Reach s p q (at + markWidth) ms (ks ++ k ∷ [])) t
+
+match-next : {s : List ℕ} {p q at : ℕ} {ms : List Match} {ks : List Mark} {m : Match} {t : Step}
+    → Reach s p q at ms ks → MatchAt s at m → Judged p q (length ms) at m t → Further s p q at ms ks t
 match-next r d (Judged.too-many _) = tt
 match-next r d (Judged.room _ (Weighed.empty _)) = tt
 match-next r d (Judged.room _ (Weighed.beyond-a _ _)) = tt
 match-next r d (Judged.room _ (Weighed.beyond-b _ _ _)) = tt
 match-next r d (Judged.room room (Weighed.sound w)) = taken r room d w
 
-step-next : {s : List ℕ} {p q at : ℕ} {ms : List Match} {c : Command} → Reach s p q at ms → Seen s at c
-    → Next (λ n. Reach s p q (at + matchWidth) (ms ++ n ∷ [])) (stepOf p q (length ms) at c)
+mark-next : {s : List ℕ} {p q at : ℕ} {ms : List Match} {ks : List Mark} {k : Mark} {t : Step}
+    → Reach s p q at ms ks → MarkAt s at k → Pointed p q (length ks) at k t → Further s p q at ms ks t
+mark-next r d (Pointed.too-many _) = tt
+mark-next r d (Pointed.room _ (Measured.no-side _)) = tt
+mark-next r d (Pointed.room _ (Measured.beyond _)) = tt
+mark-next r d (Pointed.room room (Measured.sound o)) = marked r room d o
+
+-- a command that is cut short leads nowhere
+short-next : {s : List ℕ} {p q at most count : ℕ} {full : Refusal} {ms : List Match} {ks : List Mark} {t : Step}
+    → Reach s p q at ms ks → Roomy most count full (Step.Refuse (CutShort at)) t → Further s p q at ms ks t
+short-next r (Roomy.too-many _) = tt
+short-next r (Roomy.room _) = tt
+
+step-next : {s : List ℕ} {p q at : ℕ} {ms : List Match} {ks : List Mark} {c : Command} → Reach s p q at ms ks
+    → Seen s at c → Further s p q at ms ks (stepOf p q (length ms) (length ks) at c)
 step-next r (Seen.missing _) = tt
-step-next r (Seen.unknown _ _ _ _ _) = tt
+step-next r (Seen.unknown _ _ _ _ _ _) = tt
 step-next r (Seen.lengths _ _) = tt
 step-next r (Seen.lengths-short _ _) = tt
 step-next {p} {q} {at} {ms} r (Seen.pairing {m} d) = match-next r d (judged p q (length ms) at m)
-step-next {ms} r (Seen.pairing-short _ _) =
-    elim (decLe mostMatches (length ms)) [
-      | yes full ↦ rw (short-full full) tt
-      | no room ↦ rw (short-room (lt-of-not-le room)) tt
-    ]
+step-next {at} {ms} r (Seen.pairing-short _ _) =
+    short-next r (roomy mostMatches (length ms) (TooManyMatches at) (Step.Refuse (CutShort at)))
+step-next {p} {q} {at} {ks = ks} r (Seen.marking {k} d) = mark-next r d (pointed p q (length ks) at k)
+step-next {at} {ks = ks} r (Seen.marking-short _ _) =
+    short-next r (roomy mostMarks (length ks) (TooManyMarks at) (Step.Refuse (CutShort at)))
 step-next r (Seen.end _ _) = tt
 step-next r (Seen.end-then-more _ _) = tt
 
-pub next-reach : {s : List ℕ} {p q at : ℕ} {ms : List Match} {m : Match} → Reach s p q at ms
-    → stepOf p q (length ms) at (commandOf (drop at s)) ≡ Step.Take m → Reach s p q (at + matchWidth) (ms ++ m ∷ [])
-next-reach {s} {p} {q} {at} {ms} r e =
-    subst (Next (λ n. Reach s p q (at + matchWidth) (ms ++ n ∷ []))) e (step-next r (seen s at))
+pub further : {s : List ℕ} {p q at : ℕ} {ms : List Match} {ks : List Mark} {t : Step} → Reach s p q at ms ks
+    → stepOf p q (length ms) (length ks) at (commandOf (drop at s)) ≡ t → Further s p q at ms ks t
+further {s} {p} {q} {at} {ms} {ks} r e = subst (Further s p q at ms ks) e (step-next r (seen s at))
 
 -- ---- the first command
 
@@ -75,66 +94,91 @@ Begins P (Opening.Refuse r) = Unit
 Begins P (Opening.Open p q) = P p q
 
 lengths-begin : {s : List ℕ} {p q : ℕ} {o : Opening} → LengthsAt s p q → Opens p q o
-    → Begins (λ p q. Reach s p q lengthsWidth []) o
+    → Begins (λ p q. Reach s p q lengthsWidth [] []) o
 lengths-begin l (Opens.open-them a b) = opened l a b
 lengths-begin l (Opens.out-of-range _) = tt
 
-opening-begins : {s : List ℕ} {c : Command} → Seen s 0 c → Begins (λ p q. Reach s p q lengthsWidth []) (openingOf c)
+opening-begins : {s : List ℕ} {c : Command} → Seen s 0 c
+    → Begins (λ p q. Reach s p q lengthsWidth [] []) (openingOf c)
 opening-begins (Seen.missing _) = tt
-opening-begins (Seen.unknown _ _ _ _ _) = tt
+opening-begins (Seen.unknown _ _ _ _ _ _) = tt
 opening-begins {s} (Seen.lengths b w) =
     lengths-begin (record { code = b; whole = w; first = refl; second = refl }) (opens (numberAt s 1) (numberAt s 5))
 opening-begins (Seen.lengths-short _ _) = tt
 opening-begins (Seen.pairing _) = tt
 opening-begins (Seen.pairing-short _ _) = tt
+opening-begins (Seen.marking _) = tt
+opening-begins (Seen.marking-short _ _) = tt
 opening-begins (Seen.end _ _) = tt
 opening-begins (Seen.end-then-more _ _) = tt
 
-pub opening-reach : {s : List ℕ} {p q : ℕ} → openingOf (commandOf s) ≡ Opening.Open p q → Reach s p q lengthsWidth []
-opening-reach {s} e = subst (Begins (λ p q. Reach s p q lengthsWidth [])) e (opening-begins (seen s 0))
-
-pub opening-refused : (s : List ℕ) {r : Refusal} → openingOf (commandOf s) ≡ Opening.Refuse r → readScript s ≡ refused r
-opening-refused s e = opening-at s (seen s 0) e
+opening-reach : {s : List ℕ} {p q : ℕ} → openingOf (commandOf s) ≡ Opening.Open p q
+    → Reach s p q lengthsWidth [] []
+opening-reach {s} e = subst (Begins (λ p q. Reach s p q lengthsWidth [] [])) e (opening-begins (seen s 0))
 
 -- the two calls on the first command compute what it opens, and refuse what it refuses
 module _ (s : List ℕ) {c : Command} {o : Opening} (ec : c ≡ commandOf s) (eo : o ≡ openingOf c) where
   opening-is : {o′ : Opening} → o ≡ o′ → openingOf (commandOf s) ≡ o′
   opening-is e = rw (← ec) (sym eo ∙ e)
 
-  pub opens-script : {p q : ℕ} → o ≡ Opening.Open p q → Reach s p q 9 []
+  pub opens-script : {p q : ℕ} → o ≡ Opening.Open p q → Reach s p q 9 [] []
   opens-script e = opening-reach (opening-is e)
 
-  pub refuses-script : {f : Refusal} {r : Verdict} → o ≡ Opening.Refuse f → r ≡ Verdict.Refused f
-      → r ≡ verdictOf (readScript s)
-  refuses-script e is = rw (opening-refused s (opening-is e)) is
+  pub refuses-script : {f : Refusal} → o ≡ Opening.Refuse f → readScript s ≡ refused f
+  refuses-script e = opening-at s (seen s 0) (opening-is e)
 
 -- ---- between two commands
 
-pub record Progress (s : List ℕ) (p q count at : ℕ) : Type 0 where
+pub record Progress (s : List ℕ) (p q count marks at : ℕ) : Type 0 where
   pub matches : List Match
-  pub reach : Reach s p q at matches
+  pub points : List Mark
+  pub reach : Reach s p q at matches points
   pub counted : length matches ≡ count
+  pub counted-marks : length points ≡ marks
 
-module _ {s : List ℕ} {p q count at : ℕ} (h : Progress s p q count at) where
-  -- from what the loop's two calls ensure
-  module _ {c : Command} {t : Step} (ec : c ≡ commandOf (take (length s - at) (drop at s)))
-      (et : t ≡ stepOf p q count at c) where
-    -- they compute the step at the offset
-    comes : {t′ : Step} → t ≡ t′ → stepOf p q (length (h .matches)) at (commandOf (drop at s)) ≡ t′
-    comes e = rw (h .counted, ← rest-drop s at, ← ec) (sym et ∙ e)
+abbrev pub progress-start : {s : List ℕ} {p q : ℕ} → Reach s p q lengthsWidth [] [] → Progress s p q 0 0 lengthsWidth
+progress-start r = record { matches = []; points = []; reach = r; counted = refl; counted-marks = refl }
 
-    pub step-refused : {f : Refusal} {r : Verdict} → t ≡ Step.Refuse f → r ≡ Verdict.Refused f
-        → r ≡ verdictOf (readScript s)
-    step-refused e is = rw (reach-ends (h .reach) (seen s at) (comes e)) is
+module _ {s : List ℕ} {p q count marks at : ℕ} (h : Progress s p q count marks at) where
+  pub inside : at ≤ length s
+  inside = reach-inside (h .reach)
 
-    pub step-finished : {r : Verdict} → t ≡ Step.Finish → r ≡ Verdict.Admitted p q count
-        → r ≡ verdictOf (readScript s)
-    step-finished e is = rw (reach-ends (h .reach) (seen s at) (comes e), h .counted) is
+  pub small : (count ≤ mostMatches) × ((marks ≤ mostMarks) × (at < 4294967296))
+  small =
+      let place = reach-place (h .reach) in
+      let n = h .counted in
+      let k = h .counted-marks in
+      omega (arith, place)
 
-    pub step-taken : {m : Match} → t ≡ Step.Take m → Progress s p q (count + 1) (at + matchWidth)
+  -- from what the call on the command ensures
+  module _ {t : Step} (et : t ≡ stepOf p q count marks at (commandOf (drop at s))) where
+    -- it computes the step at the offset
+    pub comes : {t′ : Step} → t ≡ t′
+        → stepOf p q (length (h .matches)) (length (h .points)) at (commandOf (drop at s)) ≡ t′
+    comes e = rw (h .counted, h .counted-marks) (sym et ∙ e)
+
+    pub step-refused : {f : Refusal} → t ≡ Step.Refuse f → readScript s ≡ refused f
+    step-refused e = reach-ends (h .reach) (seen s at) (comes e)
+
+    pub step-finished : t ≡ Step.Finish → readScript s ≡ admitted (p ∷ q ∷ []) (h .matches) (h .points)
+    step-finished e = reach-ends (h .reach) (seen s at) (comes e)
+
+    unfoldable pub step-taken : {m : Match} → t ≡ Step.Take m → Progress s p q (count + 1) marks (at + matchWidth)
     step-taken {m} e =
         record {
           matches = h .matches ++ m ∷ [];
-          reach = next-reach (h .reach) (comes e);
+          points = h .points;
+          reach = further (h .reach) (comes e);
           counted = length-append (h .matches) (m ∷ []) ∙ ap (λ (n : ℕ). n + 1) (h .counted);
+          counted-marks = h .counted-marks;
+        }
+
+    unfoldable pub step-kept : {k : Mark} → t ≡ Step.Keep k → Progress s p q count (marks + 1) (at + markWidth)
+    step-kept {k} e =
+        record {
+          matches = h .matches;
+          points = h .points ++ k ∷ [];
+          reach = further (h .reach) (comes e);
+          counted = h .counted;
+          counted-marks = length-append (h .points) (k ∷ []) ∙ ap (λ (n : ℕ). n + 1) (h .counted-marks);
         }

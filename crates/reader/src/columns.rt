@@ -1,107 +1,166 @@
-// The matches of a script, a lent column for each field.
+// The matches and the marks of a script, a lent column for each field.
 use crate::read;
-use commands::is_reversed;
-use commands::number_at;
+use crate::step_at;
 use script::Verdict;
 use script::command::LENGTHS_WIDTH;
+use script::command::MARK_WIDTH;
 use script::command::MATCH_WIDTH;
+use script::command::Mark;
+use script::command::Match;
+use script::step::Step;
 ghost use mathlib.Core.Path.{_≡_};
-ghost use mathlib.Core.Logic.{_⊎_};
-ghost use Prim.Native.Nat.{_+_, _*_, _-_, _≤_};
-ghost use lib.ListN.{length};
-ghost use lib.Seq.{sets};
-ghost use Rattle.script.specs.Commands.{lengthsWidth, matchWidth};
+ghost use lib.ListN.{set};
 ghost use Rattle.script.specs.Reading.{readScript, verdictOf};
-ghost use Rattle.script.specs.Columns.{ColumnsRead};
-ghost use Rattle.script.specs.Demands.{verdictAnswer, ReadingDemand, ColumnsDemand};
-ghost use Rattle.reader.specs.Offsets.{operandOf, directionOf, valuesFrom, OffsetsStored};
+ghost use Rattle.script.specs.Columns.{ColumnsRead, MarksRead};
+ghost use Rattle.script.specs.Demands.{verdictAnswer, ReadingDemand, ColumnsDemand, MarksDemand};
+ghost use Rattle.reader.specs.Walking.{Admits, MatchPut, MarkPut};
 
-// The smaller of two numbers.
-fn fewer(a: usize, b: usize) -> usize
-    ensures { λ r. ⌜ (r ≤ a) × ((r ≤ b) × ((r ≡ a) ⊎ (r ≡ b))) ⌝ }
+// Stores a value at k, if the column reaches so far: a number, a direction, a side.
+fn put_number(column: &mut [u32], k: usize, number: u32)
+    ensures { λ _. ⌜ now (column .exit) ≡ set (now (column .entry)) k number ⌝ }
 {
-    if a < b {
-        return a;
-    }
-    b
-}
-
-// One number of each match, as many as the column has room for.
-fn fill_numbers(script: &[u8], operand: usize, count: usize, column: &mut [u32])
-    requires { ⌜
-        (matchWidth * count ≤ length (now script) - lengthsWidth) × (operand + 4 ≤ matchWidth) ⌝ }
-    ensures { λ _. ⌜
-        now (column .exit)
-        ≡ sets (now (column .entry)) 0 (valuesFrom (operandOf (now (script .entry)) operand) 0 count) ⌝ }
-{
-    let room = fewer(count, column.len());
-    let mut k = 0;
-    while k < room {
-        column[k] = number_at(script, LENGTHS_WIDTH + MATCH_WIDTH * k + operand);
-        k += 1;
+    if k < column.len() {
+        column[k] = number;
     }
 }
 
-// The direction of each match, as many as the column has room for.
-fn fill_directions(script: &[u8], count: usize, column: &mut [bool])
-    requires { ⌜ matchWidth * count ≤ length (now script) - lengthsWidth ⌝ }
-    ensures { λ _. ⌜
-        now (column .exit) ≡ sets (now (column .entry)) 0 (valuesFrom (directionOf (now (script .entry))) 0 count) ⌝ }
+fn put_direction(column: &mut [bool], k: usize, reversed: bool)
+    ensures { λ _. ⌜ now (column .exit) ≡ set (now (column .entry)) k reversed ⌝ }
 {
-    let room = fewer(count, column.len());
-    let mut k = 0;
-    while k < room {
-        column[k] = is_reversed(script[LENGTHS_WIDTH + MATCH_WIDTH * k]);
-        k += 1;
+    if k < column.len() {
+        column[k] = reversed;
     }
 }
 
-// The four columns, with no command judged again.
-fn fill_columns(
-    script: &[u8],
-    count: usize,
+fn put_side(column: &mut [u8], k: usize, side: u8)
+    ensures { λ _. ⌜ now (column .exit) ≡ set (now (column .entry)) k side ⌝ }
+{
+    if k < column.len() {
+        column[k] = side;
+    }
+}
+
+// Stores a match behind k others.
+fn put_match(
+    found: Match,
+    k: usize,
     left_a: &mut [u32],
     left_b: &mut [u32],
     lengths: &mut [u32],
     reversed: &mut [bool],
 )
-    requires { ⌜ matchWidth * count ≤ length (now script) - lengthsWidth ⌝ }
     ensures { λ _. ⌜
-        OffsetsStored (now (script .entry)) count
+        MatchPut found k
         (now («left_a» .entry)) (now («left_b» .entry)) (now (lengths .entry)) (now (reversed .entry))
         (now («left_a» .exit)) (now («left_b» .exit)) (now (lengths .exit)) (now (reversed .exit)) ⌝ }
 {
-    fill_numbers(script, 1, count, left_a);
-    fill_numbers(script, 5, count, left_b);
-    fill_numbers(script, 9, count, lengths);
-    fill_directions(script, count, reversed);
+    put_number(left_a, k, found.left_a);
+    put_number(left_b, k, found.left_b);
+    put_number(lengths, k, found.length);
+    put_direction(reversed, k, found.reversed);
 }
 
-// Reads a script, and the matches of an admitted one into the columns: match k at k - 1, as far as each column reaches.
-// All commands are judged before any is written, so that a refusal leaves the columns as they were.
+// Stores a mark behind k others.
+fn put_mark(found: Mark, k: usize, sides: &mut [u8], positions: &mut [u32])
+    ensures { λ _. ⌜
+        MarkPut found k
+        (now (sides .entry)) (now (positions .entry)) (now (sides .exit)) (now (positions .exit)) ⌝ }
+{
+    put_side(sides, k, found.side);
+    put_number(positions, k, found.position);
+}
+
+// The six columns of an admitted script, filled command by command.
+fn fill_columns(
+    script: &[u8],
+    p: u32,
+    q: u32,
+    left_a: &mut [u32],
+    left_b: &mut [u32],
+    lengths: &mut [u32],
+    reversed: &mut [bool],
+    sides: &mut [u8],
+    positions: &mut [u32],
+)
+    requires { ⌜ Admits (now script) p q ⌝ }
+    ensures columns { λ _. ⌜
+        ColumnsRead (now (script .entry))
+        (now («left_a» .entry)) (now («left_b» .entry)) (now (lengths .entry)) (now (reversed .entry))
+        (now («left_a» .exit)) (now («left_b» .exit)) (now (lengths .exit)) (now (reversed .exit)) ⌝ }
+    ensures marks { λ _. ⌜
+        MarksRead (now (script .entry)) (now (sides .entry)) (now (positions .entry)) (now (sides .exit))
+        (now (positions .exit)) ⌝ }
+{
+    let mut count: usize = 0;
+    let mut marks: usize = 0;
+    let mut at: usize = LENGTHS_WIDTH;
+    loop {
+        match step_at(script, p, q, count, marks, at) {
+            Step::Refuse(_) => return,
+            Step::Finish => return,
+            Step::Take(found) => {
+                put_match(found, count, left_a, left_b, lengths, reversed);
+                count += 1;
+                at += MATCH_WIDTH;
+            }
+            Step::Keep(found) => {
+                put_mark(found, marks, sides, positions);
+                marks += 1;
+                at += MARK_WIDTH;
+            }
+        }
+    }
+}
+
+// Reads a script, and the matches and marks of an admitted one into the columns: match k at k - 1, and so the marks, as
+// far as each column reaches. All commands are judged before any is written, so that a refusal leaves the columns as
+// they were.
 pub fn read_columns(
     script: &[u8],
     left_a: &mut [u32],
     left_b: &mut [u32],
     lengths: &mut [u32],
     reversed: &mut [bool],
+    sides: &mut [u8],
+    positions: &mut [u32],
 ) -> Verdict
     ensures reply { λ r. ⌜ r ≡ verdictOf (readScript (now (script .entry))) ⌝ }
     ensures columns { λ _. ⌜
         ColumnsRead (now (script .entry))
         (now («left_a» .entry)) (now («left_b» .entry)) (now (lengths .entry)) (now (reversed .entry))
         (now («left_a» .exit)) (now («left_b» .exit)) (now (lengths .exit)) (now (reversed .exit)) ⌝ }
+    ensures marks { λ _. ⌜
+        MarksRead (now (script .entry)) (now (sides .entry)) (now (positions .entry)) (now (sides .exit))
+        (now (positions .exit)) ⌝ }
     ensures demand { λ r. ⌜ ReadingDemand (now (script .entry)) (verdictAnswer r) ⌝ }
     ensures columns_demand { λ _. ⌜
         ColumnsDemand (now (script .entry))
         (now («left_a» .entry)) (now («left_b» .entry)) (now (lengths .entry)) (now (reversed .entry))
         (now («left_a» .exit)) (now («left_b» .exit)) (now (lengths .exit)) (now (reversed .exit)) ⌝ }
+    ensures marks_demand { λ _. ⌜
+        MarksDemand (now (script .entry)) (now (sides .entry)) (now (positions .entry)) (now (sides .exit))
+        (now (positions .exit)) ⌝ }
 {
     let verdict = read(script);
     match verdict {
         Verdict::Refused(_) => verdict,
-        Verdict::Admitted { p: _, q: _, count } => {
-            fill_columns(script, count, left_a, left_b, lengths, reversed);
+        Verdict::Admitted {
+            p,
+            q,
+            count: _,
+            marks: _,
+        } => {
+            fill_columns(
+                script,
+                p,
+                q,
+                left_a,
+                left_b,
+                lengths,
+                reversed,
+                sides,
+                positions,
+            );
             verdict
         }
     }

@@ -26,6 +26,9 @@ pub fn number_of(refusal: Refusal) -> u32
         Refusal::BufferTooShort => 16,
         Refusal::PriceTooHigh => 17,
         Refusal::ChainTooShort => 18,
+        Refusal::TooManyMarks(_) => 19,
+        Refusal::NoSuchSide(_) => 20,
+        Refusal::MarkBeyond(_) => 21,
     }
 }
 
@@ -52,5 +55,8 @@ pub fn place_of(refusal: Refusal) -> usize
         Refusal::BufferTooShort => 0,
         Refusal::PriceTooHigh => 0,
         Refusal::ChainTooShort => 0,
+        Refusal::TooManyMarks(at) => at,
+        Refusal::NoSuchSide(at) => at,
+        Refusal::MarkBeyond(at) => at,
     }
 }

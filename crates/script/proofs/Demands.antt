@@ -4,7 +4,7 @@
 --     finding-demand, finding-contract     likewise of `findingOf`
 -- Assumes nothing.
 use Prim.Native.Nat.{ℕ}
-use mathlib.Core.Path.{_≡_, refl, subst}
+use mathlib.Core.Path.{_≡_, refl, ap, subst, _∙_}
 use mathlib.Core.Logic.{inl, inr}
 use mathlib.Core.List.{List}
 use native.Mathlib.Numerals.{add-one}
@@ -15,9 +15,11 @@ use Rattle.script.specs.Finding.{findingOf}
 use Rattle.script.specs.Demands.{Counted, verdictAnswer, ReadingOutcome, ReadingDemand}
 use Rattle.script.specs.Demands.{findingAnswer, FindingOutcome, FindingDemand}
 use Rattle.script.specs.declared.command.Match.{Match}
+use Rattle.script.specs.declared.command.Mark.{Mark}
 use Rattle.script.specs.declared.Finding.{Finding}
 use Rattle.script.specs.declared.Verdict.{Verdict}
 use Rattle.script.proofs.Outcome.{read-outcome, outcome-admitted, outcome-refused}
+use Rattle.script.proofs.Admitted.{admitted-ended}
 use Rattle.script.proofs.Found.{Numbered, none, behind, numbered, found-zero, found-above, found-behind}
 
 -- ---- reading
@@ -32,7 +34,9 @@ module _ (s : List ℕ) where
     where
       by-reading : (x : Reading) → readScript s ≡ x → ReadingOutcome s (verdictAnswer (verdictOf x))
       by-reading (refused f) e = ReadingOutcome.script-refused (read-outcome e)
-      by-reading (admitted p q ms) e = ReadingOutcome.script-admitted (read-outcome e)
+      by-reading (admitted ls ms ks) e =
+          let lengths = admitted-ended e .lengths in
+          rw lengths (ReadingOutcome.script-admitted (read-outcome (e ∙ ap (λ l. admitted l ms ks) lengths)))
 
   module _ {v : Verdict} (is : v ≡ verdictOf (readScript s)) where
     pub reading-demand : ReadingDemand s (verdictAnswer v)
@@ -54,15 +58,15 @@ module _ (s : List ℕ) (number : ℕ) where
   finding-stated : FindingOutcome s number (findingAnswer (findingOf (readScript s) number))
   finding-stated = by-reading (readScript s) refl
     where
-      by-number : {p q : ℕ} {ms : List Match} {f : Finding} → Outcome s (value (contents p q ms)) → Numbered ms number f
-          → FindingOutcome s number (findingAnswer f)
+      by-number : {ls : List ℕ} {ms : List Match} {ks : List Mark} {f : Finding}
+          → Outcome s (value (contents ls ms ks)) → Numbered ms number f → FindingOutcome s number (findingAnswer f)
       by-number o (none h) = FindingOutcome.no-such-match o h
-      by-number {p} {q} o (behind before after e n) =
-          FindingOutcome.found before after (subst (λ (l : List Match). Outcome s (value (contents p q l))) e o) n
+      by-number {ls} {ks = ks} o (behind before after e n) =
+          FindingOutcome.found before after (subst (λ (l : List Match). Outcome s (value (contents ls l ks))) e o) n
 
       by-reading : (x : Reading) → readScript s ≡ x → FindingOutcome s number (findingAnswer (findingOf x number))
       by-reading (refused f) e = FindingOutcome.script-refused (read-outcome e)
-      by-reading (admitted p q ms) e = by-number (read-outcome e) (numbered ms number)
+      by-reading (admitted ls ms ks) e = by-number (read-outcome e) (numbered ms number)
 
   module _ {f : Finding} (is : f ≡ findingOf (readScript s) number) where
     pub finding-demand : FindingDemand s number (findingAnswer f)

@@ -1,21 +1,19 @@
 -- The match of a number, in the list of matches.
 --     Numbered, numbered                    what is found under a number, as 01 counts; one of two cases applies
---     found-none-zero, found-none-above     number 0 and numbers above the count have none
+--     found-zero, found-above               number 0 and numbers above the count have none
 --     found-behind                          the match behind n others has the number n + 1
---     found-held                            any other number has the match at one less
+--     found-at                              any other number has the match at one less
 -- Assumes nothing.
-use Prim.Native.Nat.{ℕ, zero, suc, _+_, _-_, _≤_, _<_}
-use mathlib.Core.Path.{_≡_, refl, ap, _∙_}
+use Prim.Native.Nat.{ℕ, zero, suc, _+_, _<_}
+use mathlib.Core.Path.{_≡_, refl, ap}
 use mathlib.Core.Logic.{_⊎_, inl, inr}
 use mathlib.Core.List.{List, [], _∷_, _++_}
 use native.Mathlib.Omega.{arith}
 use lib.ListN.{length, getD}
-use Rattle.script.specs.Finding.{foundIn, findingOf}
-use Rattle.script.specs.Reading.{readScript}
+use Rattle.script.specs.Finding.{foundIn}
 use Rattle.script.specs.declared.refusal.Refusal.the-variants.{NoSuchMatch}
 use Rattle.script.specs.declared.command.Match.{Match}
 use Rattle.script.specs.declared.Finding.{Finding}
-use Rattle.script.proofs.Admitted.{Holds}
 
 -- the finding is the match behind one less than the number, or there is none
 pub data Numbered (ms : List Match) (number : ℕ) : Finding → Type 0 where
@@ -52,23 +50,8 @@ found-above (m ∷ ms) zero h = absurd (omega arith)
 found-above (m ∷ ms) (suc zero) h = absurd (omega arith)
 found-above (m ∷ ms) (suc (suc number)) h = found-above ms (suc number) (omega arith)
 
-found-at : (ms : List Match) (index : ℕ) (blank : Match) → index < length ms
+pub found-at : (ms : List Match) (index : ℕ) (blank : Match) → index < length ms
     → foundIn ms (suc index) ≡ Finding.Found (getD ms index blank)
 found-at [] index blank h = absurd (omega arith)
 found-at (m ∷ ms) zero blank h = refl
 found-at (m ∷ ms) (suc index) blank h = found-at ms index blank (omega arith)
-
-module _ {s : List ℕ} {p q count : ℕ} (held : Holds s p q count) where
-  pub found-none-zero : findingOf (readScript s) 0 ≡ Finding.Refused NoSuchMatch
-  found-none-zero = rw (held .read) (found-zero (held .matches))
-
-  pub found-none-above : (number : ℕ) → count < number → findingOf (readScript s) number ≡ Finding.Refused NoSuchMatch
-  found-none-above number h = rw (held .read) (found-above (held .matches) number (omega (arith, held .counted)))
-
-  pub found-held : (number : ℕ) (blank : Match) → 0 < number → number ≤ count
-      → findingOf (readScript s) number ≡ Finding.Found (getD (held .matches) (number - 1) blank)
-  found-held number blank some h =
-      let index : ℕ = number - 1 in
-      let one-more : number ≡ suc index = omega arith in
-      rw (held .read)
-      (ap (foundIn (held .matches)) one-more ∙ found-at (held .matches) index blank (omega (arith, held .counted)))

@@ -1,26 +1,32 @@
--- What a command with its operands comes to, from the computed step and back: views of `matchJudgement`, `matchStep`
--- and `lengthsStep` by their cases.
+-- What a command with its operands comes to, from the computed step and back: views of `matchJudgement`,
+-- `markJudgement`, `matchStep`, `markStep` and `lengthsStep` by their cases.
 --     Weighed p q place m j       the match m comes to the judgement j, in the words of specs/Outcomes
 --     weighed, weighed-judgement  the computed judgement is weighed so, and what is weighed so is the computed one
+--     Roomy, roomy, roomy-step    there is room for one more, or there is not: the same for matches and for marks
 --     Judged p q count at m t     the match m comes to the step t
 --     judged, judged-step         likewise
---     short-room, short-full      a match that is cut short, with room for it and without
+--     Measured, measured, measured-judgement     a mark and its judgement
+--     Pointed, pointed, pointed-step             a mark and its step
 --     Opens p q o                 the lengths p q come to the opening o
 --     opens, opens-step           likewise
 -- Assumes nothing.
 use Prim.Native.Nat.{ℕ, _+_, _≤_, _<_}
-use mathlib.Core.Path.{_≡_, ap}
+use mathlib.Core.Path.{_≡_, ap, _∙_}
 use mathlib.Core.Bool.{true, false}
 use native.Mathlib.Omega.{arith}
 use native.Mathlib.Decide.{decLe, ℕ-discrete}
 use native.Mathlib.Nat.{lt-of-not-le}
 use borrow.Author.Tests.{eq-eqb, ne-eqb, lt-ltb, le-ltb, le-leb, lt-leb}
-use Rattle.script.specs.Limits.{longest, mostMatches}
-use Rattle.script.specs.Steps.{inRange, lengthsStep, matchJudgement, stepAfter, matchStep, cutShortStep}
-use Rattle.script.specs.Outcomes.{InRange, Within}
-use Rattle.script.specs.declared.refusal.Refusal.the-variants.{CutShort, LengthOutOfRange, TooManyMatches}
+use Rattle.script.specs.Limits.{longest, mostMatches, mostMarks}
+use Rattle.script.specs.Steps.{inRange, lengthsStep, matchJudgement, lettersOn, markJudgement}
+use Rattle.script.specs.Steps.{withRoom, unlessFaulty, matchStep, markStep}
+use Rattle.script.specs.Outcomes.{InRange, Within, OnSequence, PastSequence}
+use Rattle.script.specs.declared.refusal.Refusal.{Refusal}
+use Rattle.script.specs.declared.refusal.Refusal.the-variants.{LengthOutOfRange, TooManyMatches}
 use Rattle.script.specs.declared.refusal.Refusal.the-variants.{EmptyMatch, BeyondA, BeyondB}
+use Rattle.script.specs.declared.refusal.Refusal.the-variants.{TooManyMarks, NoSuchSide, MarkBeyond}
 use Rattle.script.specs.declared.command.Match.{Match}
+use Rattle.script.specs.declared.command.Mark.{Mark}
 use Rattle.script.specs.declared.step.Judgement.{Judgement}
 use Rattle.script.specs.declared.step.Judgement.the-variants.{Sound, Faulty}
 use Rattle.script.specs.declared.step.Opening.{Opening}
@@ -67,30 +73,116 @@ weighed-judgement {p} {q} {m} (sound w) =
       le-ltb q (m .«left_b» + m .length) (w .in-b),
     )
 
--- ---- a match command
+-- ---- the numbers of a mark
+
+pub data Measured (p q place : ℕ) (k : Mark) : Judgement → Type 0 where
+  no-side : 1 < k .side → Measured p q place k (Faulty (NoSuchSide place))
+  beyond : PastSequence p q k → Measured p q place k (Faulty (MarkBeyond place))
+  sound : OnSequence p q k → Measured p q place k Sound
+
+-- a mark on A or on B, by the letters there
+data Sided (p q : ℕ) (k : Mark) : Type 0 where
+  neither : 1 < k .side → Sided p q k
+  one :
+      (letters : ℕ) → k .side ≤ 1 → lettersOn p q (k .side) ≡ letters → (k .position ≤ letters → OnSequence p q k)
+      → (letters < k .position → PastSequence p q k) → Sided p q k
+
+sided : (p q : ℕ) (k : Mark) → Sided p q k
+sided p q k =
+    elim (ℕ-discrete (k .side) 0) [
+      | yes e ↦ one p (omega arith) (rw e) (OnSequence.on-a e) (PastSequence.past-a e)
+      | no n ↦ elim (ℕ-discrete (k .side) 1) [
+        | yes e ↦ one q (omega arith) (rw e) (OnSequence.on-b e) (PastSequence.past-b e)
+        | no n1 ↦ neither (omega arith)
+      ]
+    ]
+
+pub measured : (p q place : ℕ) (k : Mark) → Measured p q place k (markJudgement p q place k)
+measured p q place k = go (sided p q k)
+  where
+    go : Sided p q k → Measured p q place k (markJudgement p q place k)
+    go (neither h) = rw (lt-ltb 1 (k .side) h) (no-side h)
+    go (one letters few is on past) =
+        rw (le-ltb 1 (k .side) few, is) (elim (decLe (k .position) letters) [
+          | yes h ↦ rw (le-ltb letters (k .position) h) (sound (on h))
+          | no h ↦ let over = lt-of-not-le h in rw (lt-ltb letters (k .position) over) (beyond (past over))
+        ])
+
+-- a mark is told by the side that it lies on
+on-side : {p q : ℕ} {k : Mark} → OnSequence p q k → (k .side ≤ 1) × (k .position ≤ lettersOn p q (k .side))
+on-side (OnSequence.on-a e h) = (omega arith, rw e h)
+on-side (OnSequence.on-b e h) = (omega arith, rw e h)
+
+past-side : {p q : ℕ} {k : Mark} → PastSequence p q k → (k .side ≤ 1) × (lettersOn p q (k .side) < k .position)
+past-side (PastSequence.past-a e h) = (omega arith, rw e h)
+past-side (PastSequence.past-b e h) = (omega arith, rw e h)
+
+pub measured-judgement : {p q place : ℕ} {k : Mark} {j : Judgement} → Measured p q place k j
+    → markJudgement p q place k ≡ j
+measured-judgement {k} (no-side h) = rw (lt-ltb 1 (k .side) h)
+measured-judgement {p} {q} {k = k} (beyond h) =
+    rw (le-ltb 1 (k .side) (past-side h .0), lt-ltb (lettersOn p q (k .side)) (k .position) (past-side h .1))
+measured-judgement {p} {q} {k = k} (sound h) =
+    rw (le-ltb 1 (k .side) (on-side h .0), le-ltb (lettersOn p q (k .side)) (k .position) (on-side h .1))
+
+-- ---- room for one more
+
+pub data Roomy (most count : ℕ) (full : Refusal) (next : Step) : Step → Type 0 where
+  too-many : most ≤ count → Roomy most count full next (Step.Refuse full)
+  room : count < most → Roomy most count full next next
+
+pub roomy : (most count : ℕ) (full : Refusal) (next : Step) → Roomy most count full next (withRoom most count full next)
+roomy most count full next =
+    elim (decLe most count) [
+      | yes h ↦ rw (le-leb most count h) (too-many h)
+      | no n ↦ let few = lt-of-not-le n in rw (lt-leb most count few) (room few)
+    ]
+
+pub roomy-step : {most count : ℕ} {full : Refusal} {next t : Step} → Roomy most count full next t
+    → withRoom most count full next ≡ t
+roomy-step {most} {count} (too-many h) = rw (le-leb most count h)
+roomy-step {most} {count} (room h) = rw (lt-leb most count h)
+
+-- ---- a match command and a mark command
 
 pub data Judged (p q count at : ℕ) (m : Match) : Step → Type 0 where
   too-many : mostMatches ≤ count → Judged p q count at m (Step.Refuse (TooManyMatches at))
-  room : {j : Judgement} → count < mostMatches → Weighed p q at m j → Judged p q count at m (stepAfter m j)
+  room : {j : Judgement} → count < mostMatches → Weighed p q at m j
+      → Judged p q count at m (unlessFaulty j (Step.Take m))
 
 pub judged : (p q count at : ℕ) (m : Match) → Judged p q count at m (matchStep p q count at m)
 judged p q count at m =
-    elim (decLe mostMatches count) [
-      | yes h ↦ rw (le-leb mostMatches count h) (too-many h)
-      | no n ↦ let few = lt-of-not-le n in rw (lt-leb mostMatches count few) (room few (weighed p q at m))
-    ]
+    go (roomy mostMatches count (TooManyMatches at) (unlessFaulty (matchJudgement p q at m) (Step.Take m)))
+  where
+    go : {t : Step}
+        → Roomy mostMatches count (TooManyMatches at) (unlessFaulty (matchJudgement p q at m) (Step.Take m)) t
+        → Judged p q count at m t
+    go (Roomy.too-many h) = too-many h
+    go (Roomy.room h) = room h (weighed p q at m)
 
 pub judged-step : {p q count at : ℕ} {m : Match} {t : Step} → Judged p q count at m t → matchStep p q count at m ≡ t
-judged-step {count} (too-many h) = rw (le-leb mostMatches count h)
-judged-step {count} {m} (room h w) = rw (lt-leb mostMatches count h) (ap (stepAfter m) (weighed-judgement w))
+judged-step {count} (too-many h) = roomy-step (Roomy.too-many h)
+judged-step {count} {m} (room h w) =
+    roomy-step (Roomy.room h) ∙ ap (λ j. unlessFaulty j (Step.Take m)) (weighed-judgement w)
 
--- ---- a match whose operands are incomplete
+pub data Pointed (p q marks at : ℕ) (k : Mark) : Step → Type 0 where
+  too-many : mostMarks ≤ marks → Pointed p q marks at k (Step.Refuse (TooManyMarks at))
+  room : {j : Judgement} → marks < mostMarks → Measured p q at k j
+      → Pointed p q marks at k (unlessFaulty j (Step.Keep k))
 
-pub short-room : {count at : ℕ} → count < mostMatches → cutShortStep count at ≡ Step.Refuse (CutShort at)
-short-room {count} h = rw (lt-leb mostMatches count h)
+pub pointed : (p q marks at : ℕ) (k : Mark) → Pointed p q marks at k (markStep p q marks at k)
+pointed p q marks at k =
+    go (roomy mostMarks marks (TooManyMarks at) (unlessFaulty (markJudgement p q at k) (Step.Keep k)))
+  where
+    go : {t : Step} → Roomy mostMarks marks (TooManyMarks at) (unlessFaulty (markJudgement p q at k) (Step.Keep k)) t
+        → Pointed p q marks at k t
+    go (Roomy.too-many h) = too-many h
+    go (Roomy.room h) = room h (measured p q at k)
 
-pub short-full : {count at : ℕ} → mostMatches ≤ count → cutShortStep count at ≡ Step.Refuse (TooManyMatches at)
-short-full {count} h = rw (le-leb mostMatches count h)
+pub pointed-step : {p q marks at : ℕ} {k : Mark} {t : Step} → Pointed p q marks at k t → markStep p q marks at k ≡ t
+pointed-step (too-many h) = roomy-step (Roomy.too-many h)
+pointed-step {k = k} (room h w) =
+    roomy-step (Roomy.room h) ∙ ap (λ j. unlessFaulty j (Step.Keep k)) (measured-judgement w)
 
 -- ---- lengths
 

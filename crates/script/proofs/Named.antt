@@ -17,6 +17,7 @@ use Rattle.script.specs.declared.refusal.Refusal.the-variants.{BeyondA, 
 use Rattle.script.specs.declared.refusal.Refusal.the-variants.{TooManyPieces, NoSuchMatch, OffTheMatch}
 use Rattle.script.specs.declared.refusal.Refusal.the-variants.{MalformedRecords, BufferTooShort}
 use Rattle.script.specs.declared.refusal.Refusal.the-variants.{PriceTooHigh, ChainTooShort}
+use Rattle.script.specs.declared.refusal.Refusal.the-variants.{TooManyMarks, NoSuchSide, MarkBeyond}
 
 -- the rows of 01's table, in its order
 abbrev refusalOf : ℕ → ℕ → Refusal
@@ -24,7 +25,8 @@ refusalOf number at =
     getD
     (Headless ∷ UnknownCommand at ∷ CutShort at ∷ SecondLengths at ∷ LengthOutOfRange ∷ TooManyMatches at
     ∷ EmptyMatch at ∷ BeyondA at ∷ BeyondB at ∷ Tail at ∷ WorkTooShort ∷ TooManyPieces ∷ NoSuchMatch ∷ OffTheMatch
-    ∷ MalformedRecords at ∷ BufferTooShort ∷ PriceTooHigh ∷ ChainTooShort ∷ [])
+    ∷ MalformedRecords at ∷ BufferTooShort ∷ PriceTooHigh ∷ ChainTooShort ∷ TooManyMarks at ∷ NoSuchSide at
+    ∷ MarkBeyond at ∷ [])
     (number - 1) Headless
 
 pub refusal-named : (r : Refusal) → refusalOf (numberOf r) (placeOf r) ≡ r
@@ -46,11 +48,14 @@ refusal-named (MalformedRecords at) = refl
 refusal-named BufferTooShort = refl
 refusal-named PriceTooHigh = refl
 refusal-named ChainTooShort = refl
+refusal-named (TooManyMarks at) = refl
+refusal-named (NoSuchSide at) = refl
+refusal-named (MarkBeyond at) = refl
 
 pub answer-inj : (x y : Reading) → readingAnswer x ≡ readingAnswer y → x ≡ y
-answer-inj (admitted p q ms) (admitted p′ q′ ms′) e = cc
-answer-inj (admitted p q ms) (refused r) e = let z : _≡_ {A = ℕ} 0 1 = cc in absurd (omega arith)
-answer-inj (refused r) (admitted p q ms) e = let z : _≡_ {A = ℕ} 0 1 = cc in absurd (omega arith)
+answer-inj (admitted ls ms ks) (admitted ls′ ms′ ks′) e = cc
+answer-inj (admitted ls ms ks) (refused r) e = let z : _≡_ {A = ℕ} 0 1 = cc in absurd (omega arith)
+answer-inj (refused r) (admitted ls ms ks) e = let z : _≡_ {A = ℕ} 0 1 = cc in absurd (omega arith)
 answer-inj (refused r) (refused r′) e =
     let number : numberOf r ≡ numberOf r′ = cc in
     let place : placeOf r ≡ placeOf r′ = cc in

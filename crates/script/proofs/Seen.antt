@@ -1,7 +1,7 @@
 -- What stands at an offset of the script, from the computed command and back: a view of `commandOf` by its cases.
 --     number-drop      a number of the remainder is the number of the script, further on
 --     Seen s at c      the command c stands at the offset at, in the words of specs/Outcomes
---     whole-match      a match byte with its operands behind it is a match command
+--     whole-match, whole-mark     a command byte with its operands behind it is a command
 --     seen             the computed command is seen
 --     seen-command     what is seen is the computed command
 -- Assumes nothing.
@@ -16,12 +16,15 @@ use native.Mathlib.Nat.{lt-of-not-le, add-assoc}
 use lib.ListN.{length, getD, drop, length-drop}
 use lib.Seq.{getD-drop}
 use borrow.Author.Tests.{eq-eqb, ne-eqb, lt-ltb, le-ltb}
-use Rattle.script.specs.Commands.{lengthsWidth, matchWidth, numberAt, commandOf, lengthsOf, matchOf, endOf}
-use Rattle.script.specs.Outcomes.{Byte, MatchByte, MatchAt}
+use Rattle.script.specs.Commands.{lengthsWidth, matchWidth, markWidth, numberAt, commandOf, lengthsOf}
+use Rattle.script.specs.Commands.{matchOf, markOf, endOf}
+use Rattle.script.specs.Outcomes.{Byte, MatchByte, MatchAt, MarkAt}
 use Rattle.script.specs.declared.command.Match.{Match}
+use Rattle.script.specs.declared.command.Mark.{Mark}
 use Rattle.script.specs.declared.command.Command.{Command}
 use Rattle.script.specs.declared.command.Command.the-variants.{Missing, Unknown, Lengths, LengthsCutShort}
-use Rattle.script.specs.declared.command.Command.the-variants.{Pairing, MatchCutShort, End, EndThenMore}
+use Rattle.script.specs.declared.command.Command.the-variants.{Pairing, MatchCutShort, Marking, MarkCutShort}
+use Rattle.script.specs.declared.command.Command.the-variants.{End, EndThenMore}
 
 pub number-drop : (n k : ℕ) (s : List ℕ) → numberAt (drop n s) k ≡ numberAt s (n + k)
 number-drop n k s = simp (getD-drop, add-assoc)
@@ -32,25 +35,33 @@ code-drop s at = getD-drop at s 0 0 ∙ ap (λ (k : ℕ). getD s k 0) (omega ari
 
 pub data Seen (s : List ℕ) (at : ℕ) : Command → Type 0 where
   missing : length s ≤ at → Seen s at Missing
-  unknown : at < length s → getD s at 0 ≢ 0x4C → getD s at 0 ≢ 0x44 → getD s at 0 ≢ 0x52 → getD s at 0 ≢ 0x45
-      → Seen s at Unknown
+  unknown : at < length s → getD s at 0 ≢ 0x4C → getD s at 0 ≢ 0x44 → getD s at 0 ≢ 0x52 → getD s at 0 ≢ 0x4D
+      → getD s at 0 ≢ 0x45 → Seen s at Unknown
   lengths : Byte s at 0x4C → at + lengthsWidth ≤ length s
       → Seen s at (Lengths (numberAt s (at + 1)) (numberAt s (at + 5)))
   lengths-short : Byte s at 0x4C → length s < at + lengthsWidth → Seen s at LengthsCutShort
   pairing : {m : Match} → MatchAt s at m → Seen s at (Pairing m)
   pairing-short : {way : Bool} → MatchByte s at way → length s < at + matchWidth → Seen s at MatchCutShort
+  marking : {k : Mark} → MarkAt s at k → Seen s at (Marking k)
+  marking-short : Byte s at 0x4D → length s < at + markWidth → Seen s at MarkCutShort
   end : Byte s at 0x45 → at + 1 ≡ length s → Seen s at End
   end-then-more : Byte s at 0x45 → at + 1 < length s → Seen s at EndThenMore
 
--- a match byte with its operands behind it is a match command
 pub whole-match : {s : List ℕ} {at : ℕ} {way : Bool} → MatchByte s at way → at + matchWidth ≤ length s
     → MatchAt s at (record {
+      «track_a» = 0;
+      «track_b» = 1;
       «left_a» = numberAt s (at + 1);
       «left_b» = numberAt s (at + 5);
       length = numberAt s (at + 9);
       reversed = way;
     })
-whole-match b w = record { code = b; whole = w; left-a = refl; left-b = refl; letters = refl }
+whole-match b w =
+    record { code = b; whole = w; on-a = refl; on-b = refl; left-a = refl; left-b = refl; letters = refl }
+
+pub whole-mark : {s : List ℕ} {at : ℕ} → Byte s at 0x4D → at + markWidth ≤ length s
+    → MarkAt s at (record { side = getD s (at + 1) 0; position = numberAt s (at + 2) })
+whole-mark b w = record { code = b; whole = w; side = refl; position = refl }
 
 module _ (s : List ℕ) (at : ℕ) where
   left : length (drop at s) ≡ length s - at
@@ -83,6 +94,19 @@ module _ (s : List ℕ) (at : ℕ) where
             rw (lt-ltb (length (drop at s)) matchWidth (omega (arith, left, short))) (pairing-short b short)
       ]
 
+  seen-mark : Byte s at 0x4D → Seen s at (markOf (drop at s))
+  seen-mark b =
+      elim (decLe (at + markWidth) (length s)) [
+        | yes w ↦ rw (
+          le-ltb (length (drop at s)) markWidth (omega (arith, left)),
+          getD-drop at s 1 0,
+          number-drop at 2 s,
+        )
+            (marking (whole-mark b w))
+        | no w ↦ let short = lt-of-not-le w in
+            rw (lt-ltb (length (drop at s)) markWidth (omega (arith, left, short))) (marking-short b short)
+      ]
+
   seen-end : Byte s at 0x45 → Seen s at (endOf (drop at s))
   seen-end b =
       elim (decLe (length s) (at + 1)) [
@@ -100,9 +124,12 @@ module _ (s : List ℕ) (at : ℕ) where
           | yes e ↦ rw (eq-eqb (getD s at 0) 0x44 e) (seen-match (MatchByte.direct (record { inside = h; is = e })))
           | no n2 ↦ rw (ne-eqb (getD s at 0) 0x44 n2) (elim (ℕ-discrete (getD s at 0) 0x52) [
             | yes e ↦ rw (eq-eqb (getD s at 0) 0x52 e) (seen-match (MatchByte.backward (record { inside = h; is = e })))
-            | no n3 ↦ rw (ne-eqb (getD s at 0) 0x52 n3) (elim (ℕ-discrete (getD s at 0) 0x45) [
-              | yes e ↦ rw (eq-eqb (getD s at 0) 0x45 e) (seen-end (record { inside = h; is = e }))
-              | no n4 ↦ rw (ne-eqb (getD s at 0) 0x45 n4) (unknown h n1 n2 n3 n4)
+            | no n3 ↦ rw (ne-eqb (getD s at 0) 0x52 n3) (elim (ℕ-discrete (getD s at 0) 0x4D) [
+              | yes e ↦ rw (eq-eqb (getD s at 0) 0x4D e) (seen-mark (record { inside = h; is = e }))
+              | no n4 ↦ rw (ne-eqb (getD s at 0) 0x4D n4) (elim (ℕ-discrete (getD s at 0) 0x45) [
+                | yes e ↦ rw (eq-eqb (getD s at 0) 0x45 e) (seen-end (record { inside = h; is = e }))
+                | no n5 ↦ rw (ne-eqb (getD s at 0) 0x45 n5) (unknown h n1 n2 n3 n4 n5)
+              ])
             ])
           ])
         ])
@@ -126,19 +153,23 @@ module _ (s : List ℕ) (at : ℕ) where
   match-command (MatchByte.direct b) = rw (ne-eqb (length (drop at s)) 0 (by-code b .0), by-code b .1)
   match-command (MatchByte.backward b) = rw (ne-eqb (length (drop at s)) 0 (by-code b .0), by-code b .1)
 
+  mark-command : Byte s at 0x4D → commandOf (drop at s) ≡ markOf (drop at s)
+  mark-command b = rw (ne-eqb (length (drop at s)) 0 (by-code b .0), by-code b .1)
+
   end-command : Byte s at 0x45 → commandOf (drop at s) ≡ endOf (drop at s)
   end-command b = rw (ne-eqb (length (drop at s)) 0 (by-code b .0), by-code b .1)
 
   pub seen-command : {c : Command} → Seen s at c → commandOf (drop at s) ≡ c
   seen-command (missing h) = rw (eq-eqb (length (drop at s)) 0 (omega (arith, left)))
-  seen-command (unknown h n1 n2 n3 n4) =
+  seen-command (unknown h n1 n2 n3 n4 n5) =
       rw (
         ne-eqb (length (drop at s)) 0 (omega (arith, left)),
         code-drop s at,
         ne-eqb (getD s at 0) 0x4C n1,
         ne-eqb (getD s at 0) 0x44 n2,
         ne-eqb (getD s at 0) 0x52 n3,
-        ne-eqb (getD s at 0) 0x45 n4,
+        ne-eqb (getD s at 0) 0x4D n4,
+        ne-eqb (getD s at 0) 0x45 n5,
       )
   seen-command (lengths b w) =
       lengths-command b
@@ -155,8 +186,20 @@ module _ (s : List ℕ) (at : ℕ) where
         ← d .left-a,
         ← d .left-b,
         ← d .letters,
+        ← d .on-a,
+        ← d .on-b,
       )
   seen-command (pairing-short b h) =
       match-command b ∙ rw (lt-ltb (length (drop at s)) matchWidth (omega (arith, left)))
+  seen-command (marking d) =
+      mark-command (d .code)
+      ∙ rw (
+        le-ltb (length (drop at s)) markWidth (omega (arith, left, d .whole)),
+        getD-drop at s 1 0,
+        number-drop at 2 s,
+        ← d .side,
+        ← d .position,
+      )
+  seen-command (marking-short b h) = mark-command b ∙ rw (lt-ltb (length (drop at s)) markWidth (omega (arith, left)))
   seen-command (end b h) = end-command b ∙ rw (le-ltb 1 (length (drop at s)) (omega (arith, left)))
   seen-command (end-then-more b h) = end-command b ∙ rw (lt-ltb 1 (length (drop at s)) (omega (arith, left)))

@@ -16,4 +16,4 @@ foundIn (m ∷ ms) (suc (suc number)) = foundIn ms (suc number)
 
 abbrev pub findingOf : Reading → ℕ → Finding
 findingOf (refused r) number = Finding.Refused r
-findingOf (admitted p q ms) number = foundIn ms number
+findingOf (admitted ls ms ks) number = foundIn ms number

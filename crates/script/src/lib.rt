@@ -5,11 +5,17 @@ pub mod limits;
 pub mod refusal;
 pub mod step;
 
+pub use command::Mark;
 pub use command::Match;
 pub use refusal::Refusal;
 
 pub enum Verdict {
-    Admitted { p: u32, q: u32, count: usize },
+    Admitted {
+        p: u32,
+        q: u32,
+        count: usize,
+        marks: usize,
+    },
     Refused(Refusal),
 }
 

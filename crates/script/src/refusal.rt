@@ -19,4 +19,7 @@ pub enum Refusal {
     BufferTooShort,
     PriceTooHigh,
     ChainTooShort,
+    TooManyMarks(usize),
+    NoSuchSide(usize),
+    MarkBeyond(usize),
 }

@@ -1,8 +1,9 @@
-// What one command does to the script read so far, and whether a match has a fault.
+// What one command does to the script read so far, and whether a match or a mark has a fault.
+use crate::command::Mark;
 use crate::command::Match;
 use crate::refusal::Refusal;
 
-// Whether a match, in a script or in a list, or a whole list has a fault.
+// Whether a match or a mark, in a script or in a list, or a whole list has a fault.
 pub enum Judgement {
     Sound,
     Faulty(Refusal),
@@ -19,4 +20,5 @@ pub enum Step {
     Refuse(Refusal),
     Finish,
     Take(Match),
+    Keep(Mark),
 }

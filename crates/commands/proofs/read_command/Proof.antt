@@ -2,7 +2,7 @@
 -- match. Assumes nothing.
 use borrow.Author.Needs.{needs}
 use Rattle.script.proofs.Tests.{tests}
-use Rattle.commands.proofs.Codes.{match-command, end-command, unknown-command}
+use Rattle.commands.proofs.Codes.{match-command, mark-command, end-command, unknown-command}
 use Rattle.commands.proofs.read_command.Statement.{statement}
 use Rattle.commands.proofs.read_command.Tie as tie
 
@@ -30,14 +30,20 @@ read-match-requires c κs = search needs
 returns-3 : tie.Need-returns-3
 returns-3 c = search (needs, match-command)
 
+read-mark-requires : tie.Need-read-mark-requires
+read-mark-requires c κs = search needs
+
+returns-4 : tie.Need-returns-4
+returns-4 c = search (needs, mark-command)
+
 read-end-requires : tie.Need-read-end-requires
 read-end-requires c κs = search needs
 
-returns-4 : tie.Need-returns-4
-returns-4 c = search (needs, end-command)
-
 returns-5 : tie.Need-returns-5
-returns-5 c = search (needs, unknown-command)
+returns-5 c = search (needs, end-command)
+
+returns-6 : tie.Need-returns-6
+returns-6 c = search (needs, unknown-command)
 
 pub read-command-spec : {M : Type 1} → statement M
 read-command-spec =
@@ -51,6 +57,8 @@ read-command-spec =
     is-reversed-requires
     read-match-requires
     returns-3
-    read-end-requires
+    read-mark-requires
     returns-4
-    returns-5)
+    read-end-requires
+    returns-5
+    returns-6)

@@ -30,6 +30,12 @@ enum-told-6 c = search needs
 enum-told-7 : tie.Need-enum-told-7
 enum-told-7 c = search needs
 
+enum-told-8 : tie.Need-enum-told-8
+enum-told-8 c = search needs
+
+enum-told-9 : tie.Need-enum-told-9
+enum-told-9 c = search needs
+
 returns : tie.Need-returns
 returns c = rw (c .enum-told .given .1)
 
@@ -54,6 +60,12 @@ returns-7 c = rw (c .enum-told6 .given .1)
 returns-8 : tie.Need-returns-8
 returns-8 c = rw (c .enum-told7 .given .1)
 
+returns-9 : tie.Need-returns-9
+returns-9 c = rw (c .enum-told8 .given .1)
+
+returns-10 : tie.Need-returns-10
+returns-10 c = rw (c .enum-told9 .given .1)
+
 pub judge-opening-spec : {M : Type 1} → statement M
 judge-opening-spec =
     tie.close
@@ -67,6 +79,8 @@ judge-opening-spec =
     enum-told-5
     enum-told-6
     enum-told-7
+    enum-told-8
+    enum-told-9
     returns
     returns-2
     returns-3
@@ -74,4 +88,6 @@ judge-opening-spec =
     returns-5
     returns-6
     returns-7
-    returns-8)
+    returns-8
+    returns-9
+    returns-10)

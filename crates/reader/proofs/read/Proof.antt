@@ -18,14 +18,19 @@ enum-known-refusal c = search needs
 enum-known-p : tie.Need-enum-known-p
 enum-known-p c = search needs
 
-read-matches-requires : tie.Need-read-matches-requires
-read-matches-requires c κs = search (needs, opens-script)
+read-commands-requires : tie.Need-read-commands-requires
+read-commands-requires c κs = search (needs, opens-script)
 
 returns : tie.Need-returns
-returns c = reading-contract _ (search (needs, refuses-script))
+returns c =
+    let read : tie.After-read-command = search in
+    let opening : tie.After-judge-opening = search in
+    reading-contract _
+    (rw (refuses-script _ (read .read-command .ensures) (opening .judge-opening .ensures)
+    (c .before .refusal .given .1)))
 
 returns-2 : tie.Need-returns-2
-returns-2 c = reading-contract _ (c .read-matches .ensures)
+returns-2 c = reading-contract _ (c .read-commands .ensures)
 
 pub read-spec : {M : Type 1} → statement M
 read-spec =
@@ -35,6 +40,6 @@ read-spec =
     judge-opening-requires
     enum-known-refusal
     enum-known-p
-    read-matches-requires
+    read-commands-requires
     returns
     returns-2)

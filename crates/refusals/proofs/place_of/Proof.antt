@@ -59,6 +59,15 @@ enum-told-8 c = search needs
 enum-told-9 : tie.Need-enum-told-9
 enum-told-9 c = search needs
 
+enum-known-refusal-10 : tie.Need-enum-known-refusal-10
+enum-known-refusal-10 c = search needs
+
+enum-known-refusal-11 : tie.Need-enum-known-refusal-11
+enum-known-refusal-11 c = search needs
+
+enum-known-refusal-12 : tie.Need-enum-known-refusal-12
+enum-known-refusal-12 c = search needs
+
 returns : tie.Need-returns
 returns c = sym (ap placeOf (c .enum-told .given .1))
 
@@ -113,6 +122,15 @@ returns-17 c = sym (ap placeOf (c .enum-told8 .given .1))
 returns-18 : tie.Need-returns-18
 returns-18 c = sym (ap placeOf (c .enum-told9 .given .1))
 
+returns-19 : tie.Need-returns-19
+returns-19 c = sym (ap placeOf (c .before .refusal10 .given .1))
+
+returns-20 : tie.Need-returns-20
+returns-20 c = sym (ap placeOf (c .before .refusal11 .given .1))
+
+returns-21 : tie.Need-returns-21
+returns-21 c = sym (ap placeOf (c .before .refusal12 .given .1))
+
 pub place-of-spec : {M : Type 1} → statement M
 place-of-spec =
     tie.close
@@ -135,6 +153,9 @@ place-of-spec =
     enum-told-7
     enum-told-8
     enum-told-9
+    enum-known-refusal-10
+    enum-known-refusal-11
+    enum-known-refusal-12
     returns
     returns-2
     returns-3
@@ -152,4 +173,7 @@ place-of-spec =
     returns-15
     returns-16
     returns-17
-    returns-18)
+    returns-18
+    returns-19
+    returns-20
+    returns-21)

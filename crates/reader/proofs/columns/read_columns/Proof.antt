@@ -1,8 +1,8 @@
 -- `read_columns` meets its contract: a refusal comes before any store, and the columns of an admitted script are filled
--- from its fixed offsets. The demands follow from the equations. Assumes nothing.
-use Rattle.reader.proofs.Filled.{inside, kept-columns, filled-columns, columns-contract}
+-- command by command. The demands follow from the equations. Assumes nothing.
 use mathlib.Core.Path.{sym, _∙_}
 use borrow.Author.Needs.{needs}
+use Rattle.reader.proofs.Filled.{kept-columns, columns-contract}
 use Rattle.reader.proofs.columns.read_columns.Statement.{statement}
 use Rattle.reader.proofs.columns.read_columns.Tie as tie
 
@@ -16,12 +16,15 @@ enum-known-verdict : tie.Need-enum-known-verdict
 enum-known-verdict c = search needs
 
 fill-columns-requires : tie.Need-fill-columns-requires
-fill-columns-requires c κs = search (needs, inside)
+fill-columns-requires c κs =
+    let read : tie.After-read = search in
+    let told : tie.After-verdict = search in
+    record { count = _; marks = _; told = sym (told .verdict .given .1) ∙ read .read .ensures .0 }
 
 returns : tie.Need-returns
 returns c =
     let reads = c .before .before .read .ensures .0 in
-    columns-contract _ reads (kept-columns _ reads (c .enum-told .given .1) _ _ _ _)
+    columns-contract _ reads (kept-columns _ reads (c .enum-told .given .1) _ _ _ _ _ _)
 
 same-length : tie.Need-same-length
 same-length c = search needs
@@ -35,14 +38,18 @@ same-length-3 c = search needs
 same-length-4 : tie.Need-same-length-4
 same-length-4 c = search needs
 
+same-length-5 : tie.Need-same-length-5
+same-length-5 c = search needs
+
+same-length-6 : tie.Need-same-length-6
+same-length-6 c = search needs
+
 returns-2 : tie.Need-returns-2
 returns-2 c =
     let read : tie.After-read = search in
     let told : tie.After-verdict = search in
     let filled : tie.After-fill-columns = search in
-    let admits = told .verdict .given .1 in
-    let reads = read .read .ensures .0 in
-    columns-contract _ (sym admits ∙ reads) (filled-columns _ reads admits (filled .fill-columns .ensures))
+    columns-contract _ (sym (told .verdict .given .1) ∙ read .read .ensures .0) (filled .fill-columns .ensures)
 
 pub read-columns-spec : {M : Type 1} → statement M
 read-columns-spec =
@@ -57,4 +64,6 @@ read-columns-spec =
     same-length-2
     same-length-3
     same-length-4
+    same-length-5
+    same-length-6
     returns-2)

@@ -1,48 +1,45 @@
--- `find_match` meets its contract: the verdict tells the reading, and the match of a number stands at its offset. The
--- demand follows from the equation. Assumes nothing.
-use Rattle.script.proofs.Demands.{finding-contract}
-use Rattle.reader.proofs.Finds.{unread-finding, zero-finding, above-finding, placed-finding, match-reaches}
+-- `find_match` meets its contract: the first command decides, or opens the walk. The demand follows from the equation.
+-- Assumes nothing.
 use borrow.Author.Needs.{needs}
+use Rattle.script.proofs.Demands.{finding-contract}
+use Rattle.reader.proofs.Progress.{opens-script, refuses-script}
 use Rattle.reader.proofs.find.find_match.Statement.{statement}
 use Rattle.reader.proofs.find.find_match.Tie as tie
 
-read-requires : tie.Need-read-requires
-read-requires c κs = search needs
+read-command-requires : tie.Need-read-command-requires
+read-command-requires c κs = search needs
+
+judge-opening-requires : tie.Need-judge-opening-requires
+judge-opening-requires c κs = search needs
 
 enum-known-refusal : tie.Need-enum-known-refusal
 enum-known-refusal c = search needs
 
-enum-known-count : tie.Need-enum-known-count
-enum-known-count c = search needs
+enum-known-p : tie.Need-enum-known-p
+enum-known-p c = search needs
+
+find-from-requires : tie.Need-find-from-requires
+find-from-requires c κs = search (needs, opens-script)
 
 returns : tie.Need-returns
-returns c = finding-contract _ _ (search (needs, zero-finding))
+returns c =
+    let read : tie.After-read-command = search in
+    let opening : tie.After-judge-opening = search in
+    finding-contract _ _
+    (rw (refuses-script _ (read .read-command .ensures) (opening .judge-opening .ensures)
+    (c .before .refusal .given .1)))
 
 returns-2 : tie.Need-returns-2
-returns-2 c = finding-contract _ _ (search (needs, above-finding))
-
-sub-match-at : tie.Need-sub-match-at
-sub-match-at c = search needs
-
-match-at-requires : tie.Need-match-at-requires
-match-at-requires c κs = search (needs, match-reaches)
-
-returns-3 : tie.Need-returns-3
-returns-3 c = finding-contract _ _ (search (needs, unread-finding))
-
-returns-4 : tie.Need-returns-4
-returns-4 c = finding-contract _ _ (search (needs, placed-finding))
+returns-2 c = finding-contract _ _ (c .find-from .ensures)
 
 pub find-match-spec : {M : Type 1} → statement M
 find-match-spec =
     tie.close
     (tie.spec
-    read-requires
+    read-command-requires
+    judge-opening-requires
     enum-known-refusal
-    enum-known-count
+    enum-known-p
+    find-from-requires
     returns
-    returns-2
-    sub-match-at
-    match-at-requires
-    returns-3
-    returns-4)
+    returns-2)
