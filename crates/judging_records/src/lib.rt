@@ -1,18 +1,24 @@
-// The first fault of a list of records, with the refusals in 02's order, before anything is written of it.
+// The first fault of a list of records and a list of marks, with the refusals in 02's order, before anything is written
+// of them.
 use judging::judge_lengths;
 use judging::judge_numbers;
+use judging::judge_point;
+use records::MARK_NUMBERS;
 use records::RECORD_WIDTH;
 use records::Record;
 use script::Match;
 use script::Refusal;
+use script::limits::MOST_MARKS;
 use script::limits::MOST_MATCHES;
 use script::step::Judgement;
 use script::step::Opening;
 ghost use mathlib.Core.Path.{_≡_};
 ghost use Prim.Native.Nat.{_+_, _*_, _≤_};
 ghost use lib.ListN.{length};
+ghost use Rattle.script.specs.Limits.{mostMatches};
 ghost use Rattle.records.specs.Records.{recordWidth, recordsOf, recordAt, matchOf};
-ghost use Rattle.records.specs.Writing.{recordJudgement, judgedFrom, listJudgement, judgementOf};
+ghost use Rattle.records.specs.Writing.{recordJudgement, firstFault, recordsJudgement, marksJudgement};
+ghost use Rattle.records.specs.Writing.{listJudgement, judgementOf};
 
 // The record behind k others.
 pub fn record_at(records: &[u32], k: usize) -> Record
@@ -33,6 +39,8 @@ fn match_of(item: Record) -> Match
     ensures { λ r. ⌜ r ≡ matchOf item ⌝ }
 {
     Match {
+        track_a: 0,
+        track_b: 1,
         left_a: item.left_a,
         left_b: item.left_b,
         length: item.length,
@@ -52,7 +60,7 @@ fn judge_record(item: Record, p: u32, q: u32, number: usize) -> Judgement
 
 // The records, numbered from 1.
 fn judge_each(records: &[u32], p: u32, q: u32) -> Judgement
-    ensures { λ r. ⌜ r ≡ judgedFrom p q 1 (recordsOf (now (records .entry))) ⌝ }
+    ensures { λ r. ⌜ r ≡ recordsJudgement p q (now (records .entry)) ⌝ }
 {
     let count = records.len() / RECORD_WIDTH;
     let mut k = 0;
@@ -66,25 +74,63 @@ fn judge_each(records: &[u32], p: u32, q: u32) -> Judgement
     Judgement::Sound
 }
 
-// The count of numbers, then that of the records, then each of them.
-fn judge_list(records: &[u32], p: u32, q: u32) -> Judgement
-    ensures { λ r. ⌜ r ≡ listJudgement p q (now (records .entry)) ⌝ }
+// The marks, numbered on from so many records.
+fn judge_marks(marks: &[u32], p: u32, q: u32, count: usize) -> Judgement
+    requires { ⌜ count ≤ mostMatches ⌝ }
+    ensures { λ r. ⌜ r ≡ marksJudgement p q count (now (marks .entry)) ⌝ }
+{
+    let all = marks.len() / MARK_NUMBERS;
+    let mut n = 0;
+    while n < all {
+        let at = MARK_NUMBERS * n;
+        let judgement = judge_point(marks[at], marks[at + 1], p, q, count + n + 1);
+        if let Judgement::Faulty(_) = judgement {
+            return judgement;
+        }
+        n += 1;
+    }
+    Judgement::Sound
+}
+
+// The records, then the marks.
+fn judge_both(records: &[u32], marks: &[u32], p: u32, q: u32) -> Judgement
+    requires { ⌜ length (now records) ≤ recordWidth * mostMatches ⌝ }
+    ensures { λ r. ⌜
+        r
+        ≡ firstFault (recordsJudgement p q (now (records .entry)))
+        (marksJudgement p q (length (recordsOf (now (records .entry)))) (now (marks .entry))) ⌝ }
+{
+    match judge_each(records, p, q) {
+        Judgement::Faulty(refusal) => Judgement::Faulty(refusal),
+        Judgement::Sound => judge_marks(marks, p, q, records.len() / RECORD_WIDTH),
+    }
+}
+
+// The counts of numbers, then those of the records and the marks, then each of them.
+fn judge_list(records: &[u32], marks: &[u32], p: u32, q: u32) -> Judgement
+    ensures { λ r. ⌜ r ≡ listJudgement p q (now (records .entry)) (now (marks .entry)) ⌝ }
 {
     if records.len() % RECORD_WIDTH != 0 {
+        return Judgement::Faulty(Refusal::MalformedRecords(0));
+    }
+    if marks.len() % MARK_NUMBERS != 0 {
         return Judgement::Faulty(Refusal::MalformedRecords(0));
     }
     if RECORD_WIDTH * MOST_MATCHES < records.len() {
         return Judgement::Faulty(Refusal::TooManyMatches(0));
     }
-    judge_each(records, p, q)
+    if MARK_NUMBERS * MOST_MARKS < marks.len() {
+        return Judgement::Faulty(Refusal::TooManyMarks(0));
+    }
+    judge_both(records, marks, p, q)
 }
 
-// The lengths, then the list.
-pub fn judge_records(p: u32, q: u32, records: &[u32]) -> Judgement
-    ensures { λ r. ⌜ r ≡ judgementOf p q (now (records .entry)) ⌝ }
+// The lengths, then the lists.
+pub fn judge_records(p: u32, q: u32, records: &[u32], marks: &[u32]) -> Judgement
+    ensures { λ r. ⌜ r ≡ judgementOf p q (now (records .entry)) (now (marks .entry)) ⌝ }
 {
     match judge_lengths(p, q) {
         Opening::Refuse(refusal) => Judgement::Faulty(refusal),
-        Opening::Open { p: _, q: _ } => judge_list(records, p, q),
+        Opening::Open { p: _, q: _ } => judge_list(records, marks, p, q),
     }
 }

@@ -1,128 +1,243 @@
--- What reading into a list brings: the numbers at the fixed offsets of a script are the records of its matches.
---     record-stored     the numbers of one command, stored one behind the other
---     Listing           what the loop over the commands keeps
---     listing-start, listing-next, listing-ends     at the start, a record later, and behind the last
---     command-inside    a command that is counted lies in the script
---     matches-counted   as many as the verdict says
+-- What reading into lists brings: the walk over the commands puts the records of the matches, and the marks.
+--     record-stored     the numbers of one match, stored one behind the other
+--     progress-few      no more matches and marks are passed than the script has
+--     Listing           what the walk keeps
+--     listing-start, listing-taken, listing-kept, listing-ends     at the start, a match or a mark later, at the end
+--     record-room, mark-room     where the next one is put, there is room for it
+--     never-refused     a script that was admitted is not refused on the second walk
+--     lists-room        what the verdict counts is what is read
 --     unread-listed, short-listed, whole-listed     the contract of the call, by its answer
 -- Assumes nothing.
-use Prim.Native.Nat.{ℕ, _+_, _*_, _≤_, _<_}
-use mathlib.Core.Path.{_≡_, refl, sym, ap}
-use mathlib.Core.Bool.{Bool}
-use mathlib.Core.List.{List}
+use Prim.Native.Nat.{ℕ, zero, suc, _+_, _*_, _≤_, _<_}
+use mathlib.Core.Path.{_≡_, refl, sym, ap, _∙_}
+use mathlib.Core.Logic.{_⊎_, inl, inr}
+use mathlib.Core.Bool.{or-true}
+use mathlib.Core.List.{List, [], _∷_, _++_, flatMap}
 use native.Mathlib.Omega.{arith}
 use borrow.Author.Tests.{lt-ltb, le-ltb}
-use lib.Dec.{eqb}
-use lib.ListN.{length, getD, set}
-use Rattle.script.specs.Commands.{lengthsWidth, matchWidth, numberAt, bitOf}
-use Rattle.script.specs.Outcomes.{MatchAt}
-use Rattle.script.specs.Reading.{Reading, admitted, refused, readScript, verdictOf}
-use Rattle.script.specs.Columns.{matchesRead}
+use lib.ListN.{length, drop, set, length-append}
+use Rattle.script.specs.Commands.{lengthsWidth, matchWidth, markWidth, commandOf, bitOf}
+use Rattle.script.specs.Steps.{stepOf}
+use Rattle.script.specs.Reading.{admitted, afterStep, readFrom, readScript, verdictOf}
+use Rattle.script.specs.Columns.{matchesRead, marksRead}
 use Rattle.script.specs.declared.refusal.Refusal.{Refusal}
 use Rattle.script.specs.declared.refusal.Refusal.the-variants.{BufferTooShort}
 use Rattle.script.specs.declared.command.Match.{Match}
+use Rattle.script.specs.declared.command.Mark.{Mark}
+use Rattle.script.specs.declared.step.Step.{Step}
 use Rattle.script.specs.declared.Verdict.{Verdict}
+use Rattle.script.proofs.Outcome.{reach-read}
 use Rattle.script.proofs.Admitted.{holds-admitted, reading-refused}
-use Rattle.script.proofs.Places.{match-placed}
-use Rattle.reader.proofs.Finds.{way-told, noMatch}
-use Rattle.records.specs.Records.{recordWidth, numbersOf, listOf}
+use Rattle.reader.specs.Walking.{Admits}
+use Rattle.reader.proofs.Progress.{Progress, progress-start, step-refused, step-finished, step-taken, step-kept}
+use Rattle.reader.proofs.Filled.{admits-reach}
+use Rattle.records.specs.Records.{recordWidth, numbersOf, listOf, markNumbers, pointNumbers, pointList}
 use Rattle.records.specs.Storing.{Stored}
 use Rattle.records.specs.Listing.{Listing as Outcome, listingOf}
 use Rattle.records.specs.Demands.{listedAnswer, ListingDemand}
 use Rattle.records.specs.declared.Listed.{Listed}
 use Rattle.records.proofs.Bytes.{Bytes}
-use Rattle.records.proofs.Lists.{list-length}
-use Rattle.records.proofs.Laying.{four-stores, stored-front, Laid, laid-start, laid-next, laid-ends}
+use Rattle.records.proofs.Scripts.{flat-snoc}
+use Rattle.records.proofs.Lists.{list-length, point-list-length}
+use Rattle.records.proofs.Laying.{four-stores, stored-behind, stored-front}
 use Rattle.records.proofs.Demands.{listing-demand}
-use Rattle.record_reader.specs.Commands.{commandRecord}
 
-pub record-stored : (out : List ℕ) (to : ℕ) (s : List ℕ) (from : ℕ) {a b d way : ℕ} {reversed : Bool}
-    → a ≡ numberAt s (from + 1) → b ≡ numberAt s (from + 5) → d ≡ numberAt s (from + 9)
-    → reversed ≡ eqb (getD s from 0) 0x52 → way ≡ bitOf reversed
-    → Stored out to (commandRecord s from) (set (set (set (set out to a) (to + 1) b) (to + 2) d) (to + 3) way)
-record-stored out to s from a b d told way =
-    rw (a, b, d, way, told) (four-stores out to _ _ _ _)
+pub record-stored : (out : List ℕ) (at : ℕ) (m : Match) {way : ℕ} → way ≡ bitOf (m .reversed)
+    → Stored out at (numbersOf m)
+    (set (set (set (set out at (m .«left_a»)) (at + 1) (m .«left_b»)) (at + 2) (m .length)) (at + 3) way)
+record-stored out at m is = rw is (four-stores out at _ _ _ _)
 
--- ---- the loop over the commands
+-- ---- how many there are
 
-pub record Listing (s : List ℕ) (count : ℕ) (before out : List ℕ) (k : ℕ) : Type 0 where
-  pub inside : k ≤ count
-  pub laid : Laid numbersOf 0 (matchesRead (readScript s)) before out k (recordWidth * k)
+-- what is read from an offset on holds what was read before it
+reads-more : (n p q at : ℕ) (ms : List Match) (ks : List Mark) (s : List ℕ) {ls : List ℕ} {all : List Match}
+    {points : List Mark} → readFrom n p q at ms ks s ≡ admitted ls all points
+    → (length ms ≤ length all) × (length ks ≤ length points)
+unfolding readFrom
+reads-more zero p q at ms ks s e = let z : _≡_ {A = ℕ} 0 1 = cc in absurd (omega arith)
+reads-more (suc n) p q at ms ks s {ls} {all} {points} e =
+    go (λ at′ ms′ ks′ s′ x. reads-more n p q at′ ms′ ks′ s′ x) (stepOf p q (length ms) (length ks) at (commandOf s)) e
+  where
+    go : ((at′ : ℕ) (ms′ : List Match) (ks′ : List Mark) (s′ : List ℕ)
+        → readFrom n p q at′ ms′ ks′ s′ ≡ admitted ls all points
+        → (length ms′ ≤ length all) × (length ks′ ≤ length points))
+        → (t : Step)
+        → afterStep p q ms ks t (λ width ms′ ks′. readFrom n p q (at + width) ms′ ks′ (drop width s))
+        ≡ admitted ls all points
+        → (length ms ≤ length all) × (length ks ≤ length points)
+    go more (Step.Refuse r) e = let z : _≡_ {A = ℕ} 0 1 = cc in absurd (omega arith)
+    go more Step.Finish e =
+        let same : ms ≡ all = cc in
+        let same-marks : ks ≡ points = cc in
+        omega (arith, ap length same, ap length same-marks)
+    go more (Step.Take m) e =
+        omega (
+          arith,
+          more (at + matchWidth) (ms ++ m ∷ []) ks (drop matchWidth s) e,
+          length-append ms (m ∷ []),
+        )
+    go more (Step.Keep k) e =
+        omega (arith, more (at + markWidth) ms (ks ++ k ∷ []) (drop markWidth s) e, length-append ks (k ∷ []))
 
-module _ (s : List ℕ) {count : ℕ} (counted : count ≡ length (matchesRead (readScript s))) where
-  placed : {k : ℕ} → k < count → MatchAt s (lengthsWidth + matchWidth * k) (getD (matchesRead (readScript s)) k noMatch)
-  placed {k} below = go (readScript s) refl (omega arith)
-    where
-      go : (x : Reading) → readScript s ≡ x → k < length (matchesRead x)
-          → MatchAt s (lengthsWidth + matchWidth * k) (getD (matchesRead x) k noMatch)
-      go (refused f) e h = absurd (omega arith)
-      go (admitted p q ms) e h = match-placed s e k h noMatch
+pub progress-few : {s : List ℕ} {p q count marked at : ℕ} → Admits s p q → Progress s p q count marked at
+    → (count ≤ length (matchesRead (readScript s))) × (marked ≤ length (marksRead (readScript s)))
+progress-few {s} {p} {q} {at = at} admits progress =
+    let read = holds-admitted s (admits .told) refl .read in
+    let n = progress .counted in
+    let k = progress .counted-marks in
+    rw read (omega (
+      arith,
+      reads-more _ p q at (progress .matches) (progress .points) _ (sym (reach-read (progress .reach)) ∙ read),
+    ))
 
-  pub command-inside : {k : ℕ} → k < count → lengthsWidth + matchWidth * k + matchWidth ≤ length s
-  command-inside below = placed below .whole
+-- ---- the walk
 
-  command-told : {at : ℕ} {m : Match} → MatchAt s at m → commandRecord s at ≡ numbersOf m
-  command-told d = rw (← d .left-a, ← d .left-b, ← d .letters, way-told (d .code))
+pub record Listing (s : List ℕ) (p q : ℕ) (before before-marks out points : List ℕ) (count marked at : ℕ)
+    : Type 0 where
+  pub admits : Admits s p q
+  pub progress : Progress s p q count marked at
+  pub stored : Stored before 0 (listOf (progress .matches)) out
+  pub stored-marks : Stored before-marks 0 (pointList (progress .points)) points
 
-  module _ (before : List ℕ) where
-    pub listing-start : Listing s count before before 0
-    listing-start =
-        record { inside = omega arith; laid = laid-start numbersOf 0 (matchesRead (readScript s)) before refl }
+module _ {s : List ℕ} {p q : ℕ} {before before-marks : List ℕ} where
+  pub listing-start : Admits s p q → Listing s p q before before-marks before before-marks 0 0 lengthsWidth
+  unfolding flatMap
+  listing-start admits =
+      record {
+        admits = admits;
+        progress = progress-start (admits-reach admits);
+        stored = record { is = refl; as-long = refl };
+        stored-marks = record { is = refl; as-long = refl };
+      }
 
-    module _ {out : List ℕ} {k : ℕ} (h : Listing s count before out k) where
-      pub listing-next : {out′ : List ℕ} → k < count
-          → Stored out (recordWidth * k) (commandRecord s (lengthsWidth + matchWidth * k)) out′
-          → Listing s count before out′ (k + 1)
-      listing-next below stored =
-          record {
-            inside = omega arith;
-            laid = laid-next numbersOf 0 (matchesRead (readScript s)) before (h .laid) noMatch (omega arith) refl
-                (omega arith) (rw (command-told (placed below)) at stored);
-          }
+  module _ {out points : List ℕ} {count marked at : ℕ}
+      (h : Listing s p q before before-marks out points count marked at) {t : Step}
+      (et : t ≡ stepOf p q count marked at (commandOf (drop at s))) where
+    pub record-room : {m : Match} → t ≡ Step.Take m
+        → recordWidth * length (matchesRead (readScript s)) ≤ length before
+        → recordWidth * count + recordWidth ≤ length out
+    record-room e room =
+        omega (arith, progress-few (h .admits) (step-taken (h .progress) et e) .0, h .stored .as-long)
 
-      pub listing-ends : count ≤ k → Stored before 0 (listOf (matchesRead (readScript s))) out
-      listing-ends all = laid-ends numbersOf 0 (matchesRead (readScript s)) before (h .laid) (omega arith)
+    pub mark-room : {k : Mark} → t ≡ Step.Keep k → markNumbers * length (marksRead (readScript s)) ≤ length before-marks
+        → markNumbers * marked + markNumbers ≤ length points
+    mark-room e room =
+        omega (arith, progress-few (h .admits) (step-kept (h .progress) et e) .1, h .stored-marks .as-long)
+
+    pub listing-taken : {m : Match} {out′ : List ℕ} → t ≡ Step.Take m
+        → Stored out (recordWidth * count) (numbersOf m) out′
+        → Listing s p q before before-marks out′ points (count + 1) marked (at + matchWidth)
+    unfolding step-taken
+    listing-taken {m} e put =
+        let ms = h .progress .matches in
+        let n = h .progress .counted in
+        record {
+          admits = h .admits;
+          progress = step-taken (h .progress) et e;
+          stored = rw (flat-snoc numbersOf ms m) (stored-behind (h .stored) (omega (arith, list-length ms)) put);
+          stored-marks = h .stored-marks;
+        }
+
+    pub listing-kept : {k : Mark} {points′ : List ℕ} → t ≡ Step.Keep k
+        → Stored points (markNumbers * marked) (pointNumbers k) points′
+        → Listing s p q before before-marks out points′ count (marked + 1) (at + markWidth)
+    unfolding step-kept
+    listing-kept {k} e put =
+        let ks = h .progress .points in
+        let n = h .progress .counted-marks in
+        record {
+          admits = h .admits;
+          progress = step-kept (h .progress) et e;
+          stored = h .stored;
+          stored-marks =
+              rw (flat-snoc pointNumbers ks k)
+              (stored-behind (h .stored-marks) (omega (arith, point-list-length ks)) put);
+        }
+
+    pub listing-ends : t ≡ Step.Finish
+        → Stored before 0 (listOf (matchesRead (readScript s))) out
+        × Stored before-marks 0 (pointList (marksRead (readScript s))) points
+    listing-ends e = rw (step-finished (h .progress) et e) (h .stored, h .stored-marks)
+
+    pub never-refused : {f : Refusal} → t ≡ Step.Refuse f → ⊥
+    never-refused e =
+        let read = holds-admitted s (h .admits .told) refl .read in
+        let both = sym (step-refused (h .progress) et e) ∙ read in
+        let z : _≡_ {A = ℕ} 0 1 = cc in omega arith
 
 -- ---- the call
 
-pub matches-counted : (s : List ℕ) {told : Verdict} → told ≡ verdictOf (readScript s) → {p q count : ℕ}
-    → told ≡ Verdict.Admitted p q count → count ≡ length (matchesRead (readScript s))
-matches-counted s reads v = let held = holds-admitted s reads v in rw (held .read) (sym (held .counted))
+module _ (s : List ℕ) (bytes : Bytes s) (out points : List ℕ) where
+  -- what the contract says of a reply and the buffers
+  abbrev Contract : Listed → List ℕ → List ℕ → Type 0
+  Contract reply out′ points′ =
+      (reply ≡ listingOf s out points .reply)
+      × ((out′ ≡ listingOf s out points .records)
+      × ((points′ ≡ listingOf s out points .marks)
+      × ListingDemand s out points out′ points′ (listedAnswer reply)))
 
-module _ (s : List ℕ) (bytes : Bytes s) (out : List ℕ) where
-  -- what the contract says of a reply and a buffer
-  abbrev Contract : Listed → List ℕ → Type 0
-  Contract reply out′ =
-      (reply ≡ listingOf s out .reply)
-      × ((out′ ≡ listingOf s out .records) × ListingDemand s out out′ (listedAnswer reply))
-
-  contract : {reply : Listed} {out′ : List ℕ} → record { reply = reply; records = out′ } ≡ listingOf s out
-      → Contract reply out′
+  contract : {reply : Listed} {out′ points′ : List ℕ}
+      → record { reply = reply; records = out′; marks = points′ } ≡ listingOf s out points
+      → Contract reply out′ points′
   contract e =
       let is = ap (λ (x : Outcome). x .reply) e in
       let is′ = ap (λ (x : Outcome). x .records) e in
-      (is, (is′, listing-demand s bytes out is is′))
+      let is″ = ap (λ (x : Outcome). x .marks) e in
+      (is, (is′, (is″, listing-demand s bytes out points is is′ is″)))
 
-  admitted-listed : {p q : ℕ} {ms : List Match} {out′ : List ℕ} → readScript s ≡ admitted p q ms
-      → recordWidth * length ms ≤ length out → Stored out 0 (listOf ms) out′
-      → Contract (Listed.Records p q (length ms)) out′
-  admitted-listed {ms = ms} e room stored =
+  admitted-listed : {p q : ℕ} {ms : List Match} {ks : List Mark} {out′ points′ : List ℕ}
+      → readScript s ≡ admitted (p ∷ q ∷ []) ms ks → recordWidth * length ms ≤ length out
+      → markNumbers * length ks ≤ length points → Stored out 0 (listOf ms) out′
+      → Stored points 0 (pointList ks) points′ → Contract (Listed.Records p q (length ms) (length ks)) out′ points′
+  admitted-listed {ms = ms} {ks = ks} e room room-marks stored stored-marks =
       let long = list-length ms in
-      contract (rw (e, le-ltb (length out) (recordWidth * length ms) room, ← long, stored-front stored (omega arith)))
+      let long-marks = point-list-length ks in
+      contract (rw (
+        e,
+        le-ltb (length out) (recordWidth * length ms) room,
+        le-ltb (length points) (markNumbers * length ks) room-marks,
+        ← long,
+        ← long-marks,
+        stored-front stored (omega arith),
+        stored-front stored-marks (omega arith),
+      ))
 
   module _ {told : Verdict} (reads : told ≡ verdictOf (readScript s)) where
-    pub unread-listed : {f : Refusal} → told ≡ Verdict.Refused f → Contract (Listed.Refused f) out
+    pub unread-listed : {f : Refusal} → told ≡ Verdict.Refused f → Contract (Listed.Refused f) out points
     unread-listed v = contract (rw (reading-refused s reads v))
 
-    module _ {p q count : ℕ} (v : told ≡ Verdict.Admitted p q count) where
-      pub short-listed : length out < recordWidth * count → Contract (Listed.Refused BufferTooShort) out
-      short-listed short =
+    module _ {p q count marked : ℕ} (v : told ≡ Verdict.Admitted p q count marked) where
+      pub lists-room : recordWidth * count ≤ length out → markNumbers * marked ≤ length points
+          → Admits s p q
+          × ((recordWidth * length (matchesRead (readScript s)) ≤ length out)
+          × (markNumbers * length (marksRead (readScript s)) ≤ length points))
+      lists-room room room-marks =
+          let held = holds-admitted s reads v in
+          let n = held .counted in
+          let k = held .counted-marks in
+          (record { count = count; marks = marked; told = sym v ∙ reads }, rw (held .read) (omega arith))
+
+      pub short-listed : (length out < recordWidth * count) ⊎ (length points < markNumbers * marked)
+          → Contract (Listed.Refused BufferTooShort) out points
+      short-listed (inl short) =
           let held = holds-admitted s reads v in
           contract (rw (held .read, held .counted, lt-ltb (length out) (recordWidth * count) short))
-
-      pub whole-listed : {out′ : List ℕ} → recordWidth * count ≤ length out
-          → Stored out 0 (listOf (matchesRead (readScript s))) out′ → Contract (Listed.Records p q count) out′
-      whole-listed room stored =
+      short-listed (inr short) =
           let held = holds-admitted s reads v in
-          rw (← held .counted)
-          (admitted-listed (held .read) (omega (arith, held .counted)) (rw (held .read) at stored))
+          contract (rw (
+            held .read,
+            held .counted-marks,
+            lt-ltb (length points) (markNumbers * marked) short,
+            or-true,
+          ))
+
+      pub whole-listed : {out′ points′ : List ℕ} → recordWidth * count ≤ length out
+          → markNumbers * marked ≤ length points → Stored out 0 (listOf (matchesRead (readScript s))) out′
+          → Stored points 0 (pointList (marksRead (readScript s))) points′
+          → Contract (Listed.Records p q count marked) out′ points′
+      whole-listed room room-marks stored stored-marks =
+          let held = holds-admitted s reads v in
+          let n = held .counted in
+          let k = held .counted-marks in
+          rw (n, k) at (admitted-listed (held .read) (omega arith) (omega arith) (rw (held .read) at stored)
+          (rw (held .read) at stored-marks))

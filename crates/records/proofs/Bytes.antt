@@ -3,7 +3,7 @@
 --     number-append    a number that stands in the second of two lists
 --     number-back      the four bytes of a number are read as that number, if it has 32 bits
 --     drop-one         an element at an offset, and what is left
---     drop-four        four elements from an offset on, and what is left
+--     drop-two, drop-four     two elements from an offset on, or four, and what is left
 --     drop-number      from the offset of a number on stand its bytes, and then what is left
 -- Assumes nothing.
 use Prim.Native.Nat.{ℕ, suc, _+_, _*_, _/_, _%_, _^_, _≤_, _<_}
@@ -30,14 +30,20 @@ module _ {X : Type 0} (l : List X) (blank : X) where
   pub drop-one : (at : ℕ) → at + 1 ≤ length l → drop at l ≡ getD l at blank ∷ drop (at + 1) l
   drop-one at h = rw (add-one) (drop-cons l at blank (omega arith))
 
+  -- .. and one so many places on
+  drop-later : (at n : ℕ) → at + n + 1 ≤ length l → drop (at + n) l ≡ getD l (at + n) blank ∷ drop (at + suc n) l
+  drop-later at n k = let next : at + n + 1 ≡ at + suc n = omega arith in rw (← next) (drop-one (at + n) k)
+
+  pub drop-two : (at : ℕ) → at + 2 ≤ length l
+      → drop at l ≡ getD l at blank ∷ getD l (at + 1) blank ∷ drop (at + 2) l
+  drop-two at h = drop-one at (omega arith) ∙ rw (drop-later at 1 (omega arith))
+
   pub drop-four : (at : ℕ) → at + 4 ≤ length l
       → drop at l
       ≡ getD l at blank ∷ getD l (at + 1) blank ∷ getD l (at + 2) blank ∷ getD l (at + 3) blank ∷ drop (at + 4) l
   drop-four at h =
-      let on : (n : ℕ) → at + n + 1 ≤ length l → drop (at + n) l ≡ getD l (at + n) blank ∷ drop (at + suc n) l
-      = λ n k. let next : at + n + 1 ≡ at + suc n = omega arith in rw (← next) (drop-one (at + n) k) in
-      drop-one at (omega arith)
-      ∙ rw (on 1 (omega arith), on 2 (omega arith), on 3 (omega arith))
+      drop-two at (omega arith)
+      ∙ rw (drop-later at 2 (omega arith), drop-later at 3 (omega arith))
 
 -- ---- a number's bytes
 

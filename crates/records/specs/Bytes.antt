@@ -2,12 +2,14 @@
 --     numberBytes n       the four bytes of a number
 --     lengthsBytes p q    those of the lengths command
 --     matchBytes m        those of a match command
---     bytesOf p q ms      the script with these lengths and matches
--- 01, "The script"; 02, #101. Assumes nothing.
+--     markBytes k         those of a mark command
+--     bytesOf p q ms ks   the script with these lengths, matches and marks
+-- 01, "The script"; 02, #101 and #106. Assumes nothing.
 use Prim.Native.Nat.{ℕ, _/_, _%_}
 use mathlib.Core.Bool.{Bool, true, false}
 use mathlib.Core.List.{List, [], _∷_, _++_, flatMap}
 use Rattle.script.specs.declared.command.Match.{Match}
+use Rattle.script.specs.declared.command.Mark.{Mark}
 
 -- SCOPE, "Numbers": unsigned, four bytes, the least first
 abbrev pub numberBytes : ℕ → List ℕ
@@ -27,6 +29,10 @@ abbrev pub matchBytes : Match → List ℕ
 matchBytes m =
     codeOf (m .reversed) ∷ numberBytes (m .«left_a») ++ numberBytes (m .«left_b») ++ numberBytes (m .length)
 
--- SCOPE, "Written": the lengths, the matches in their order, the end
-unfoldable pub bytesOf : ℕ → ℕ → List Match → List ℕ
-bytesOf p q ms = lengthsBytes p q ++ flatMap matchBytes ms ++ 0x45 ∷ []
+-- SCOPE, "Commands": 4D, the side in one byte, the position
+abbrev pub markBytes : Mark → List ℕ
+markBytes k = 0x4D ∷ k .side ∷ numberBytes (k .position)
+
+-- SCOPE, "Written": the lengths, the matches in their order, the marks in theirs, the end
+unfoldable pub bytesOf : ℕ → ℕ → List Match → List Mark → List ℕ
+bytesOf p q ms ks = lengthsBytes p q ++ flatMap matchBytes ms ++ flatMap markBytes ks ++ 0x45 ∷ []

@@ -1,22 +1,23 @@
--- What writing a list as a script does. TO READ: contracts mean what stands here.
---     recordJudgement       the fault of a record, if it has one
---     judgedFrom p q n rs   the first fault of the records rs, the first of which has the number n
---     judgementOf p q ns    the first fault of a list
---     Writing               the reply of the call, and what the lent buffer holds after it
---     writingOf p q ns out  both, by what is handed over and what the buffer holds before it
--- 02, #101; SCOPE, "Order of writing". Assumes nothing.
+-- What writing lists as a script does. TO READ: contracts mean what stands here.
+--     recordJudgement            the fault of a record, if it has one
+--     judgedFrom judge n xs      the first fault of the records or marks xs, the first of which has the number n
+--     judgementOf p q ns zs      the first fault of a list of records and a list of marks
+--     Writing                    the reply of the call, and what the lent buffer holds after it
+--     writingOf p q ns zs out    both, by what is handed over and what the buffer holds before it
+-- 02, #101 and #106; SCOPE, "Order of writing". Assumes nothing.
 use Prim.Native.Nat.{ℕ, _+_, _*_, _%_}
-use mathlib.Core.Bool.{cond}
+use mathlib.Core.Bool.{cond, _&&_}
 use mathlib.Core.List.{List, [], _∷_, _++_}
 use lib.ListN.{length, drop}
 use lib.Dec.{ltb, eqb}
-use Rattle.script.specs.Limits.{mostMatches}
-use Rattle.script.specs.Steps.{lengthsStep, matchJudgement}
+use Rattle.script.specs.Limits.{mostMatches, mostMarks}
+use Rattle.script.specs.Steps.{lengthsStep, matchJudgement, markJudgement}
 use Rattle.script.specs.declared.refusal.Refusal.the-variants.{TooManyMatches, MalformedRecords, BufferTooShort}
+use Rattle.script.specs.declared.refusal.Refusal.the-variants.{TooManyMarks}
 use Rattle.script.specs.declared.step.Judgement.{Judgement}
 use Rattle.script.specs.declared.step.Judgement.the-variants.{Sound, Faulty}
 use Rattle.script.specs.declared.step.Opening.{Opening}
-use Rattle.records.specs.Records.{recordWidth, recordsOf, matchOf, matchesOf}
+use Rattle.records.specs.Records.{recordWidth, recordsOf, matchOf, matchesOf, markNumbers, pointsOf}
 use Rattle.records.specs.Bytes.{bytesOf}
 use Rattle.records.specs.declared.Record.{Record}
 use Rattle.records.specs.declared.Written.{Written}
@@ -34,15 +35,26 @@ firstFault Sound later = later
 firstFault (Faulty f) later = Faulty f
 
 -- SCOPE, "Place of a record": each has the next number
-unfoldable pub judgedFrom : ℕ → ℕ → ℕ → List Record → Judgement
-judgedFrom p q number [] = Sound
-judgedFrom p q number (r ∷ rs) = firstFault (recordJudgement p q number r) (judgedFrom p q (number + 1) rs)
+unfoldable pub judgedFrom : {X : Type 0} → (ℕ → X → Judgement) → ℕ → List X → Judgement
+judgedFrom judge number [] = Sound
+judgedFrom judge number (x ∷ xs) = firstFault (judge number x) (judgedFrom judge (number + 1) xs)
 
--- 15 for the count of numbers, then 6, then the records from 1 on
-abbrev pub listJudgement : ℕ → ℕ → List ℕ → Judgement
-listJudgement p q ns =
-    cond (eqb (length ns % recordWidth) 0)
-    (cond (ltb (recordWidth * mostMatches) (length ns)) (Faulty (TooManyMatches 0)) (judgedFrom p q 1 (recordsOf ns)))
+-- the records, numbered from 1
+abbrev pub recordsJudgement : ℕ → ℕ → List ℕ → Judgement
+recordsJudgement p q ns = judgedFrom (recordJudgement p q) 1 (recordsOf ns)
+
+-- SCOPE, "Place of a record": the marks, behind so many records, are numbered on from them; 20, 21 as at a mark of a
+-- script
+abbrev pub marksJudgement : ℕ → ℕ → ℕ → List ℕ → Judgement
+marksJudgement p q count zs = judgedFrom (markJudgement p q) (count + 1) (pointsOf zs)
+
+-- 15 for the count of numbers of either list, then 6, then 19, then the records and the marks
+abbrev pub listJudgement : ℕ → ℕ → List ℕ → List ℕ → Judgement
+listJudgement p q ns zs =
+    cond (eqb (length ns % recordWidth) 0 && eqb (length zs % markNumbers) 0)
+    (cond (ltb (recordWidth * mostMatches) (length ns)) (Faulty (TooManyMatches 0))
+    (cond (ltb (markNumbers * mostMarks) (length zs)) (Faulty (TooManyMarks 0))
+    (firstFault (recordsJudgement p q ns) (marksJudgement p q (length (recordsOf ns)) zs))))
     (Faulty (MalformedRecords 0))
 
 -- the lengths as at the opening of a script
@@ -50,9 +62,9 @@ abbrev pub afterLengths : Opening → Judgement → Judgement
 afterLengths (Opening.Refuse f) later = Faulty f
 afterLengths (Opening.Open p q) later = later
 
--- SCOPE, "Order of writing": 5, the count, 6, the records
-abbrev pub judgementOf : ℕ → ℕ → List ℕ → Judgement
-judgementOf p q ns = afterLengths (lengthsStep p q) (listJudgement p q ns)
+-- SCOPE, "Order of writing": 5, the counts, 6, 19, the records, the marks
+abbrev pub judgementOf : ℕ → ℕ → List ℕ → List ℕ → Judgement
+judgementOf p q ns zs = afterLengths (lengthsStep p q) (listJudgement p q ns zs)
 
 -- ---- the call
 
@@ -74,6 +86,6 @@ abbrev pub writingOfJudgement : Judgement → List ℕ → List ℕ → Writing
 writingOfJudgement (Faulty f) bytes out = record { reply = Written.Refused f; script = out }
 writingOfJudgement Sound bytes out = writingOfBytes bytes out
 
--- SCOPE, "Written": the script of the list's matches
-abbrev pub writingOf : ℕ → ℕ → List ℕ → List ℕ → Writing
-writingOf p q ns out = writingOfJudgement (judgementOf p q ns) (bytesOf p q (matchesOf ns)) out
+-- SCOPE, "Written": the script of the lists' matches and marks
+abbrev pub writingOf : ℕ → ℕ → List ℕ → List ℕ → List ℕ → Writing
+writingOf p q ns zs out = writingOfJudgement (judgementOf p q ns zs) (bytesOf p q (matchesOf ns) (pointsOf zs)) out

@@ -1,9 +1,12 @@
-// Lists of matches, a record of four numbers for each: how a list is written as a script, and a script as a list.
-// specs/ has it, proofs/ the laws of it. There is no function here: the calls are `writer`'s and `record_reader`'s.
+// Lists of matches, a record of four numbers for each, and of marks, two numbers for each: how they are written as a
+// script, and a script as lists. specs/ has it, proofs/ the laws of it. There is no function here: the calls are
+// `writer`'s and `record_reader`'s.
 use script::Refusal;
 
-// The numbers of a record; specs/Records.antt has it for the definitions.
+// The numbers of a record, and of a mark; specs/Records.antt has them for the definitions.
 pub const RECORD_WIDTH: usize = 4;
+
+pub const MARK_NUMBERS: usize = 2;
 
 // A match in a list: so many letters from left_a on of A and from left_b on of B; direction 0 is direct, 1 reversed.
 pub struct Record {
@@ -19,8 +22,13 @@ pub enum Written {
     Refused(Refusal),
 }
 
-// The lengths of a script, and how many records were written.
+// The lengths of a script, and how many records and marks were written.
 pub enum Listed {
-    Records { p: u32, q: u32, count: usize },
+    Records {
+        p: u32,
+        q: u32,
+        count: usize,
+        marks: usize,
+    },
     Refused(Refusal),
 }

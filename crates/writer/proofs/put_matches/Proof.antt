@@ -1,14 +1,20 @@
 -- `put_matches` meets its contract. The loop keeps `Putting`: the commands stored, and those still to come, make the
 -- buffer that is wanted. The measure is what is left of the records. Assumes nothing.
 use Prim.Native.Nat.{_-_}
+use mathlib.Core.Path.{refl}
+use native.Mathlib.Omega.{arith}
 use borrow.Author.Needs.{needs}
-use Rattle.writer.proofs.Stored.{Putting, record-inside, record-directed}
-use Rattle.writer.proofs.Stored.{putting-start, putting-next, putting-ends}
+use Rattle.script.specs.Commands.{lengthsWidth, matchWidth}
+use Rattle.records.specs.Records.{noRecord, matchOf, matchesOf}
+use Rattle.records.specs.Bytes.{matchBytes}
+use Rattle.records.proofs.Lists.{record-inside}
+use Rattle.writer.proofs.Stored.{Putting, putting-start, putting-next, putting-ends}
+use Rattle.writer.proofs.Stored.{matches-counted, record-directed, match-held}
 use Rattle.writer.proofs.put_matches.Statement.{statement}
 use Rattle.writer.proofs.put_matches.Tie as tie
 
 abbrev Inv-loop : tie.InvT-loop
-Inv-loop out₀ records count k₀ out k = Putting records count out₀ out k
+Inv-loop out₀ records count k₀ out k = Putting matchBytes matchWidth lengthsWidth (matchesOf records) out₀ out k
 
 abbrev μ-loop : tie.MeasureT-loop
 μ-loop out₀ records count k₀ out k = count - k
@@ -35,13 +41,23 @@ loop-less : tie.Need-loop-less Inv-loop μ-loop
 loop-less c = search needs
 
 loop-again : tie.Need-loop-again Inv-loop μ-loop
-loop-again c = search (needs, putting-next)
+loop-again c =
+    let start : tie.Start Inv-loop μ-loop = search in
+    let loop : tie.In-loop Inv-loop μ-loop = search in
+    let read : tie.After-record-at Inv-loop μ-loop = search in
+    let put : tie.After-put-match Inv-loop μ-loop = search in
+    let counted = start .pre .0 .0 in
+    let below = loop .loop-test .taken in
+    putting-next _ _ _ _ _ (loop .before .loop .inv) (matchOf noRecord) refl (omega (arith, matches-counted _ counted))
+    (match-held _ counted below (read .record-at .ensures)) (put .put-match .ensures)
 
 same-length : tie.Need-same-length Inv-loop μ-loop
 same-length c = c .before .loop .inv .laid .as-long
 
 returns : tie.Need-returns Inv-loop μ-loop
-returns c = search (needs, putting-ends)
+returns c =
+    let start : tie.Start Inv-loop μ-loop = search in
+    putting-ends _ _ _ _ _ (c .before .loop .inv) (omega (arith, matches-counted _ (start .pre .0 .0)))
 
 pub put-matches-spec : {M : Type 1} → statement M
 put-matches-spec =

@@ -1,8 +1,8 @@
--- `write` meets its contract: a fault of the list, a buffer that is too short, or the whole script. The demand follows
+-- `write` meets its contract: a fault of the lists, a buffer that is too short, or the whole script. The demand follows
 -- from the equations. Assumes nothing.
 use mathlib.Core.Path.{refl, sym, _∙_}
-use Rattle.records.proofs.Lists.{records-length}
-use Rattle.records.proofs.WritingOutcome.{sound-directed}
+use Rattle.records.proofs.Lists.{records-length, points-length}
+use Rattle.records.proofs.WritingOutcome.{sound-directed, sound-sided}
 use Rattle.writer.proofs.Stored.{faulty-written, short-written, whole-written}
 use borrow.Author.Needs.{needs}
 use Rattle.writer.proofs.write.Statement.{statement}
@@ -23,16 +23,22 @@ mul-length c = search needs
 add-length : tie.Need-add-length
 add-length c = search needs
 
+mul-length-2 : tie.Need-mul-length-2
+mul-length-2 c = search needs
+
 add-length-2 : tie.Need-add-length-2
 add-length-2 c = search needs
+
+add-length-3 : tie.Need-add-length-3
+add-length-3 c = search needs
 
 returns : tie.Need-returns
 returns c =
     let start : tie.Start = search in
     let judged : tie.After-judge-records = search in
     let a = start .args in
-    short-written (a .p) (a .q) (a .records .now) (a .out .now) (judged .judge-records .ensures)
-    (c .before .enum-told .given .1) refl (c .if1 .taken)
+    short-written (a .p) (a .q) (a .records .now) (a .marks .now) (a .out .now) (judged .judge-records .ensures)
+    (c .before .enum-told .given .1) refl refl (c .if1 .taken)
 
 put-script-requires : tie.Need-put-script-requires
 put-script-requires c κs =
@@ -41,14 +47,18 @@ put-script-requires c κs =
     let room : tie.Else1 = search in
     let sound = sym (judged .judge-records .ensures) ∙ room .before .enum-told .given .1 in
     let a = start .args in
-    ((sym (records-length _), search needs), record { few = sound-directed (a .p) (a .q) (a .records .now) sound })
+    let directed = sound-directed (a .p) (a .q) (a .records .now) (a .marks .now) sound in
+    let sided = sound-sided (a .p) (a .q) (a .records .now) (a .marks .now) sound in (
+      (sym (records-length _), sym (points-length _)),
+      (search needs, (record { few = directed }, record { few = sided })),
+    )
 
 returns-2 : tie.Need-returns-2
 returns-2 c =
     let start : tie.Start = search in
     let judged : tie.After-judge-records = search in
     let a = start .args in
-    faulty-written (a .p) (a .q) (a .records .now) (a .out .now) (judged .judge-records .ensures)
+    faulty-written (a .p) (a .q) (a .records .now) (a .marks .now) (a .out .now) (judged .judge-records .ensures)
     (c .before .refusal .given .1)
 
 same-length : tie.Need-same-length
@@ -61,8 +71,8 @@ returns-3 c =
     let room : tie.Else1 = search in
     let stored : tie.After-put-script = search in
     let a = start .args in
-    whole-written (a .p) (a .q) (a .records .now) (a .out .now) (judged .judge-records .ensures)
-    (room .before .enum-told .given .1) refl (room .if1 .left) (stored .put-script .ensures)
+    whole-written (a .p) (a .q) (a .records .now) (a .marks .now) (a .out .now) (judged .judge-records .ensures)
+    (room .before .enum-told .given .1) refl refl (room .if1 .left) (stored .put-script .ensures)
 
 pub write-spec : {M : Type 1} → statement M
 write-spec =
@@ -73,7 +83,9 @@ write-spec =
     enum-told
     mul-length
     add-length
+    mul-length-2
     add-length-2
+    add-length-3
     returns
     put-script-requires
     returns-2
