@@ -1,7 +1,8 @@
 -- The closure of the first edition: two tracks, A and B, and every match goes from the one to the other.
 --     at u h              the position h of the side u as a place
 --     CutOn g u h         the position h of the side u is a cut of what is given
---     twoGroups, two      one group, from the track 0 to the track 1; the matches of columns with these tracks
+--     twoGroups, two      one group, from the track 0 to the track 1; the matches of columns with these tracks, beside
+--                         marks
 --     AllCutsOfA          the set holds exactly the cuts of A, and the least table has room
 --     Closure             what the closure does, by its answer
 -- Assumes nothing.
@@ -33,8 +34,8 @@ CutOn g u h = Cut (g .matches) (g .marks) (at u h)
 abbrev pub twoGroups : ℕ → List ℕ
 twoGroups count = 0 ∷ 0 ∷ 1 ∷ count ∷ []
 
-abbrev pub two : Columns → Tracked
-two c = grouped c (twoGroups (countOf c)) 1 []
+abbrev pub two : Columns → List Place → Tracked
+two c marks = grouped c (twoGroups (countOf c)) 1 marks
 
 pub record AllCutsOfA (g : Given) (cap : ℕ) (ys : List ℕ) (s : CutSet) : Type 0 where
   pub good : Good ys s

@@ -1,15 +1,16 @@
-// The closure of the first edition: two tracks, and every match goes from the first to the second.
+// The closure of the first edition: two tracks, and every match goes from the first to the second. A mark's side is its
+// track.
 use closing::close;
 use cut_set::CutSet;
 use driving::Closed;
 use shelf::load;
 ghost use mathlib.Core.Path.{_≡_};
 ghost use mathlib.Core.Bool.{false};
-ghost use mathlib.Core.List.{[]};
 ghost use Prim.Native.Nat.{_*_, _≤_};
 ghost use lib.ListN.{length, replicate};
 ghost use Rattle.refining.specs.Columns.{columnsOf, Fit};
 ghost use Rattle.refining.specs.Refining.{heldIn};
+ghost use Rattle.tracks.specs.Tracks.{marksOf};
 ghost use Rattle.closing_two.specs.FirstEdition.{twoGroups, Closure};
 
 // The cuts of A, or that every resolved refinement has more pieces than the capacity.
@@ -18,7 +19,7 @@ pub enum ClosedTwo {
     TooMany,
 }
 
-// The same with what it needs lent: the one group, no marks, and books of two sets a side.
+// The same with what it needs lent: the one group, and books of two sets a side.
 fn close_lent(
     left_a: &[u32],
     right_a: &[u32],
@@ -27,7 +28,8 @@ fn close_lent(
     reversed: &[bool],
     straight: &[bool],
     groups: &[usize],
-    no_tracks: &[u8],
+    mark_sides: &[u8],
+    mark_positions: &[u32],
     index_a: &mut [u32],
     index_b: &mut [u32],
     work: &mut [u32],
@@ -40,14 +42,15 @@ fn close_lent(
     requires { ⌜ length (now reversed) ≤ 4294967296 ⌝ }
     requires { ⌜ now straight ≡ replicate (length (now reversed)) false ⌝ }
     requires { ⌜ now groups ≡ twoGroups (length (now reversed)) ⌝ }
-    requires { ⌜ now «no_tracks» ≡ [] ⌝ }
+    requires { ⌜ length (now «mark_sides») ≡ length (now «mark_positions») ⌝ }
     requires { ⌜ length (now «book_a») ≡ 16 ⌝ }
     requires { ⌜ length (now «book_b») ≡ 16 ⌝ }
     ensures { λ r. ⌜
         Closure
         (heldIn
         (columnsOf (now («left_a» .entry)) (now («right_a» .entry)) (now («left_b» .entry)) (now («right_b» .entry))
-        (now (reversed .entry))))
+        (now (reversed .entry)))
+        (marksOf (now («mark_sides» .entry)) (now («mark_positions» .entry))))
         capacity (now (work .exit)) r ⌝ }
 {
     match close(
@@ -58,8 +61,8 @@ fn close_lent(
         reversed,
         straight,
         groups,
-        no_tracks,
-        &left_a[..0],
+        mark_sides,
+        mark_positions,
         index_a,
         index_b,
         work,
@@ -74,7 +77,7 @@ fn close_lent(
     }
 }
 
-// The cuts of A, in the work buffer.
+// The cuts of A, in the work buffer. The marks that some match spans are among the cuts.
 pub fn close_two(
     left_a: &[u32],
     right_a: &[u32],
@@ -82,6 +85,8 @@ pub fn close_two(
     right_b: &[u32],
     reversed: &[bool],
     straight: &[bool],
+    mark_sides: &[u8],
+    mark_positions: &[u32],
     index_a: &mut [u32],
     index_b: &mut [u32],
     work: &mut [u32],
@@ -91,15 +96,16 @@ pub fn close_two(
     requires { ⌜ 4 * capacity ≤ length (now work) ⌝ }
     requires { ⌜ length (now reversed) ≤ 4294967296 ⌝ }
     requires { ⌜ now straight ≡ replicate (length (now reversed)) false ⌝ }
+    requires { ⌜ length (now «mark_sides») ≡ length (now «mark_positions») ⌝ }
     ensures { λ r. ⌜
         Closure
         (heldIn
         (columnsOf (now («left_a» .entry)) (now («right_a» .entry)) (now («left_b» .entry)) (now («right_b» .entry))
-        (now (reversed .entry))))
+        (now (reversed .entry)))
+        (marksOf (now («mark_sides» .entry)) (now («mark_positions» .entry))))
         capacity (now (work .exit)) r ⌝ }
 {
     let groups = [0, 0, 1, reversed.len()];
-    let no_tracks = [0u8; 1];
     let mut book_a = [0usize; 16];
     let mut book_b = [0usize; 16];
     close_lent(
@@ -110,7 +116,8 @@ pub fn close_two(
         reversed,
         straight,
         &groups,
-        &no_tracks[..0],
+        mark_sides,
+        mark_positions,
         index_a,
         index_b,
         work,

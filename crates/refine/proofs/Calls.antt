@@ -1,31 +1,36 @@
 -- From what the inner functions ensure to what the refining call ensures.
 --     reaches, prefix-length, columns-fit
 --                        the columns of an admitted script hold as many numbers as there are matches, and they fit
+--     mark-reaches, mark-prefix     the columns of its marks, likewise
 --     refining-met, read-refused, read-refined
 --                        the contract, by one equation, which holds of a refused script and of an admitted one
 --     straight-prefix, short-straight, many-straight     a column in which no match is reversed
 --     short-roomy, many-roomy   columns with room for the matches of a script of so many bytes, and of any
+--     short-marks, many-marks   and for its marks
 -- Assumes nothing.
-use Prim.Native.Nat.{ℕ, zero, suc, _≤_, _<_}
+use Prim.Native.Nat.{ℕ, zero, suc, _+_, _*_, _≤_, _<_}
 use mathlib.Core.Path.{_≡_, refl, sym, ap, _∙_}
 use mathlib.Core.Bool.{Bool, false}
 use mathlib.Core.List.{List, _∷_, map}
 use native.Mathlib.Omega.{arith}
 use lib.ListN.{length, take, replicate, length-take, length-map, length-replicate}
-use Rattle.script.specs.Limits.{mostMatches}
+use Rattle.script.specs.Commands.{markWidth}
+use Rattle.script.specs.Limits.{mostMatches, mostMarks}
 use Rattle.script.specs.Reading.{readScript, verdictOf}
-use Rattle.script.specs.Columns.{matchesRead, columnRead, ColumnsRead}
+use Rattle.script.specs.Columns.{matchesRead, marksRead, columnOf, columnRead, ColumnsRead, MarksRead}
 use Rattle.script.specs.declared.Verdict.{Verdict}
 use Rattle.script.specs.declared.refusal.Refusal.{Refusal}
 use Rattle.script.specs.declared.command.Match.{Match as ScriptMatch}
 use Rattle.refining.specs.Columns.{FitRead, columnsRead}
-use Rattle.refining.specs.Refining.{heldIn, refiningOf}
+use Rattle.refining.specs.Refining.{markPlace, heldIn, refiningOf}
 use Rattle.refining.specs.Demands.{answerOf, Demand1, Demand2, Demand3}
 use Rattle.refining_matches.specs.Tabling.{MatchesRefined}
-use Rattle.refine.specs.Calls.{ScriptRefined, Roomy, Straight, bytesOf}
+use Rattle.refining_matches.proofs.MarksHeld.{marks-held}
+use Rattle.tracks.specs.Tracks.{marksOf}
+use Rattle.refine.specs.Calls.{ScriptRefined, Roomy, RoomyMarks, Straight, bytesOf}
 use Rattle.refining.specs.declared.answers.Refined.{Refined}
-use Rattle.script.proofs.Admitted.{Holds, holds-admitted, reading-refused, matches-few}
-use Rattle.script.proofs.Columns.{column-filled}
+use Rattle.script.proofs.Admitted.{Holds, holds-admitted, reading-refused, matches-few, marks-few}
+use Rattle.script.proofs.Columns.{column-length, column-filled}
 use Rattle.refining.proofs.Numbered.{held-admitted, held-fit}
 use Rattle.refining.proofs.Demands.{refining-contract}
 use Rattle.refining.proofs.RefiningCases.{refining-refused, refining-admitted}
@@ -35,26 +40,71 @@ take-replicate zero n h = refl
 take-replicate (suc k) zero h = absurd (omega arith)
 take-replicate (suc k) (suc n) h = ap (λ (l : List Bool). false ∷ l) (take-replicate k n (omega arith))
 
+-- a column stays as long as it was
+pub column-kept : {X Y : Type 0} (read : List X) (field : X → Y) (before : List Y) {after : List Y}
+    → after ≡ columnOf read field before → length after ≡ length before
+column-kept read field before is = ap length is ∙ column-length read field before
+
+-- a column with room for all begins with their fields
+module _ {X Y : Type 0} {xs read : List X} {count : ℕ} (same : read ≡ xs) (counted : length xs ≡ count) (field : X → Y)
+    (before : List Y) {after : List Y} (is : after ≡ columnOf read field before) (room : length read ≤ length before)
+  where
+    column-begins : take count after ≡ map field xs
+    column-begins =
+        ap (λ (n : ℕ). take n after) (sym counted) ∙ ap (take (length xs)) (is ∙ ap (λ l. columnOf l field before) same)
+        ∙ column-filled xs field before (rw same at room)
+
+    column-reaches : count ≤ length after
+    column-reaches =
+        omega (arith, length-take count after, ap length column-begins ∙ length-map xs field, counted)
+
+    column-prefix : count ≡ length (take count after)
+    column-prefix = omega (arith, column-reaches, length-take count after)
+
 -- the columns of an admitted script, by the reader's stated result
-module _ (script : List ℕ) {told : Verdict} {p q count : ℕ} (e : told ≡ verdictOf (readScript script))
-    (v : told ≡ Verdict.Admitted p q count) where
-  held : Holds script p q count
+module _ (script : List ℕ) {told : Verdict} {p q count marks : ℕ} (e : told ≡ verdictOf (readScript script))
+    (v : told ≡ Verdict.Admitted p q count marks) where
+  held : Holds script p q count marks
   held = holds-admitted script e v
 
-  -- a column with room for the matches begins with their fields
+  matches-read : matchesRead (readScript script) ≡ held .matches
+  matches-read = rw (held .read)
+
+  marks-read : marksRead (readScript script) ≡ held .points
+  marks-read = rw (held .read)
+
   module _ {X : Type 0} (field : ScriptMatch → X) (before : List X) {after : List X}
       (is : after ≡ columnRead script field before)
       (room : length (matchesRead (readScript script)) ≤ length before) where
     begins : take count after ≡ map field (held .matches)
-    begins =
-        ap (λ (n : ℕ). take n after) (sym (held .counted)) ∙ ap (take (length (held .matches))) is
-        ∙ column-filled script field before (held .read) (rw (held .read) at room)
+    begins = column-begins matches-read (held .counted) field before is room
 
     pub reaches : count ≤ length after
-    reaches = omega (arith, length-take count after, ap length begins ∙ length-map (held .matches) field, held .counted)
+    reaches = column-reaches matches-read (held .counted) field before is room
 
     pub prefix-length : count ≡ length (take count after)
-    prefix-length = omega (arith, reaches, length-take count after)
+    prefix-length = column-prefix matches-read (held .counted) field before is room
+
+  module _ {z x z′ x′ : List ℕ} (roomy : RoomyMarks script z x) (columns : MarksRead script z x z′ x′) where
+    pub side-reaches : marks ≤ length z′
+    side-reaches =
+        column-reaches marks-read (held .counted-marks) (λ k. k .side) z (columns .side) (roomy .side)
+
+    pub position-reaches : marks ≤ length x′
+    position-reaches =
+        column-reaches marks-read (held .counted-marks) (λ k. k .position) x (columns .position) (roomy .position)
+
+    pub side-prefix : marks ≡ length (take marks z′)
+    side-prefix = omega (arith, side-reaches, length-take marks z′)
+
+    pub position-prefix : marks ≡ length (take marks x′)
+    position-prefix = omega (arith, position-reaches, length-take marks x′)
+
+    marks-begin : marksOf (take marks z′) (take marks x′) ≡ map markPlace (held .points)
+    marks-begin =
+        marks-held (held .points)
+        (column-begins marks-read (held .counted-marks) (λ k. k .side) z (columns .side) (roomy .side))
+        (column-begins marks-read (held .counted-marks) (λ k. k .position) x (columns .position) (roomy .position))
 
   -- a column with room for the matches has room for as many numbers as there are
   room-reaches : {n : ℕ} → length (matchesRead (readScript script)) ≤ n → count ≤ n
@@ -91,12 +141,13 @@ module _ (script : List ℕ) {told : Verdict} {p q count : ℕ} (e : told ≡ ve
 
     -- what the matches are read into fits, and there is room for the right ends
     pub columns-fit :
-        {w : List Bool} → Straight script w
+        {w : List Bool} {z x z′ x′ : List ℕ} → Straight script w → RoomyMarks script z x → MarksRead script z x z′ x′
         → FitRead (take count f′) (take count t′) (take (length (take count f′)) u′) (take count r′)
         × ((length (take count r′) < 4294967296)
         × ((take count w ≡ replicate (length (take count r′)) false)
-        × ((length (take count f′) ≤ length g) × (length (take count f′) ≤ length u′))))
-    columns-fit straight =
+        × ((length (take marks z′) ≡ length (take marks x′))
+        × ((length (take count f′) ≤ length g) × (length (take count f′) ≤ length u′)))))
+    columns-fit straight spots points =
         let ways = prefix-length (λ m. m .reversed) r (columns .reversed) (roomy .reversed) in
         let letters = reaches (λ m. m .length) u (columns .letters) (roomy .right-b) in (
           held-fit held left-a-begins left-b-begins letters-begin reversed-begins,
@@ -104,20 +155,24 @@ module _ (script : List ℕ) {told : Verdict} {p q count : ℕ} (e : told ≡ ve
             omega (arith, ways, held .few),
             (
               straight-begins straight ∙ ap (λ (n : ℕ). replicate n false) ways,
-              (omega (arith, on-a, room-reaches (roomy .right-a)), omega (arith, on-a, letters)),
+              (
+                sym (side-prefix spots points) ∙ position-prefix spots points,
+                (omega (arith, on-a, room-reaches (roomy .right-a)), omega (arith, on-a, letters)),
+              ),
             ),
           ),
         )
 
-    pub read-refined : (table work : List ℕ) {reply : Refined} {table′ work′ : List ℕ}
+    pub read-refined : {z x z′ x′ : List ℕ} → RoomyMarks script z x → MarksRead script z x z′ x′
+        → (table work : List ℕ) {reply : Refined} {table′ work′ : List ℕ}
         → MatchesRefined
-        (heldIn (columnsRead (take count f′) (take count t′) (take (length (take count f′)) u′) (take count r′))) table
-        work reply table′ work′
+        (heldIn (columnsRead (take count f′) (take count t′) (take (length (take count f′)) u′) (take count r′))
+        (marksOf (take marks z′) (take marks x′))) table work reply table′ work′
         → ScriptRefined script table work reply table′ work′
-    read-refined table work refined =
+    read-refined spots points table work refined =
         refined
         ∙ sym (refining-admitted script table work
-        (held-admitted held left-a-begins left-b-begins letters-begin reversed-begins))
+        (held-admitted held left-a-begins left-b-begins letters-begin reversed-begins (marks-begin spots points)))
 
 -- the contract of `refine`, by the one equation of what the call leaves
 pub refining-met :
@@ -160,6 +215,16 @@ pub many-roomy :
     {s f g t u : List ℕ} {r : List Bool} → length f ≡ mostMatches → length g ≡ mostMatches → length t ≡ mostMatches
     → length u ≡ mostMatches → length r ≡ mostMatches → Roomy s f g t u r
 many-roomy {s} = roomy-in mostMatches (matches-few s .1)
+
+-- and for the marks: six bytes each, and 512 at most
+pub short-marks :
+    (n k : ℕ) {s z x : List ℕ} → length s ≤ bytesOf n → bytesOf n < markWidth * (k + 1) → length z ≡ k → length x ≡ k
+    → RoomyMarks s z x
+short-marks n k {s} short room ez ex =
+    let few = marks-few s in record { side = omega (arith, few); position = omega (arith, few) }
+
+pub many-marks : {s z x : List ℕ} → length z ≡ mostMarks → length x ≡ mostMarks → RoomyMarks s z x
+many-marks {s} ez ex = let few = marks-few s in record { side = omega (arith, few); position = omega (arith, few) }
 
 -- the same of a column in which no match is reversed
 straight-in : (n : ℕ) {s : List ℕ} → length (matchesRead (readScript s)) ≤ n → Straight s (replicate n false)

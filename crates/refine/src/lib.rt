@@ -5,18 +5,22 @@ use refining_matches::refine_read;
 use script::Verdict;
 use script::command::LENGTHS_WIDTH;
 use script::command::MATCH_WIDTH;
+use script::limits::MOST_MARKS;
 use script::limits::MOST_MATCHES;
 ghost use mathlib.Core.Path.{_≡_};
 ghost use Prim.Native.Nat.{_≤_};
 ghost use lib.ListN.{length};
 ghost use Rattle.refining.specs.Refining.{refiningOf};
-ghost use Rattle.refine.specs.Calls.{Roomy, Straight, ScriptRefined, bytesOf};
+ghost use Rattle.refine.specs.Calls.{Roomy, RoomyMarks, Straight, ScriptRefined, bytesOf};
 ghost use Rattle.refining.specs.Demands.{answerOf, Demand1, Demand2, Demand3};
 
 // Columns of these lengths take scripts of few and of some matches: to make longer ones would be most of the work.
 const FEW_MATCHES: usize = 32;
 
 const SOME_MATCHES: usize = 256;
+
+// No script with the bytes of few matches has room for more marks.
+const FEW_MARKS: usize = 71;
 
 // Room for an index of so many matches; few have none.
 const FEW_INDEX: usize = 1;
@@ -30,8 +34,8 @@ const SHORT_SCRIPT: usize = LENGTHS_WIDTH + MATCH_WIDTH * FEW_MATCHES + 1;
 
 const MEDIUM_SCRIPT: usize = LENGTHS_WIDTH + MATCH_WIDTH * SOME_MATCHES + 1;
 
-// Reads the script into columns that have room for its matches, and refines them. The lengths come into the column of
-// the right ends on B, and these in their place. `straight` is all false.
+// Reads the script into columns that have room for its matches and its marks, and refines them. The lengths come into
+// the column of the right ends on B, and these in their place. `straight` is all false.
 fn refine_in(
     script: &[u8],
     left_a: &mut [u32],
@@ -40,6 +44,8 @@ fn refine_in(
     right_b: &mut [u32],
     reversed: &mut [bool],
     straight: &[bool],
+    sides: &mut [u8],
+    positions: &mut [u32],
     index_a: &mut [u32],
     index_b: &mut [u32],
     table: &mut [u32],
@@ -48,19 +54,27 @@ fn refine_in(
     requires { ⌜
         Roomy (now script) (now «left_a») (now «right_a») (now «left_b») (now «right_b») (now reversed) ⌝ }
     requires { ⌜ Straight (now script) (now straight) ⌝ }
+    requires { ⌜ RoomyMarks (now script) (now sides) (now positions) ⌝ }
     ensures { λ r. ⌜
         ScriptRefined (now (script .entry)) (now (table .entry)) (now (work .entry)) r (now (table .exit))
         (now (work .exit)) ⌝ }
 {
-    match read_columns(script, left_a, left_b, right_b, reversed) {
+    match read_columns(script, left_a, left_b, right_b, reversed, sides, positions) {
         Verdict::Refused(refusal) => Refined::Refused(refusal),
-        Verdict::Admitted { p: _, q: _, count } => refine_read(
+        Verdict::Admitted {
+            p: _,
+            q: _,
+            count,
+            marks,
+        } => refine_read(
             &left_a[..count],
             right_a,
             &left_b[..count],
             right_b,
             &reversed[..count],
             &straight[..count],
+            &sides[..marks],
+            &positions[..marks],
             index_a,
             index_b,
             table,
@@ -82,6 +96,8 @@ fn refine_few(script: &[u8], table: &mut [u32], work: &mut [u32]) -> Refined
     let mut right_b = [0; FEW_MATCHES];
     let mut reversed = [false; FEW_MATCHES];
     let straight = [false; FEW_MATCHES];
+    let mut sides = [0u8; FEW_MARKS];
+    let mut positions = [0; FEW_MARKS];
     let mut index_a = [0; FEW_INDEX];
     let mut index_b = [0; FEW_INDEX];
     refine_in(
@@ -92,6 +108,8 @@ fn refine_few(script: &[u8], table: &mut [u32], work: &mut [u32]) -> Refined
         &mut right_b[..],
         &mut reversed[..],
         &straight[..],
+        &mut sides[..],
+        &mut positions[..],
         &mut index_a[..],
         &mut index_b[..],
         table,
@@ -112,6 +130,8 @@ fn refine_some(script: &[u8], table: &mut [u32], work: &mut [u32]) -> Refined
     let mut right_b = [0; SOME_MATCHES];
     let mut reversed = [false; SOME_MATCHES];
     let straight = [false; SOME_MATCHES];
+    let mut sides = [0u8; MOST_MARKS];
+    let mut positions = [0; MOST_MARKS];
     let mut index_a = [0; SOME_INDEX];
     let mut index_b = [0; SOME_INDEX];
     refine_in(
@@ -122,6 +142,8 @@ fn refine_some(script: &[u8], table: &mut [u32], work: &mut [u32]) -> Refined
         &mut right_b[..],
         &mut reversed[..],
         &straight[..],
+        &mut sides[..],
+        &mut positions[..],
         &mut index_a[..],
         &mut index_b[..],
         table,
@@ -141,6 +163,8 @@ fn refine_many(script: &[u8], table: &mut [u32], work: &mut [u32]) -> Refined
     let mut right_b = [0; MOST_MATCHES];
     let mut reversed = [false; MOST_MATCHES];
     let straight = [false; MOST_MATCHES];
+    let mut sides = [0u8; MOST_MARKS];
+    let mut positions = [0; MOST_MARKS];
     let mut index_a = [0; MOST_INDEX];
     let mut index_b = [0; MOST_INDEX];
     refine_in(
@@ -151,6 +175,8 @@ fn refine_many(script: &[u8], table: &mut [u32], work: &mut [u32]) -> Refined
         &mut right_b[..],
         &mut reversed[..],
         &straight[..],
+        &mut sides[..],
+        &mut positions[..],
         &mut index_a[..],
         &mut index_b[..],
         table,

@@ -1,7 +1,7 @@
 -- The least set of cuts, as 01 finds it. TO READ: contracts mean what stands here.
 --     End m p           the place p is one of the four ends of m
 --     Cut ms marks p    p is an end of a match, a spanned mark, or carried from a cut by a match that spans it
--- 01, "Resolved refinement"; SCOPE, "Least cuts". Marks are those of request #106; there are none before it.
+-- 01, "Resolved refinement"; SCOPE, "Least cuts". Marks are those of request #106.
 -- Assumes nothing.
 use Prim.Native.Nat.{ℕ}
 use mathlib.Core.List.{List}

@@ -18,6 +18,7 @@ use Rattle.script.specs.Answers.{Answer, value, contents}
 use Rattle.script.specs.Outcomes.{Outcome}
 use Rattle.script.specs.Finding.{foundIn, findingOf}
 use Rattle.script.specs.declared.command.Match.{Match as ScriptMatch}
+use Rattle.script.specs.declared.command.Mark.{Mark}
 use Rattle.script.specs.declared.refusal.Refusal.{Refusal}
 use Rattle.script.specs.declared.refusal.Refusal.the-variants.{NoSuchMatch, OffTheMatch}
 use Rattle.script.specs.declared.Finding.{Finding}
@@ -158,7 +159,7 @@ module _ (script : List ℕ) (number : ℕ) (side : Side) (position : ℕ) where
       by-reading (refused r) e =
           rw (carrying-refused (ap (λ x. findingOf x number) e))
           (CarryingOutcome.script-refused (read-outcome e))
-      by-reading (admitted p q ms) e = let a = admitted-of e in by-found a (finding a number)
+      by-reading (admitted ls ms ks) e = let a = admitted-of e in by-found a (finding a number)
 
   -- ---- the law
 
@@ -202,12 +203,12 @@ pub found-fits :
     → (side : Side) → right (withNumber number x) side < 2 ^ 32
 found-fits script number {x} e side = by-reading (readScript script) refl e
   where
-    by-outcome : {p q : ℕ} {ms : List ScriptMatch} → Outcome script (value (contents p q ms)) → x ∈ ms → (side : Side)
-        → right (withNumber number x) side < 2 ^ 32
+    by-outcome : {ls : List ℕ} {ms : List ScriptMatch} {ks : List Mark} → Outcome script (value (contents ls ms ks))
+        → x ∈ ms → (side : Side) → right (withNumber number x) side < 2 ^ 32
     by-outcome (Outcome.is-admitted r b l) i A = omega (arith, reach-within r i, reach-range r .0 .few)
     by-outcome (Outcome.is-admitted r b l) i B = omega (arith, reach-within r i, reach-range r .1 .few)
 
     by-reading : (reading : Reading) → readScript script ≡ reading → findingOf reading number ≡ Finding.Found x
         → right (withNumber number x) side < 2 ^ 32
     by-reading (refused r) is e′ = let z : _≡_ {A = ℕ} 0 1 = cc in absurd (omega arith)
-    by-reading (admitted p q ms) is e′ = by-outcome (read-outcome is) (found-∈ ms number e′) side
+    by-reading (admitted ls ms ks) is e′ = by-outcome (read-outcome is) (found-∈ ms number e′) side

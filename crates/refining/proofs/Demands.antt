@@ -35,21 +35,20 @@ use Rattle.refining.proofs.RefiningCases.{refining-refused, refining-ad
 
 -- ---- what tells the outcomes apart
 
--- the numbers of the script's own refusals
-script-number : {script : List ℕ} {number place : ℕ} → Outcome script (refusal number place) → number ≤ 10
-script-number (Outcome.headless _) = omega arith
-script-number (Outcome.unknown-command _ _ _ _ _ _) = omega arith
-script-number (Outcome.cut-short _) = omega arith
-script-number (Outcome.second-lengths _ _) = omega arith
-script-number (Outcome.length-out-of-range _ _) = omega arith
-script-number (Outcome.too-many-matches _ _ _) = omega arith
-script-number (Outcome.empty-match _ _ _ _) = omega arith
-script-number (Outcome.beyond-a _ _ _ _ _) = omega arith
-script-number (Outcome.beyond-b _ _ _ _ _ _) = omega arith
-script-number (Outcome.tail _ _ _) = omega arith
-
 pub script-twelve : {script : List ℕ} {number place : ℕ} → Outcome script (refusal number place) → number ≢ 12
-script-twelve o e = omega (arith, script-number o)
+script-twelve (Outcome.headless _) e = omega arith
+script-twelve (Outcome.unknown-command _ _ _ _ _ _ _) e = omega arith
+script-twelve (Outcome.cut-short _) e = omega arith
+script-twelve (Outcome.second-lengths _ _) e = omega arith
+script-twelve (Outcome.length-out-of-range _ _) e = omega arith
+script-twelve (Outcome.too-many-matches _ _ _) e = omega arith
+script-twelve (Outcome.empty-match _ _ _ _) e = omega arith
+script-twelve (Outcome.beyond-a _ _ _ _ _) e = omega arith
+script-twelve (Outcome.beyond-b _ _ _ _ _ _) e = omega arith
+script-twelve (Outcome.tail _ _ _) e = omega arith
+script-twelve (Outcome.too-many-marks _ _ _) e = omega arith
+script-twelve (Outcome.no-such-side _ _ _ _) e = omega arith
+script-twelve (Outcome.mark-beyond _ _ _ _) e = omega arith
 
 refused-admitted :
     {script : List ℕ} {number place : ℕ} {g : Given} → Outcome script (refusal number place)

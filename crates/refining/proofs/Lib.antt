@@ -4,5 +4,6 @@ pub mod Standing
 pub mod RefiningCases
 pub mod Demands
 pub mod WrongCalls
+pub mod Marks
 pub mod Buffers
 pub mod CarryingOutcome

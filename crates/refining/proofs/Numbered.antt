@@ -1,13 +1,14 @@
 -- The matches of an admitted script as the theory has them, and as columns of their fields hold them.
 --     admitted-of        a script that is read as admitted is Admitted
---     admitted-unique    its matches are no others
+--     admitted-unique    its matches and its marks are no others
 --     admitted-matches   each has a letter, and their numbers rise
 --     admitted-fits      their ends fit 32 bits
 --     numbered-range     numbers from n on, as many as there are matches
 --     getD-∈             what a list holds at an index below its length is a member
 --     columns-numbered   columns of their fields hold them
 --     columns-fit        and are FitRead
---     held-admitted, held-fit     both laws, by what the reader's reply tells of the matches
+--     held-admitted, held-fit     both laws, by what the reader's reply tells of the matches, with the places of the
+--                        marks beside them
 -- Assumes nothing.
 use Prim.Native.Nat.{ℕ, zero, suc, _+_, _^_, _≤_, _<_}
 use mathlib.Core.Path.{_≡_, refl, sym, ap, ap₂, _∙_}
@@ -20,15 +21,16 @@ use lib.ListN.{length, getD, length-map, List·getD-map}
 use Rattle.script.specs.Reading.{admitted, readScript}
 use Rattle.script.specs.Outcomes.{InRange, Within, Outcome}
 use Rattle.script.specs.declared.command.Match.{Match as ScriptMatch}
+use Rattle.script.specs.declared.command.Mark.{Mark}
 use Rattle.script.proofs.Outcome.{reach-within, reach-range, read-outcome, outcome-admitted}
 use Rattle.script.proofs.Admitted.{Holds}
 use Rattle.refinement.specs.Order.{_∈_, Rising}
 use Rattle.refinement.specs.declared.Side.{Side}
 use Rattle.refinement.specs.declared.Side.the-variants.{A, B}
-use Rattle.refinement.specs.Match.{Match, right}
+use Rattle.refinement.specs.Match.{Match, right, Place}
 use Rattle.refinement.specs.Refinement.{Matches}
 use Rattle.refining.specs.Columns.{FitRead, columnsRead, lettersAt, upFrom, matchAt, matchesOf}
-use Rattle.refining.specs.Refining.{withNumber, numbered, Given, givenBy, heldIn}
+use Rattle.refining.specs.Refining.{withNumber, numbered, markPlace, Given, givenBy, heldIn}
 use Rattle.refining.specs.Demands.{Admitted, reads}
 use Rattle.refining.proofs.RightEnds.{rights-worked}
 
@@ -67,13 +69,15 @@ numbered-fits n (x ∷ ms) fits i s =
 
 module _ {script : List ℕ} where
   pub admitted-of :
-      {p q : ℕ} {ms : List ScriptMatch} → readScript script ≡ admitted p q ms → Admitted script (givenBy ms)
+      {ls : List ℕ} {ms : List ScriptMatch} {ks : List Mark} → readScript script ≡ admitted ls ms ks
+      → Admitted script (givenBy ms ks)
   admitted-of e = reads (read-outcome e)
 
   pub admitted-unique : {g g′ : Given} → Admitted script g → Admitted script g′ → g ≡ g′
-  admitted-unique (reads {ms = xs} o) (reads {ms = ys} o′) =
+  admitted-unique (reads {ms = xs} {ks = ks} o) (reads {ms = ys} {ks = ls} o′) =
       let e : xs ≡ ys = cc (outcome-admitted o, outcome-admitted o′) in
-      ap givenBy e
+      let e′ : ks ≡ ls = cc (outcome-admitted o, outcome-admitted o′) in
+      ap₂ givenBy e e′
 
   pub admitted-matches : {g : Given} → Admitted script g → Matches (g .matches)
   admitted-matches (reads {ms = ms} (Outcome.is-admitted r b e)) =
@@ -92,7 +96,7 @@ module _ {script : List ℕ} where
 -- ---- columns
 
 blank : ScriptMatch
-blank = record { «left_a» = 0; «left_b» = 0; length = 0; reversed = false }
+blank = record { «track_a» = 0; «track_b» = 1; «left_a» = 0; «left_b» = 0; length = 0; reversed = false }
 
 -- if f yields the matches one by one with their numbers, it yields their numbered list
 numbered-map :
@@ -127,13 +131,16 @@ module _ {a b d : List ℕ} {r : List Bool} (ms : List ScriptMatch) (left-a : a 
   same-length : (field : ScriptMatch → ℕ) {column : List ℕ} → column ≡ map field ms → length column ≡ length d
   same-length field e = length-of field e ∙ sym count
 
-  pub columns-numbered : matchesOf (columnsRead a b d r) ≡ numbered 1 ms
+  -- the columns name no tracks: a match of the first edition is between 0, which is A, and 1, which is B
+  pub columns-numbered : ((m : ScriptMatch) → m ∈ ms → (m .«track_a» ≡ 0) × (m .«track_b» ≡ 1))
+      → matchesOf (columnsRead a b d r) ≡ numbered 1 ms
   unfolding matchesOf blank
-  columns-numbered =
+  columns-numbered tracks =
       let rights = rights-worked b d (same-length (λ m. m .«left_b») left-b) in
       ap (λ (n : ℕ). map (matchAt (columnsRead a b d r)) (upFrom 0 n)) (length-of (λ m. m .reversed) reversed)
       ∙ numbered-map (matchAt (columnsRead a b d r)) 0 ms (λ k i e below.
       let here : i ≡ k = omega arith in
+      let between = tracks (getD ms k blank) (getD-∈ ms k blank below) in
       let letters-at : lettersAt (columnsRead a b d r) k ≡ getD d k 0 =
       omega (arith, rights .left-plus-length k (omega (arith, count, same-length (λ m. m .«left_b») left-b))) in
       rw (
@@ -143,6 +150,8 @@ module _ {a b d : List ℕ} {r : List Bool} (ms : List ScriptMatch) (left-a : a 
         field-at (λ m. m .«left_b») left-b k,
         field-at (λ m. m .length) letters k,
         field-at (λ m. m .reversed) reversed k,
+        between .0,
+        between .1,
       ))
 
   pub columns-fit : {p q : ℕ} → InRange p → InRange q → ((m : ScriptMatch) → m ∈ ms → Within p q m) → FitRead a b d r
@@ -167,11 +176,14 @@ module _ {a b d : List ℕ} {r : List Bool} (ms : List ScriptMatch) (left-a : a 
       }
 
 -- columns of the fields of an admitted script's matches
-module _ {script : List ℕ} {p q count : ℕ} (held : Holds script p q count) {a b d : List ℕ} {r : List Bool}
+module _ {script : List ℕ} {p q count marks : ℕ} (held : Holds script p q count marks) {a b d : List ℕ} {r : List Bool}
     (left-a : a ≡ map (λ m. m .«left_a») (held .matches)) (left-b : b ≡ map (λ m. m .«left_b») (held .matches))
     (letters : d ≡ map (λ m. m .length) (held .matches)) (reversed : r ≡ map (λ m. m .reversed) (held .matches)) where
-  pub held-admitted : Admitted script (heldIn (columnsRead a b d r))
-  held-admitted = rw (columns-numbered (held .matches) left-a left-b letters reversed) (admitted-of (held .read))
+  pub held-admitted : {ps : List Place} → ps ≡ map markPlace (held .points)
+      → Admitted script (heldIn (columnsRead a b d r) ps)
+  held-admitted places =
+      let same = columns-numbered (held .matches) left-a left-b letters reversed (λ m i. held .tracks i) in
+      rw (places, same) (admitted-of (held .read))
 
   pub held-fit : FitRead a b d r
   held-fit =

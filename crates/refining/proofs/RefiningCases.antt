@@ -154,6 +154,6 @@ case script table work = by-reading (readScript script) refl
     by-reading : (x : Reading) → readScript script ≡ x → CaseOf script table work (refiningOf script table work)
     by-reading (refused r) e =
         rw (refining-refused script table work e) (refusing (read-outcome e))
-    by-reading (admitted p q ms) e =
+    by-reading (admitted ls ms ks) e =
         let a = admitted-of e in
         rw (refining-admitted script table work a) (matched a (matches-case (admitted-matches a) table work))

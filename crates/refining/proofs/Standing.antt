@@ -15,8 +15,10 @@ use native.Mathlib.Omega.{arith}
 use lib.Dec.{eqb}
 use lib.ListN.{length, length-map}
 use Rattle.script.specs.Commands.{bitOf}
+use Rattle.script.specs.Outcomes.{Outcome}
 use Rattle.script.specs.declared.command.Match.{Match as ScriptMatch}
 use Rattle.script.proofs.Laws.{bit-told}
+use Rattle.script.proofs.Outcome.{reach-tracks}
 use Rattle.rows.specs.Rows.{rowWidth, numbersOf}
 use Rattle.rows.proofs.Numbers.{numbers-length}
 use Rattle.refinement.specs.declared.Side.the-variants.{A, B}
@@ -35,14 +37,19 @@ pub record BetweenAB (m : Match) : Type 0 where
   pub on-a : m .trackA ≡ 0
   pub on-b : m .trackB ≡ 1
 
-numbered-ab : {m : Match} (n : ℕ) (ms : List ScriptMatch) → m ∈ numbered n ms → BetweenAB m
-numbered-ab n [] i = absurd (List·Memᴰ·not-nil i)
-numbered-ab n (x ∷ ms) i =
-    ⊎-elim (λ e. record { on-a = ap (λ (z : Match). z .trackA) e; on-b = ap (λ (z : Match). z .trackB) e })
-    (λ j. numbered-ab (suc n) ms j) (List·Memᴰ·cases-cons i)
+numbered-ab : {m : Match} (n : ℕ) (ms : List ScriptMatch)
+    → ((x : ScriptMatch) → x ∈ ms → (x .«track_a» ≡ 0) × (x .«track_b» ≡ 1)) → m ∈ numbered n ms → BetweenAB m
+numbered-ab n [] h i = absurd (List·Memᴰ·not-nil i)
+numbered-ab n (x ∷ ms) h i =
+    let t = h x (here refl) in
+    ⊎-elim (λ e. record {
+      on-a = ap (λ (z : Match). z .trackA) e ∙ t .0;
+      on-b = ap (λ (z : Match). z .trackB) e ∙ t .1;
+    })
+    (λ j. numbered-ab (suc n) ms (λ y k. h y (there k)) j) (List·Memᴰ·cases-cons i)
 
 admitted-ab : {script : List ℕ} {g : Given} {m : Match} → Admitted script g → m ∈ g .matches → BetweenAB m
-admitted-ab (reads {ms = xs} o) i = numbered-ab 1 xs i
+admitted-ab (reads {ms = xs} (Outcome.is-admitted r b e)) i = numbered-ab 1 xs (λ x k. reach-tracks r k) i
 
 pub rows-ab :
     {script : List ℕ} {g : Given} {rs : List Match} → Admitted script g → Refines (g .matches) rs → (r : Match) → r ∈ rs

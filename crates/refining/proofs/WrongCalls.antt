@@ -31,7 +31,7 @@ use Rattle.refinement.specs.Refinement.{Matches, Piece, Refines, rowsOver}
 use Rattle.refinement.specs.Least
 use Rattle.refinement.proofs.Theorem.{table-resolved, table-least}
 use Rattle.refining.specs.Rows.{pieceNumbers}
-use Rattle.refining.specs.Refining.{Given, unmarked, leastOf, capacityOf, workNeeded, zeroed}
+use Rattle.refining.specs.Refining.{Given, leastOf, capacityOf, workNeeded, zeroed}
 use Rattle.refining.specs.Demands.{Fits, EveryExceeds, MatchesOutcome, Stand, Pieces}
 use Rattle.refining.specs.Demands.{Admitted, RefiningOutcome, Demand1, Demand2, Demand3}
 use Rattle.refining.proofs.Numbered.{admitted-of, admitted-matches}
@@ -59,18 +59,22 @@ stairs = matchAB 1 0 0 8 false ∷ matchAB 2 0 2 8 false ∷ []
 letter : ℕ → List Match
 letter h = matchAB 1 h h 1 false ∷ []
 
+-- each script above gives its matches alone
+abbrev markless : List Match → Given
+markless ms = record { matches = ms; marks = [] }
+
 -- the matches cut at their ends and where these are carried to, and no further
 firstPass : List Match → List Match
 firstPass ms = Least.tableFrom (Least.grow 1 ms (Least.addNew (Least.ends ms) [])) ms
 
 -- what the laws need of the definitions, by one computation
 record Computed : Type 0 where
-  stairs-admitted : Admitted (script stairs) (unmarked stairs)
-  least : length (leastOf (unmarked stairs)) ≡ 8
+  stairs-admitted : Admitted (script stairs) (markless stairs)
+  least : length (leastOf (markless stairs)) ≡ 8
   single : length (Least.singleLetters stairs) ≡ 16
   first : length (firstPass stairs) ≡ 6
-  letter-admitted : Admitted (script (letter 0)) (unmarked (letter 0))
-  next-admitted : Admitted (script (letter 1)) (unmarked (letter 1))
+  letter-admitted : Admitted (script (letter 0)) (markless (letter 0))
+  next-admitted : Admitted (script (letter 1)) (markless (letter 1))
 
 computed : Computed
 unfolding small command script stairs letter firstPass readFrom readScript flatMap insertBy sortBy Dec·and decLe
@@ -95,15 +99,15 @@ matches = admitted-matches (computed .stairs-admitted)
 module _ {table work table′ : List ℕ} where
   single-letters-refused : ¬ Demand3 (script stairs) table work (value (length (Least.singleLetters stairs))) table′
   single-letters-refused d =
-      let L = d .of-matches (unmarked stairs) (computed .stairs-admitted) .otherwise _ refl in
-      let resolved = table-resolved stairs (unmarked stairs .marks) matches in
-      let fewest = L .least .fewest (leastOf (unmarked stairs)) resolved in
+      let L = d .of-matches (markless stairs) (computed .stairs-admitted) .otherwise _ refl in
+      let resolved = table-resolved stairs (markless stairs .marks) matches in
+      let fewest = L .least .fewest (leastOf (markless stairs)) resolved in
       omega (arith, fewest, L .stand .count, computed .least, computed .single)
 
   first-pass-refused : ¬ Demand2 (script stairs) table work (value (length (firstPass stairs))) table′
   first-pass-refused d =
-      let P = d .of-matches (unmarked stairs) (computed .stairs-admitted) .pieces _ refl in
-      let fewest = table-least stairs (unmarked stairs .marks) matches .fewest (P .rows) (P .resolved) in
+      let P = d .of-matches (markless stairs) (computed .stairs-admitted) .pieces _ refl in
+      let fewest = table-least stairs (markless stairs .marks) matches .fewest (P .rows) (P .resolved) in
       omega (arith, fewest, P .stand .count, computed .least, computed .first)
 
 -- the first row of a table is a piece of some match
@@ -147,8 +151,8 @@ fixed-table-refused : {table work table₂ work₂ fixed : List ℕ} {n n₂ : �
     → ¬ Demand2 (script (letter 1)) table₂ work₂ (value n₂) fixed
 unfolding letter
 fixed-table-refused {n = n} {n₂ = n₂} d d₂ =
-    let P = d .of-matches (unmarked (letter 0)) (computed .letter-admitted) .pieces n refl in
-    let P₂ = d₂ .of-matches (unmarked (letter 1)) (computed .next-admitted) .pieces n₂ refl in
+    let P = d .of-matches (markless (letter 0)) (computed .letter-admitted) .pieces n refl in
+    let P₂ = d₂ .of-matches (markless (letter 1)) (computed .next-admitted) .pieces n₂ refl in
     let F = first-row (here refl) (omega arith) P in
     let S = first-row (here refl) (omega arith) P₂ in
     let ends = ap (λ (m : Match). right m A) (List·Memᴰ·eq-of-singleton (F .piece .1)) in

@@ -46,7 +46,7 @@ carriedAnswer (Carried.Refused r) = refusal (numberOf r) (placeOf r)
 -- ---- what may come of a call
 
 pub data CarryingOutcome (script : List ℕ) (number : ℕ) (side : Side) (position : ℕ) : Answer ℕ → Type 0 where
-  -- 1 to 10: the script's own refusal
+  -- 1 to 10, 19 to 21: the script's own refusal
   script-refused :
       {n place : ℕ} → Outcome script (refusal n place) → CarryingOutcome script number side position (refusal n place)
   -- 13: number 0 or above the count

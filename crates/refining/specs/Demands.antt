@@ -11,12 +11,13 @@
 --     MatchesDemand1, MatchesDemand2, MatchesDemand3
 --                                the demands; each field is one sentence
 -- .. and then the bytes of a script, of whose matches the same is demanded.
---     Admitted script g          the bytes are an admitted script, and g is what it gives: its matches, from 1 on
+--     Admitted script g          the bytes are an admitted script, and g is what it gives: its matches, from 1 on,
+--                                and its marks
 --     RefiningOutcome            what may come of a call: the script's own refusals, and what may come of its matches
 --     Demand1, Demand2, Demand3  the demands
--- A refinement is a list of rows in any order and of any length. Beside the matches stand the marks of request #106;
--- before it a script gives none (`unmarked`). `proofs/Demands` shows that `refiningOfMatches` and `refiningOf` meet the
--- demands. Assumes nothing.
+-- A refinement is a list of rows in any order and of any length. 02, #106: one is resolved if it has the spanned marks
+-- among its cuts, and least and equal are judged among such alone. `proofs/Demands` shows that `refiningOfMatches` and
+-- `refiningOf` meet the demands. Assumes nothing.
 use Prim.Native.Nat.{ℕ, _*_, _≤_, _<_}
 use mathlib.Core.Path.{_≡_}
 use mathlib.Core.Logic.{_↔_, _≢_}
@@ -27,6 +28,7 @@ pub use Rattle.script.specs.Answers.{Answer, value, refusal}
 use Rattle.script.specs.Answers.{contents}
 use Rattle.script.specs.Outcomes.{Outcome}
 use Rattle.script.specs.declared.command.Match.{Match as ScriptMatch}
+use Rattle.script.specs.declared.command.Mark.{Mark}
 use Rattle.rows.specs.Rows.{rowWidth}
 use Rattle.refinement.specs.Order.{Rising}
 use Rattle.refinement.specs.Match.{Match}
@@ -137,13 +139,16 @@ pub record MatchesDemand3 (g : Given) (table work : List ℕ) (answer : Answer �
 
 -- ==== of a script
 
--- SCOPE, "Admitted" and "Numbering": no refusal's condition is met, and the matches have the numbers from 1 on
+-- SCOPE, "Admitted" and "Numbering": no refusal's condition is met, and the matches have the numbers from 1 on, marks
+-- none
 pub data Admitted (script : List ℕ) : Given → Type 0 where
-  reads : {p q : ℕ} {ms : List ScriptMatch} → Outcome script (value (contents p q ms)) → Admitted script (givenBy ms)
+  reads :
+      {ls : List ℕ} {ms : List ScriptMatch} {ks : List Mark} → Outcome script (value (contents ls ms ks))
+      → Admitted script (givenBy ms ks)
 
 -- what may come of a call. SCOPE, "Order of refining": the script's refusals, 11, 12
 pub data RefiningOutcome (script table work : List ℕ) : Answer ℕ → Type 0 where
-  -- 1 to 10: the script's own refusal
+  -- 1 to 10, 19 to 21: the script's own refusal
   script-refused :
       {number place : ℕ} → Outcome script (refusal number place)
       → RefiningOutcome script table work (refusal number place)

@@ -1,26 +1,28 @@
 -- What the refining call does, on every script and any two lent buffers. TO READ: contracts mean what stands here.
 --     withNumber n m                a match of a script as one of the theory, with the number n
 --     numbered n ms                 the matches of a script as those of the theory, numbered from n on
---     Given                         what is refined: matches, and the marks of request #106
---     unmarked ms                   matches without marks
---     givenBy ms, heldIn c          what a script with the matches ms gives; what the columns c hold
+--     markPlace k                   the place that a mark of a script names
+--     Given                         what is refined: matches and marks
+--     givenBy ms ks                 what a script with the matches ms and the marks ks gives
+--     heldIn c marks                what the columns c hold, beside marks
 --     leastOf g                     the least table of what is given
 --     capacityOf table              how many rows the lent table has room for
 --     workNeeded table              how many numbers the work buffer needs
 --     zeroed work                   the work buffer, all zero
 --     Refining                      the reply, and what the table and the work buffer hold after the call
 --     refiningOf script table work  all three, by what the script and the two buffers hold before it
--- 01, "The table and its buffers" and "Refused scripts and calls". Assumes nothing.
+-- 01, "The table and its buffers" and "Refused scripts and calls"; 02, #106. Assumes nothing.
 use Prim.Native.Nat.{ℕ, suc, _*_, _/_}
 use mathlib.Core.Bool.{cond}
-use mathlib.Core.List.{List, [], _∷_, _++_}
+use mathlib.Core.List.{List, [], _∷_, _++_, map}
 use lib.ListN.{length, drop, replicate}
 use lib.Dec.{ltb}
 use Rattle.script.specs.Reading.{Reading, admitted, refused, readScript}
 use Rattle.script.specs.declared.command.Match.{Match as ScriptMatch}
+use Rattle.script.specs.declared.command.Mark.{Mark}
 use Rattle.script.specs.declared.refusal.Refusal.the-variants.{WorkTooShort, TooManyPieces}
 use Rattle.rows.specs.Rows.{rowWidth}
-use Rattle.refinement.specs.Match.{Match, matchAB, Place}
+use Rattle.refinement.specs.Match.{Match, Place}
 use Rattle.refinement.specs.Least.{leastTable}
 use Rattle.refining.specs.Columns.{Columns, matchesOf}
 use Rattle.refining.specs.Rows.{pieceNumbers}
@@ -28,29 +30,38 @@ use Rattle.refining.specs.declared.answers.Refined.{Refined}
 use Rattle.refining.specs.declared.answers.Refined.the-variants.{Rows, Refused}
 
 abbrev pub withNumber : ℕ → ScriptMatch → Match
-withNumber n m = matchAB n (m .«left_a») (m .«left_b») (m .length) (m .reversed)
+withNumber n m =
+    record {
+      number = n;
+      trackA = m .«track_a»;
+      leftA = m .«left_a»;
+      trackB = m .«track_b»;
+      leftB = m .«left_b»;
+      length = m .length;
+      reversed = m .reversed;
+    }
 
 -- SCOPE, "Numbering": in the order of the script, from 1 on
 abbrev pub numbered : ℕ → List ScriptMatch → List Match
 numbered n [] = []
 numbered n (m ∷ ms) = withNumber n m ∷ numbered (suc n) ms
 
--- what is refined: matches, and the marks of request #106
+-- SCOPE, "Marks": a mark's side is its track, A being 0 and B 1
+abbrev pub markPlace : Mark → Place
+markPlace k = record { track = k .side; position = k .position }
+
+-- what is refined: matches, and the marks that have to be cuts where a match spans them
 pub record Given : Type 0 where
   pub matches : List Match
   pub marks : List Place
 
--- the one place that says that there are no marks before request #106
-abbrev pub unmarked : List Match → Given
-unmarked ms = record { matches = ms; marks = [] }
-
--- SCOPE, "Numbering": the matches of a script, from 1 on
-abbrev pub givenBy : List ScriptMatch → Given
-givenBy ms = unmarked (numbered 1 ms)
+-- SCOPE, "Numbering" and "Marks": the matches of a script, from 1 on, and its marks, which have no numbers
+abbrev pub givenBy : List ScriptMatch → List Mark → Given
+givenBy ms ks = record { matches = numbered 1 ms; marks = map markPlace ks }
 
 -- the matches of columns, which are numbered so too
-abbrev pub heldIn : Columns → Given
-heldIn c = unmarked (matchesOf c)
+abbrev pub heldIn : Columns → List Place → Given
+heldIn c marks = record { matches = matchesOf c; marks = marks }
 
 -- the rows that the call writes, where there is room
 abbrev pub leastOf : Given → List Match
@@ -88,7 +99,7 @@ refiningOfMatches g table work =
 -- SCOPE, "Order of refining" and "Kept when refused": the script's own refusal comes first, and alters nothing
 abbrev pub refiningOfReading : Reading → List ℕ → List ℕ → Refining
 refiningOfReading (refused r) table work = record { reply = Refused r; table = table; work = work }
-refiningOfReading (admitted p q ms) table work = refiningOfMatches (givenBy ms) table work
+refiningOfReading (admitted ls ms ks) table work = refiningOfMatches (givenBy ms ks) table work
 
 unfoldable pub refiningOf : List ℕ → List ℕ → List ℕ → Refining
 refiningOf script table work = refiningOfReading (readScript script) table work

@@ -1,2 +1,3 @@
 pub mod RowsLeast
+pub mod MarksHeld
 pub mod Tabling

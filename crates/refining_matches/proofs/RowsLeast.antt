@@ -34,19 +34,19 @@ within-filter m {g} r (x ∷ xs) = step (between (left m A) g x) refl (within-fi
     step false e {zs} same =
         same ∙ sym (if-neg (spans? m A x) (λ t. false≢true (sym e ∙ ends-span m A x r .1 t)) (x ∷ zs) zs)
 
-module _ {columns : Columns} (fit : Fit columns) where
+module _ {columns : Columns} (fit : Fit columns) (marks : List Place) where
   abbrev all-cuts : List Place
-  all-cuts = leastCuts (matchesOf columns) (heldIn columns .marks)
+  all-cuts = leastCuts (matchesOf columns) marks
 
   module _ {run : List ℕ} (rise : Rising _<_ run)
-      (all : (x : ℕ) → (x ∈ run) ↔ CutOn (heldIn columns) A x) where
+      (all : (x : ℕ) → (x ∈ run) ↔ CutOn (heldIn columns marks) A x) where
     match-cuts :
         {k : ℕ} → k < countOf columns
         → within (fromAt columns k) (fromRightAt columns k) run ≡ cutsWithin all-cuts (matchAt columns k) A
     match-cuts {k} l =
         let m = matchAt columns k in
         within-filter m (right-at fit A l) run
-        ∙ cuts-of-match (matchesOf columns) (heldIn columns .marks) (matches-good columns fit) m
+        ∙ cuts-of-match (matchesOf columns) marks (matches-good columns fit) m
         (filter (spans? m A) run) (rising-filter (spans? m A) _<_ run rise) (λ h. (
           λ i. let t = ∈-unfilter (spans? m A) run i in (t .1, all h .0 (t .0)),
           λ t. ∈-filter (spans? m A) (all h .1 (t .1)) (t .0),
@@ -71,6 +71,6 @@ module _ {columns : Columns} (fit : Fit columns) where
         ∙ ap (λ xs. rows ++ piecesBetween m xs ++ rest) (match-cuts {k = k} (omega arith))
         ∙ append-assoc rows (piecesBetween m cuts) rest
 
-    pub rows-least : piecesCut columns run (countOf columns) ≡ leastOf (heldIn columns)
+    pub rows-least : piecesCut columns run (countOf columns) ≡ leastOf (heldIn columns marks)
     unfolding leastTable tableFrom piecesCut matchesOf
     rows-least = rows-from (countOf columns) 0 (omega arith)

@@ -19,7 +19,7 @@ use lib.Seq.{slice, sets}
 use Rattle.script.specs.declared.refusal.Refusal.the-variants.{TooManyPieces}
 use Rattle.refinement.specs.declared.Side.{Side}
 use Rattle.refinement.specs.Order.{_∈_}
-use Rattle.refinement.specs.Match.{Match}
+use Rattle.refinement.specs.Match.{Match, Place}
 use Rattle.refinement.specs.Cut.{end, left-end, right-end}
 use Rattle.refinement.specs.Refinement.{Matches}
 use Rattle.runs.specs.Runs.{In}
@@ -58,18 +58,19 @@ pub crowded-tabled :
     → Closure g (capacityOf table) ys answer → Tabled g table table (Refined.Refused TooManyPieces)
 crowded-tabled g table ys e h = (refl, subst (Closure g (capacityOf table) ys) e h, refl)
 
-module _ {columns : Columns} (fit : Fit columns) (table : List ℕ) {xs ys : List ℕ} {s t : CutSet} {run : Places}
-    {answer : ClosedTwo} (told : answer ≡ ClosedTwo.CutsOfA s) (joined : Joined xs s ys t) (places : AllPlaces ys t run)
-    (closed : Closure (heldIn columns) (capacityOf table) xs answer) where
-  cuts : AllCutsOfA (heldIn columns) (capacityOf table) xs s
+module _ {columns : Columns} (fit : Fit columns) (marks : List Place) (table : List ℕ) {xs ys : List ℕ}
+    {s t : CutSet} {run : Places} {answer : ClosedTwo} (told : answer ≡ ClosedTwo.CutsOfA s)
+    (joined : Joined xs s ys t) (places : AllPlaces ys t run)
+    (closed : Closure (heldIn columns marks) (capacityOf table) xs answer) where
+  cuts : AllCutsOfA (heldIn columns marks) (capacityOf table) xs s
   cuts = told-cuts closed told
 
   -- a cut of A stands in the run
-  cut-in : (x : ℕ) → CutOn (heldIn columns) Side.A x → In ys (run .start) (run .end) x
+  cut-in : (x : ℕ) → CutOn (heldIn columns marks) Side.A x → In ys (run .start) (run .end) x
   cut-in x c = places .all x .1 (joined .kept .members x .1 (cuts .cuts x .1 c))
 
   -- the numbers of the run are the cuts of A
-  run-cuts : (x : ℕ) → (x ∈ slice (run .start) (run .end) ys) ↔ CutOn (heldIn columns) Side.A x
+  run-cuts : (x : ℕ) → (x ∈ slice (run .start) (run .end) ys) ↔ CutOn (heldIn columns marks) Side.A x
   run-cuts x =
       let inside = places .run .within in
       let ordered = places .run .order in (
@@ -77,9 +78,9 @@ module _ {columns : Columns} (fit : Fit columns) (table : List ℕ) {xs ys : Lis
         λ c. in-slice ys inside ordered (cut-in x c),
       )
 
-  rows-are : piecesCut columns (slice (run .start) (run .end) ys) (countOf columns) ≡ leastOf (heldIn columns)
+  rows-are : piecesCut columns (slice (run .start) (run .end) ys) (countOf columns) ≡ leastOf (heldIn columns marks)
   rows-are = let rises = slice-rising ys (places .run .within) (places .run .order) _<_ (places .run .rising) in
-      rows-least fit rises run-cuts
+      rows-least fit marks rises run-cuts
 
   pub cuts-writable : countOf columns < 4294967296 → Writable columns ys (run .start) (run .end) table
   cuts-writable few =
@@ -89,13 +90,13 @@ module _ {columns : Columns} (fit : Fit columns) (table : List ℕ) {xs ys : Lis
         right-in = λ k h.
             let i = ∈-matches columns h in
             cut-in (fromRightAt columns k)
-            (subst (CutOn (heldIn columns) Side.A) (sym (right-at fit Side.A h)) (end i (right-end Side.A)));
+            (subst (CutOn (heldIn columns marks) Side.A) (sym (right-at fit Side.A h)) (end i (right-end Side.A)));
         few = few;
         room = omega (arith, ap length rows-are, cuts .fits);
       }
 
   pub rows-tabled : {after : List ℕ} {n : ℕ} → Written columns (slice (run .start) (run .end) ys) table after n
-      → Tabled (heldIn columns) table after (Refined.Rows n)
+      → Tabled (heldIn columns marks) table after (Refined.Rows n)
   rows-tabled w = (
     w .count ∙ ap length rows-are,
     cuts .fits,
@@ -112,16 +113,16 @@ tabled-refined g M table table′ work (Refined.Refused f) room t =
     rw (t .0, t .2) (sym (matches-crowded g table work room (exceeds-many M (t .1))))
 
 pub cleared-refined :
-    {columns : Columns} → Fit columns → (table table′ work work′ : List ℕ)
+    {columns : Columns} → Fit columns → (marks : List Place) (table table′ work work′ : List ℕ)
     {ended : List ℕ} {r : Refined}
     → workNeeded table ≤ length work
-    → Tabled (heldIn columns) table table′ r
+    → Tabled (heldIn columns marks) table table′ r
     → length work′ ≡ length work
     → ended ≡ zeroed work′
-    → MatchesRefined (heldIn columns) table work r table′ ended
-cleared-refined {columns} fit table table′ work work′ {r = r} room tabled same cleared =
+    → MatchesRefined (heldIn columns marks) table work r table′ ended
+cleared-refined {columns} fit marks table table′ work work′ {r = r} room tabled same cleared =
     rw (cleared ∙ ap (λ (n : ℕ). replicate n 0) same)
-    (tabled-refined (heldIn columns) (matches-good columns fit) table table′ work r room tabled)
+    (tabled-refined (heldIn columns marks) (matches-good columns fit) table table′ work r room tabled)
 
 -- the matches as they are read, once their right ends are worked out
 module _ (f t d : List ℕ) (r : List Bool) {g u : List ℕ} (read : FitRead f t d r) (right-a : RightEnds f d g)
@@ -133,7 +134,7 @@ module _ (f t d : List ℕ) (r : List Bool) {g u : List ℕ} (read : FitRead f t
   worked-fit = rw worked-columns (read-fit read)
 
   pub worked-refined :
-      (table work : List ℕ) {reply : Refined} {table′ work′ : List ℕ}
-      → MatchesRefined (heldIn (columnsOf f g t u r)) table work reply table′ work′
-      → MatchesRefined (heldIn (columnsRead f t d r)) table work reply table′ work′
-  worked-refined table work refined = rw worked-columns at refined
+      (marks : List Place) (table work : List ℕ) {reply : Refined} {table′ work′ : List ℕ}
+      → MatchesRefined (heldIn (columnsOf f g t u r) marks) table work reply table′ work′
+      → MatchesRefined (heldIn (columnsRead f t d r) marks) table work reply table′ work′
+  worked-refined marks table work refined = rw worked-columns at refined

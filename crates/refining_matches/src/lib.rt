@@ -1,4 +1,4 @@
-// Refining the matches of a script that was read: their cuts, and from these the rows of the table.
+// Refining the matches and marks of a script that was read: their cuts, and from these the rows of the table.
 use clearing::clear;
 use closing_two::ClosedTwo;
 use closing_two::close_two;
@@ -12,7 +12,8 @@ ghost use Prim.Native.Nat.{_≤_, _<_};
 ghost use mathlib.Core.Bool.{false};
 ghost use lib.ListN.{length, replicate, take};
 ghost use Rattle.refining.specs.Columns.{FitRead, RightEnds, columnsOf, columnsRead, Fit};
-ghost use Rattle.refining.specs.Refining.{heldIn, workNeeded, zeroed};
+ghost use Rattle.refining.specs.Refining.{heldIn, workNeeded};
+ghost use Rattle.tracks.specs.Tracks.{marksOf};
 ghost use Rattle.refining_matches.specs.Tabling.{Tabled, MatchesRefined};
 
 // Finds the cuts and writes the rows, if the table has room for them. The table is not touched before that is known.
@@ -23,6 +24,8 @@ fn cut_and_write(
     right_b: &[u32],
     reversed: &[bool],
     straight: &[bool],
+    mark_sides: &[u8],
+    mark_positions: &[u32],
     index_a: &mut [u32],
     index_b: &mut [u32],
     table: &mut [u32],
@@ -32,11 +35,13 @@ fn cut_and_write(
     requires { ⌜ workNeeded (now table) ≤ length (now work) ⌝ }
     requires { ⌜ length (now reversed) < 4294967296 ⌝ }
     requires { ⌜ now straight ≡ replicate (length (now reversed)) false ⌝ }
+    requires { ⌜ length (now «mark_sides») ≡ length (now «mark_positions») ⌝ }
     ensures { λ r. ⌜
         Tabled
         (heldIn
         (columnsOf (now («left_a» .entry)) (now («right_a» .entry)) (now («left_b» .entry)) (now («right_b» .entry))
-        (now (reversed .entry))))
+        (now (reversed .entry)))
+        (marksOf (now («mark_sides» .entry)) (now («mark_positions» .entry))))
         (now (table .entry)) (now (table .exit)) r ⌝ }
 {
     match close_two(
@@ -46,6 +51,8 @@ fn cut_and_write(
         right_b,
         reversed,
         straight,
+        mark_sides,
+        mark_positions,
         index_a,
         index_b,
         work,
@@ -70,7 +77,7 @@ fn cut_and_write(
     }
 }
 
-// The matches of an admitted script, given by their ends: 11, then 12, then the rows.
+// The matches of an admitted script, given by their ends, and its marks: 11, then 12, then the rows.
 fn refine_matches(
     left_a: &[u32],
     right_a: &[u32],
@@ -78,6 +85,8 @@ fn refine_matches(
     right_b: &[u32],
     reversed: &[bool],
     straight: &[bool],
+    mark_sides: &[u8],
+    mark_positions: &[u32],
     index_a: &mut [u32],
     index_b: &mut [u32],
     table: &mut [u32],
@@ -86,11 +95,13 @@ fn refine_matches(
     requires { ⌜ Fit (columnsOf (now «left_a») (now «right_a») (now «left_b») (now «right_b») (now reversed)) ⌝ }
     requires { ⌜ length (now reversed) < 4294967296 ⌝ }
     requires { ⌜ now straight ≡ replicate (length (now reversed)) false ⌝ }
+    requires { ⌜ length (now «mark_sides») ≡ length (now «mark_positions») ⌝ }
     ensures { λ r. ⌜
         MatchesRefined
         (heldIn
         (columnsOf (now («left_a» .entry)) (now («right_a» .entry)) (now («left_b» .entry)) (now («right_b» .entry))
-        (now (reversed .entry))))
+        (now (reversed .entry)))
+        (marksOf (now («mark_sides» .entry)) (now («mark_positions» .entry))))
         (now (table .entry)) (now (work .entry)) r (now (table .exit)) (now (work .exit)) ⌝ }
 {
     if work.len() < 4 * (table.len() / ROW_WIDTH) {
@@ -103,6 +114,8 @@ fn refine_matches(
         right_b,
         reversed,
         straight,
+        mark_sides,
+        mark_positions,
         index_a,
         index_b,
         table,
@@ -121,6 +134,8 @@ pub fn refine_read(
     right_b: &mut [u32],
     reversed: &[bool],
     straight: &[bool],
+    mark_sides: &[u8],
+    mark_positions: &[u32],
     index_a: &mut [u32],
     index_b: &mut [u32],
     table: &mut [u32],
@@ -129,13 +144,15 @@ pub fn refine_read(
     requires { ⌜ FitRead (now «left_a») (now «left_b») (take (length (now «left_a»)) (now «right_b»)) (now reversed) ⌝ }
     requires { ⌜ length (now reversed) < 4294967296 ⌝ }
     requires { ⌜ now straight ≡ replicate (length (now reversed)) false ⌝ }
+    requires { ⌜ length (now «mark_sides») ≡ length (now «mark_positions») ⌝ }
     requires { ⌜ length (now «left_a») ≤ length (now «right_a») ⌝ }
     requires { ⌜ length (now «left_a») ≤ length (now «right_b») ⌝ }
     ensures refined { λ r. ⌜
         MatchesRefined
         (heldIn
         (columnsRead (now («left_a» .entry)) (now («left_b» .entry))
-        (take (length (now («left_a» .entry))) (now («right_b» .entry))) (now (reversed .entry))))
+        (take (length (now («left_a» .entry))) (now («right_b» .entry))) (now (reversed .entry)))
+        (marksOf (now («mark_sides» .entry)) (now («mark_positions» .entry))))
         (now (table .entry)) (now (work .entry)) r (now (table .exit)) (now (work .exit)) ⌝ }
     ensures ends_a { λ _. ⌜
         RightEnds (now («left_a» .entry)) (take (length (now («left_a» .entry))) (now («right_b» .entry)))
@@ -152,6 +169,8 @@ pub fn refine_read(
         &right_b[..left_a.len()],
         reversed,
         straight,
+        mark_sides,
+        mark_positions,
         index_a,
         index_b,
         table,

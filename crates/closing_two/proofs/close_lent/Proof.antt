@@ -1,14 +1,9 @@
 -- `close_lent` meets its contract: the closure of the two tracks is the first edition's. Assumes nothing.
-use mathlib.Core.Path.{ap}
 use native.Mathlib.Omega.{arith}
-use lib.ListN.{length}
 use Rattle.closing_two.proofs.TwoTracks.{lent-groups, lent-crowded, lent-cuts}
 use borrow.Author.Needs.{needs}
 use Rattle.closing_two.proofs.close_lent.Statement.{statement}
 use Rattle.closing_two.proofs.close_lent.Tie as tie
-
-slice-aggregate-close : tie.Need-slice-aggregate-close
-slice-aggregate-close c = search needs
 
 close-requires : tie.Need-close-requires
 close-requires c κs =
@@ -23,7 +18,7 @@ close-requires c κs =
           few .1 .0,
           (
             lent-groups (one .0),
-            (ap length (one .1 .0), (omega arith, (books .0, (books .1, start .pre .1 .0)))),
+            (one .1 .0, (omega arith, (books .0, (books .1, start .pre .1 .0)))),
           ),
         ),
       ),
@@ -62,7 +57,7 @@ returns c =
     let start : tie.Start = search in
     let called : tie.After-close = search in
     let one = start .pre .1 .1 .1 .1 in
-    lent-crowded _ _ _ _ _ _ (one .0) (one .1 .0) (called .close .ensures) (c .enum-told .given .1)
+    lent-crowded _ _ _ _ _ _ (one .0) (called .close .ensures) (c .enum-told .given .1)
 
 same-length-6 : tie.Need-same-length-6
 same-length-6 c = search needs
@@ -90,14 +85,13 @@ returns-2 c =
     let called : tie.After-close = search in
     let start = start-of called in
     let one = start .pre .1 .1 .1 .1 in
-    lent-cuts _ _ _ _ _ _ (one .0) (one .1 .0) (called .close .ensures) (loaded .before .before .enum-told2 .given .1)
+    lent-cuts _ _ _ _ _ _ (one .0) (called .close .ensures) (loaded .before .before .enum-told2 .given .1)
     (loaded .load .ensures)
 
 pub close-lent-spec : {M : Type 1} → statement M
 close-lent-spec =
     tie.close
     (tie.spec
-    slice-aggregate-close
     close-requires
     enum-told
     enum-told-2

@@ -1,5 +1,5 @@
--- `refine_some` meets its contract: its columns have room for the matches. Assumes nothing.
-use Rattle.refine.proofs.Calls.{short-roomy, short-straight}
+-- `refine_some` meets its contract: its columns have room for the matches and the marks. Assumes nothing.
+use Rattle.refine.proofs.Calls.{short-roomy, short-straight, many-marks}
 use borrow.Author.Needs.{needs}
 use Rattle.refine.proofs.refine_some.Statement.{statement}
 use Rattle.refine.proofs.refine_some.Tie as tie
@@ -28,8 +28,15 @@ slice-aggregate-refine-in-7 c = search needs
 slice-aggregate-refine-in-8 : tie.Need-slice-aggregate-refine-in-8
 slice-aggregate-refine-in-8 c = search needs
 
+slice-aggregate-refine-in-9 : tie.Need-slice-aggregate-refine-in-9
+slice-aggregate-refine-in-9 c = search needs
+
+slice-aggregate-refine-in-10 : tie.Need-slice-aggregate-refine-in-10
+slice-aggregate-refine-in-10 c = search needs
+
 refine-in-requires : tie.Need-refine-in-requires
-refine-in-requires c κs = (search (needs, short-roomy 256), search (needs, short-straight 256))
+refine-in-requires c κs =
+    (search (needs, short-roomy 256), (search (needs, short-straight 256), search (needs, many-marks)))
 
 same-length : tie.Need-same-length
 same-length c = search needs
@@ -52,6 +59,8 @@ refine-some-spec =
     slice-aggregate-refine-in-6
     slice-aggregate-refine-in-7
     slice-aggregate-refine-in-8
+    slice-aggregate-refine-in-9
+    slice-aggregate-refine-in-10
     refine-in-requires
     same-length
     same-length-2

@@ -9,7 +9,7 @@ close-two-requires : tie.Need-close-two-requires
 close-two-requires c κs =
     let start : tie.Start = search in
     let few = start .pre .1 .1 in
-    (start .pre .0, (search needs, (search needs, few .1)))
+    (start .pre .0, (search needs, (search needs, (few .1 .0, few .1 .1))))
 
 -- the place where the closure has answered, from where its set is named
 closed-of : tie.After-set → tie.After-close-two
@@ -41,7 +41,7 @@ write-rows-requires c κs =
     let start = start-of closed in
     let fit = start .pre .0 in (
       fit,
-      cuts-writable fit (start .args .table .now) (held .set .given .1) (joined .join .ensures)
+      cuts-writable fit _ (start .args .table .now) (held .set .given .1) (joined .join .ensures)
           (placed .all-places .ensures) (closed .close-two .ensures) (start .pre .1 .1 .0),
     )
 
@@ -61,7 +61,7 @@ same-length-4 : tie.Need-same-length-4
 unfolding closed-of
 same-length-4 c =
     let held : tie.After-set = search in
-    closed-of held .close-two .kept .1 .1 .1 .1 .1 .1 .0
+    closed-of held .close-two .kept .1 .1 .1 .1 .1 .1 .1 .1 .0
 
 same-length-5 : tie.Need-same-length-5
 same-length-5 c = search needs
@@ -81,7 +81,7 @@ returns-2 c =
     let held : tie.After-set = search in
     let closed = closed-of held in
     let start = start-of closed in
-    rows-tabled (start .pre .0) (start .args .table .now) (held .set .given .1) (joined .join .ensures)
+    rows-tabled (start .pre .0) _ (start .args .table .now) (held .set .given .1) (joined .join .ensures)
     (placed .all-places .ensures) (closed .close-two .ensures) (written .write-rows .ensures)
 
 pub cut-and-write-spec : {M : Type 1} → statement M

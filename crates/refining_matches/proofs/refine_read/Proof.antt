@@ -9,7 +9,7 @@ work-out-requires : tie.Need-work-out-requires
 work-out-requires c κs =
     let start : tie.Start = search in
     let pre = start .pre in
-    (pre .0 .on-a, (pre .0 .on-b, pre .1 .1 .1))
+    (pre .0 .on-a, (pre .0 .on-b, pre .1 .1 .1 .1))
 
 slice-reshare-prefix-refine-matches : tie.Need-slice-reshare-prefix-refine-matches
 slice-reshare-prefix-refine-matches c = search needs
@@ -30,7 +30,8 @@ refine-matches-requires c κs =
     let a = start .args in
     let ends = worked .work-out .ensures in
     let fit = worked-fit (a .left-a .now) (a .left-b .now) _ (a .reversed .now) (start .pre .0) (ends .0) (ends .1) in
-    (fit, (start .pre .1 .0, start .pre .1 .1 .0))
+    let few = start .pre .1 in
+    (fit, (few .0, (few .1 .0, few .1 .1 .0)))
 
 same-length : tie.Need-same-length
 same-length c = search needs
@@ -50,15 +51,20 @@ same-length-5 c = search needs
 same-length-6 : tie.Need-same-length-6
 same-length-6 c = search needs
 
+-- the start, from the place where the right ends are worked out
+start-of : tie.After-work-out → tie.Start
+start-of worked = search
+
 returns : tie.Need-returns
+unfolding start-of
 returns c =
     let refined : tie.After-refine-matches = search in
     let worked : tie.After-work-out = search in
-    let start : tie.Start = search in
+    let start = start-of worked in
     let a = start .args in
     let ends = worked .work-out .ensures in (
       worked-refined (a .left-a .now) (a .left-b .now) _ (a .reversed .now) (start .pre .0) (ends .0) (ends .1)
-          (a .table .now) (a .work .now) (refined .refine-matches .ensures),
+          _ (a .table .now) (a .work .now) (refined .refine-matches .ensures),
       ends,
     )
 
