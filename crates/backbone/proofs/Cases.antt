@@ -207,7 +207,7 @@ module _ (script : List ℕ) (price : ℕ) (table work chain scores : List ℕ) 
           → Case script price table work chain scores (chainingOf script price table work chain scores)
       by-reading (refused r) e =
           rw (chaining-refused script price table work chain scores e) (refusing (read-outcome e))
-      by-reading (admitted p q ms) e =
+      by-reading (admitted ls ms ks) e =
           let a = admitted-of e in
           rw (chaining-admitted script price table work chain scores a)
           (admitted-case a (decLe (workNeeded table) (length work)))

@@ -74,8 +74,8 @@ chainingOfMatches g price table work chain scores =
 -- the script's own refusal comes first, and alters nothing
 abbrev pub chainingOfReading : Reading → ℕ → List ℕ → List ℕ → List ℕ → List ℕ → Chaining
 chainingOfReading (refused r) price table work chain scores = keptBy r table work chain scores
-chainingOfReading (admitted p q ms) price table work chain scores =
-    chainingOfMatches (givenBy ms) price table work chain scores
+chainingOfReading (admitted ls ms ks) price table work chain scores =
+    chainingOfMatches (givenBy ms ks) price table work chain scores
 
 unfoldable pub chainingOf : List ℕ → ℕ → List ℕ → List ℕ → List ℕ → List ℕ → Chaining
 chainingOf script price table work chain scores = chainingOfReading (readScript script) price table work chain scores

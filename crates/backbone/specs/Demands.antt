@@ -52,7 +52,7 @@ pub record Lent (price : ℕ) (table chain scores : List ℕ) : Type 0 where
 
 -- SCOPE, "Order of chaining": the script's refusals, 11, 17, 18, 12
 pub data ChainingOutcome (script : List ℕ) (price : ℕ) (table work chain scores : List ℕ) : Answer Scored → Type 0 where
-  -- 1 to 10: the script's own refusal
+  -- 1 to 10, 19 to 21: the script's own refusal
   script-refused :
       {n place : ℕ} → Outcome script (refusal n place)
       → ChainingOutcome script price table work chain scores (refusal n place)

@@ -1,5 +1,5 @@
 -- What reading, and refining in a table of any size, bring to the report.
---     verdict-told      the verdict is the one that was told
+--     verdict-told      the script is admitted, as was told
 --     report-refused    the report of a refused script
 --     rows-room         no more rows than the table has
 --     report-few        rows that have room in the small table are the report's
@@ -18,12 +18,13 @@ use Rattle.refining.specs.Refining.{refiningOf, capacityOf}
 use Rattle.refining.specs.Demands.{value, answerOf, MatchesOutcome, RefiningOutcome}
 use Rattle.refining.specs.declared.answers.Refined.{Refined}
 use Rattle.reporting.specs.Lines.{refusalText, tableText}
-use Rattle.reporting.specs.Reporting.{reportOf, Reporting, reportingOfText, reportingOf}
+use Rattle.reporting.specs.Reporting.{reportOf, Reporting, reportingOfText, reportingOf, ReadAs}
 use Rattle.reporting.proofs.Lent.{report-of-rows}
 use Rattle.brief_report.specs.Few.{fewRows}
 
-pub verdict-told : {read told made : Verdict} → read ≡ made → read ≡ told → made ≡ told
-verdict-told e v = sym e ∙ v
+pub verdict-told : {script : List ℕ} {told : Verdict} {p q count marks : ℕ} → told ≡ verdictOf (readScript script)
+    → told ≡ Verdict.Admitted p q count marks → ReadAs script p q count
+verdict-told e v = record { marks = _; told = sym e ∙ v }
 
 pub report-refused :
     (script text : List ℕ) {told : Verdict} {f : Refusal} {answer : Reporting} → told ≡ verdictOf (readScript script)
@@ -47,7 +48,7 @@ rows-room rows {script} {table} {work} t o e =
 
 pub report-few :
     (script text : List ℕ) {p q count n : ℕ} {table work table′ : List ℕ} {reply : Refined} {answer : Reporting}
-    → verdictOf (readScript script) ≡ Verdict.Admitted p q count
+    → ReadAs script p q count
     → table ≡ replicate (rowWidth * fewRows) 0
     → RefiningOutcome script table work (answerOf reply)
     → reply ≡ refiningOf script table work .reply
@@ -57,7 +58,7 @@ pub report-few :
     → reportingOf script text ≡ answer
 report-few script text {p} {q} {count} {n} {table} {work} admits small outcome replied wrote e printed =
     let few = rows-room fewRows small outcome e in
-    let held = holds-admitted script refl admits in
+    let held = holds-admitted script refl (admits .told) in
     let same = report-of-rows script table work (held .read) (sym replied ∙ e) (omega arith) in
     let shown : ℕ → List ℕ → List ℕ = λ k t. tableText p q k (rowsOf (take (rowWidth * n) t)) in
     let stands = ap₂ shown (sym (held .counted)) wrote in

@@ -10,10 +10,8 @@ use script::Verdict;
 ghost use mathlib.Core.Path.{_≡_};
 ghost use Prim.Native.Nat.{_*_};
 ghost use lib.ListN.{replicate};
-ghost use Rattle.script.specs.Reading.{readScript, verdictOf};
-ghost use Rattle.script.specs.declared.Verdict.the-variants.{Admitted};
 ghost use Rattle.rows.specs.Rows.{rowWidth};
-ghost use Rattle.reporting.specs.Reporting.{Briefly};
+ghost use Rattle.reporting.specs.Reporting.{ReadAs, Briefly};
 ghost use Rattle.brief_report.specs.Few.{fewRows};
 
 // The rows of the small table.
@@ -33,7 +31,7 @@ fn few_work() -> [u32; 4 * FEW_ROWS]
 
 // An admitted script. If it has more matches than the small table has rows, it has more pieces too: each has one.
 fn report_few(script: &[u8], p: u32, q: u32, count: usize, text: &mut [u8]) -> Brief
-    requires { ⌜ verdictOf (readScript (now script)) ≡ Admitted p q count ⌝ }
+    requires { ⌜ ReadAs (now script) p q count ⌝ }
     ensures { λ r. ⌜ Briefly (now (script .entry)) (now (text .entry)) (now (text .exit)) r ⌝ }
 {
     if FEW_ROWS < count {
@@ -60,6 +58,11 @@ pub fn report_brief(script: &[u8], text: &mut [u8]) -> Brief
     let verdict = reader::read(script);
     match verdict {
         Verdict::Refused(refusal) => Brief::Answered(print_refusal(refusal, text)),
-        Verdict::Admitted { p, q, count } => report_few(script, p, q, count, text),
+        Verdict::Admitted {
+            p,
+            q,
+            count,
+            marks: _,
+        } => report_few(script, p, q, count, text),
     }
 }

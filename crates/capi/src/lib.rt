@@ -29,7 +29,7 @@ ghost use Rattle.records.specs.Writing.{writingOf};
 ghost use Rattle.refining.specs.Refining.{refiningOf};
 ghost use Rattle.reporting.specs.Reporting.{reportingOf};
 
-// Reads a script: p, q and the count of matches.
+// Reads a script: p, q and the counts of matches and marks.
 #[no_mangle]
 pub extern "C" fn notchergrey_read(
     script: &[u8],
@@ -37,15 +37,27 @@ pub extern "C" fn notchergrey_read(
     p: &mut u32,
     q: &mut u32,
     count: &mut usize,
+    mark_count: &mut usize,
 ) -> u32
     ensures { λ r. ⌜
         record {
           number = r;
           place = now (place .exit);
-          given = record { p = now (p .exit); q = now (q .exit); count = now (count .exit) };
+          given =
+              record {
+                p = now (p .exit);
+                q = now (q .exit);
+                count = now (count .exit);
+                marks = now («mark_count» .exit);
+              };
         }
         ≡ readDoor (now (script .entry)) (now (place .entry))
-        (record { p = now (p .entry); q = now (q .entry); count = now (count .entry) }) ⌝ }
+        (record {
+          p = now (p .entry);
+          q = now (q .entry);
+          count = now (count .entry);
+          marks = now («mark_count» .entry);
+        }) ⌝ }
 {
     let verdict = reader::read(script);
     match verdict {
@@ -53,10 +65,12 @@ pub extern "C" fn notchergrey_read(
             p: a,
             q: b,
             count: n,
+            marks: k,
         } => {
             *p = a;
             *q = b;
             *count = n;
+            *mark_count = k;
             0
         }
         Verdict::Refused(refusal) => {
@@ -112,23 +126,26 @@ pub extern "C" fn notchergrey_match(
     }
 }
 
-// Writes the script of a list of records to the lent bytes; `length` becomes its length.
+// Writes the script of a list of records and a list of marks to the lent bytes; `length` becomes its length.
 #[no_mangle]
 pub extern "C" fn notchergrey_write(
     p: u32,
     q: u32,
     records: &[u32],
+    marks: &[u32],
     script: &mut [u8],
     place: &mut usize,
     length: &mut usize,
 ) -> u32
     ensures { λ r. ⌜
         record { number = r; place = now (place .exit); given = now (length .exit) }
-        ≡ writeDoor p q (now (records .entry)) (now (script .entry)) (now (place .entry)) (now (length .entry)) ⌝ }
+        ≡ writeDoor p q (now (records .entry)) (now (marks .entry)) (now (script .entry)) (now (place .entry))
+        (now (length .entry)) ⌝ }
     ensures { λ _. ⌜
-        now (script .exit) ≡ writingOf p q (now (records .entry)) (now (script .entry)) .script ⌝ }
+        now (script .exit)
+        ≡ writingOf p q (now (records .entry)) (now (marks .entry)) (now (script .entry)) .script ⌝ }
 {
-    match writer::write(p, q, records, script) {
+    match writer::write(p, q, records, marks, script) {
         Written::Bytes(n) => {
             *length = n;
             0
@@ -140,35 +157,53 @@ pub extern "C" fn notchergrey_write(
     }
 }
 
-// Reads a script into a list: p, q and the count of matches, and their records in the lent numbers.
+// Reads a script into two lists: p, q and the counts of matches and marks, and their numbers in the lent ones.
 #[no_mangle]
 pub extern "C" fn notchergrey_read_records(
     script: &[u8],
     records: &mut [u32],
+    marks: &mut [u32],
     place: &mut usize,
     p: &mut u32,
     q: &mut u32,
     count: &mut usize,
+    mark_count: &mut usize,
 ) -> u32
     ensures { λ r. ⌜
         record {
           number = r;
           place = now (place .exit);
-          given = record { p = now (p .exit); q = now (q .exit); count = now (count .exit) };
+          given =
+              record {
+                p = now (p .exit);
+                q = now (q .exit);
+                count = now (count .exit);
+                marks = now («mark_count» .exit);
+              };
         }
-        ≡ recordsDoor (now (script .entry)) (now (records .entry)) (now (place .entry))
-        (record { p = now (p .entry); q = now (q .entry); count = now (count .entry) }) ⌝ }
-    ensures { λ _. ⌜ now (records .exit) ≡ listingOf (now (script .entry)) (now (records .entry)) .records ⌝ }
+        ≡ recordsDoor (now (script .entry)) (now (records .entry)) (now (marks .entry)) (now (place .entry))
+        (record {
+          p = now (p .entry);
+          q = now (q .entry);
+          count = now (count .entry);
+          marks = now («mark_count» .entry);
+        }) ⌝ }
+    ensures { λ _. ⌜
+        now (records .exit) ≡ listingOf (now (script .entry)) (now (records .entry)) (now (marks .entry)) .records ⌝ }
+    ensures { λ _. ⌜
+        now (marks .exit) ≡ listingOf (now (script .entry)) (now (records .entry)) (now (marks .entry)) .marks ⌝ }
 {
-    match read_records(script, records) {
+    match read_records(script, records, marks) {
         Listed::Records {
             p: a,
             q: b,
             count: n,
+            marks: k,
         } => {
             *p = a;
             *q = b;
             *count = n;
+            *mark_count = k;
             0
         }
         Listed::Refused(refusal) => {

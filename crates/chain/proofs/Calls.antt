@@ -94,10 +94,10 @@ refuse-script script price table work reads v =
     }
 
 pub read-admitted :
-    (script : List ℕ) {told : Verdict} {p q count : ℕ} → told ≡ verdictOf (readScript script)
-    → told ≡ Verdict.Admitted p q count → (g : Given) × Admitted script g
+    (script : List ℕ) {told : Verdict} {p q count marks : ℕ} → told ≡ verdictOf (readScript script)
+    → told ≡ Verdict.Admitted p q count marks → (g : Given) × Admitted script g
 read-admitted script reads v =
-    let held = holds-admitted script reads v in (givenBy (held .matches), admitted-of (held .read))
+    let held = holds-admitted script reads v in (givenBy (held .matches) (held .points), admitted-of (held .read))
 
 module _ (script : List ℕ) (price : ℕ) (table work : List ℕ) (a : (g : Given) × Admitted script g) where
   pub refuse-work : length work < workNeeded table → Refuses script price table work WorkTooShort
@@ -145,7 +145,7 @@ made script table work = by-reading (readScript script) refl
   where
     by-reading : (x : Reading) → readScript script ≡ x → MadeBy script table work (refiningOf script table work)
     by-reading (refused r) e = rw (refining-refused script table work e) (unread e)
-    by-reading (admitted p q ms) e =
+    by-reading (admitted ls ms ks) e =
         let a = admitted-of e in
         rw (refining-admitted script table work a) (matched a (matches-case (admitted-matches a) table work))
 

@@ -39,6 +39,7 @@ fn refuse(script: &[u8], price: u32, table: &[u32], work: &[u32]) -> Refusal
             p: _,
             q: _,
             count: _,
+            marks: _,
         } => {
             if work.len() < 4 * row_count(table) {
                 return Refusal::WorkTooShort;

@@ -87,6 +87,9 @@ number-some (Refusal.MalformedRecords at) = omega arith
 number-some Refusal.BufferTooShort = omega arith
 number-some Refusal.PriceTooHigh = omega arith
 number-some Refusal.ChainTooShort = omega arith
+number-some (Refusal.TooManyMarks at) = omega arith
+number-some (Refusal.NoSuchSide at) = omega arith
+number-some (Refusal.MarkBeyond at) = omega arith
 
 some-heard : {X : Type 0} (n place : ℕ) (x : X) → 1 ≤ n → heardBy n place x ≡ failure n place
 some-heard zero place x h = absurd (omega arith)
@@ -109,7 +112,7 @@ module _ {X : Type 0} (place : ℕ) (was : X) where
 
 -- the verdict on the script
 abbrev verdictHeard : Verdict → Heard Read
-verdictHeard (Verdict.Admitted p q n) = success (record { p = p; q = q; count = n })
+verdictHeard (Verdict.Admitted p q n k) = success (record { p = p; q = q; count = n; marks = k })
 verdictHeard (Verdict.Refused r) = refusalHeard r
 
 read-heard : (script : List ℕ) (place : ℕ) (was : Read)
@@ -117,7 +120,7 @@ read-heard : (script : List ℕ) (place : ℕ) (was : Read)
 read-heard script place was = go (readScript script)
   where
     go : (a : Reading) → Hears place was (verdictHeard (verdictOf a)) (door (ofReading a) place was)
-    go (admitted p q ms) = success-heard place was _
+    go (admitted ls ms ks) = success-heard place was _
     go (refused r) = refusal-heard place was r
 
 -- the length of the script that is written
@@ -125,25 +128,26 @@ abbrev writtenHeard : Written → Heard ℕ
 writtenHeard (Written.Bytes n) = success n
 writtenHeard (Written.Refused r) = refusalHeard r
 
-write-heard : (p q : ℕ) (records script : List ℕ) (place was : ℕ)
-    → Hears place was (writtenHeard (writingOf p q records script .reply)) (writeDoor p q records script place was)
-write-heard p q records script place was = go (writingOf p q records script .reply)
+write-heard : (p q : ℕ) (records marks script : List ℕ) (place was : ℕ)
+    → Hears place was (writtenHeard (writingOf p q records marks script .reply))
+    (writeDoor p q records marks script place was)
+write-heard p q records marks script place was = go (writingOf p q records marks script .reply)
   where
     go : (a : Written) → Hears place was (writtenHeard a) (door (ofWritten a) place was)
     go (Written.Bytes n) = success-heard place was _
     go (Written.Refused r) = refusal-heard place was r
 
--- the lengths and the count of the records that are read
+-- the lengths and the counts of the records and marks that are read
 abbrev listedHeard : Listed → Heard Read
-listedHeard (Listed.Records p q n) = success (record { p = p; q = q; count = n })
+listedHeard (Listed.Records p q n k) = success (record { p = p; q = q; count = n; marks = k })
 listedHeard (Listed.Refused r) = refusalHeard r
 
-records-heard : (script records : List ℕ) (place : ℕ) (was : Read)
-    → Hears place was (listedHeard (listingOf script records .reply)) (recordsDoor script records place was)
-records-heard script records place was = go (listingOf script records .reply)
+records-heard : (script records marks : List ℕ) (place : ℕ) (was : Read)
+    → Hears place was (listedHeard (listingOf script records marks .reply)) (recordsDoor script records marks place was)
+records-heard script records marks place was = go (listingOf script records marks .reply)
   where
     go : (a : Listed) → Hears place was (listedHeard a) (door (ofListed a) place was)
-    go (Listed.Records p q n) = success-heard place was _
+    go (Listed.Records p q n k) = success-heard place was _
     go (Listed.Refused r) = refusal-heard place was r
 
 -- the match that is found

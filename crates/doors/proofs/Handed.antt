@@ -36,40 +36,43 @@ use Rattle.reporting.specs.declared.Reported.{Reported}
 
 module _ (script : List ℕ) (was-place : ℕ) (was : Read) {told : Verdict}
     (reads : told ≡ verdictOf (readScript script)) where
-  pub read-given : {p q count : ℕ} → told ≡ Verdict.Admitted p q count
-      → _≡_ {A = Reply Read} (record { number = 0; place = was-place; given = record { p = p; q = q; count = count } })
+  pub read-given : {p q count marks : ℕ} → told ≡ Verdict.Admitted p q count marks
+      → _≡_ {A = Reply Read}
+      (record { number = 0; place = was-place; given = record { p = p; q = q; count = count; marks = marks } })
       (readDoor script was-place was)
-  read-given v = let held = holds-admitted script reads v in rw (held .read, held .counted)
+  read-given v =
+      let held = holds-admitted script reads v in rw (held .read, held .counted, held .counted-marks)
 
   pub read-refused : {f : Refusal} {number place : ℕ} → told ≡ Verdict.Refused f → number ≡ numberOf f
       → place ≡ placeOf f
       → _≡_ {A = Reply Read} (record { number = number; place = place; given = was }) (readDoor script was-place was)
   read-refused v n p = rw (reading-refused script reads v, n, p)
 
-module _ (p q : ℕ) (records script : List ℕ) (was-place was : ℕ) {reply : Written}
-    (replies : reply ≡ writingOf p q records script .reply) where
+module _ (p q : ℕ) (records marks script : List ℕ) (was-place was : ℕ) {reply : Written}
+    (replies : reply ≡ writingOf p q records marks script .reply) where
   pub write-given : {length : ℕ} → reply ≡ Written.Bytes length
       → _≡_ {A = Reply ℕ} (record { number = 0; place = was-place; given = length })
-      (writeDoor p q records script was-place was)
+      (writeDoor p q records marks script was-place was)
   write-given e = rw (sym replies ∙ e)
 
   pub write-refused : {f : Refusal} {number place : ℕ} → reply ≡ Written.Refused f → number ≡ numberOf f
       → place ≡ placeOf f
       → _≡_ {A = Reply ℕ} (record { number = number; place = place; given = was })
-      (writeDoor p q records script was-place was)
+      (writeDoor p q records marks script was-place was)
   write-refused e n at = rw (sym replies ∙ e, n, at)
 
-module _ (script records : List ℕ) (was-place : ℕ) (was : Read) {reply : Listed}
-    (replies : reply ≡ listingOf script records .reply) where
-  pub records-given : {p q count : ℕ} → reply ≡ Listed.Records p q count
-      → _≡_ {A = Reply Read} (record { number = 0; place = was-place; given = record { p = p; q = q; count = count } })
-      (recordsDoor script records was-place was)
+module _ (script records points : List ℕ) (was-place : ℕ) (was : Read) {reply : Listed}
+    (replies : reply ≡ listingOf script records points .reply) where
+  pub records-given : {p q count marks : ℕ} → reply ≡ Listed.Records p q count marks
+      → _≡_ {A = Reply Read}
+      (record { number = 0; place = was-place; given = record { p = p; q = q; count = count; marks = marks } })
+      (recordsDoor script records points was-place was)
   records-given e = rw (sym replies ∙ e)
 
   pub records-refused : {f : Refusal} {number place : ℕ} → reply ≡ Listed.Refused f → number ≡ numberOf f
       → place ≡ placeOf f
       → _≡_ {A = Reply Read} (record { number = number; place = place; given = was })
-      (recordsDoor script records was-place was)
+      (recordsDoor script records points was-place was)
   records-refused e n at = rw (sym replies ∙ e, n, at)
 
 module _ (script : List ℕ) (index was-place : ℕ) (was : OneMatch) {finding : Finding}

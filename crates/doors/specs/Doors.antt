@@ -13,7 +13,7 @@ use mathlib.Core.List.{List}
 use lib.ListN.{length}
 use Rattle.script.specs.Commands.{bitOf}
 use Rattle.script.specs.Refusals.{numberOf, placeOf}
-use Rattle.script.specs.Reading.{Reading, admitted, refused, readScript}
+use Rattle.script.specs.Reading.{Reading, admitted, refused, readScript, letters}
 use Rattle.script.specs.Finding.{findingOf}
 use Rattle.script.specs.declared.refusal.Refusal.{Refusal}
 use Rattle.script.specs.declared.refusal.Refusal.the-variants.{BufferTooShort}
@@ -58,15 +58,17 @@ door (refuses r) place was = record { number = numberOf r; place = placeOf r; gi
 
 -- ---- reading
 
--- behind p, q and count
+-- behind p, q, count and mark_count
 pub record Read : Type 0 where
   pub p : ℕ
   pub q : ℕ
   pub count : ℕ
+  pub marks : ℕ
 
--- of an admitted script its lengths and its count of matches
+-- of an admitted script its lengths and its counts of matches and marks
 abbrev pub ofReading : Reading → Said Read
-ofReading (admitted p q ms) = gives (record { p = p; q = q; count = length ms })
+ofReading (admitted ls ms ks) =
+    gives (record { p = letters ls 0; q = letters ls 1; count = length ms; marks = length ks })
 ofReading (refused r) = refuses r
 
 -- notchergrey_read
@@ -81,17 +83,17 @@ ofWritten (Written.Bytes n) = gives n
 ofWritten (Written.Refused r) = refuses r
 
 -- notchergrey_write; what the lent bytes are after it is the library's `writingOf`
-abbrev pub writeDoor : ℕ → ℕ → List ℕ → List ℕ → ℕ → ℕ → Reply ℕ
-writeDoor p q records script place was = door (ofWritten (writingOf p q records script .reply)) place was
+abbrev pub writeDoor : ℕ → ℕ → List ℕ → List ℕ → List ℕ → ℕ → ℕ → Reply ℕ
+writeDoor p q records marks script place was = door (ofWritten (writingOf p q records marks script .reply)) place was
 
--- SCOPE, "Listed": the lengths and the count of records
+-- SCOPE, "Listed": the lengths and the counts of records and marks
 abbrev pub ofListed : Listed → Said Read
-ofListed (Listed.Records p q count) = gives (record { p = p; q = q; count = count })
+ofListed (Listed.Records p q count marks) = gives (record { p = p; q = q; count = count; marks = marks })
 ofListed (Listed.Refused r) = refuses r
 
 -- notchergrey_read_records; what the lent numbers are after it is the library's `listingOf`
-abbrev pub recordsDoor : List ℕ → List ℕ → ℕ → Read → Reply Read
-recordsDoor script records place was = door (ofListed (listingOf script records .reply)) place was
+abbrev pub recordsDoor : List ℕ → List ℕ → List ℕ → ℕ → Read → Reply Read
+recordsDoor script records marks place was = door (ofListed (listingOf script records marks .reply)) place was
 
 -- ---- one match
 

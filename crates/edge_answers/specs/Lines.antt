@@ -41,7 +41,7 @@ abbrev pub admitted : List ℕ
 admitted = 32 ∷ 97 ∷ 100 ∷ 109 ∷ 105 ∷ 116 ∷ 116 ∷ 101 ∷ 100 ∷ 10 ∷ []
 
 abbrev pub readText : Verdict → List ℕ
-readText (Verdict.Admitted p q count) = admitted
+readText (Verdict.Admitted p q count marks) = admitted
 readText (Verdict.Refused r) = refusedText r
 
 -- " rows "

@@ -49,6 +49,7 @@ pub fn put_read(text: &mut [u8], at: usize, heading: &[u8], script: &[u8]) -> us
             p: _,
             q: _,
             count: _,
+            marks: _,
         } => put_bytes(text, next, b" admitted\n"),
         Verdict::Refused(refusal) => put_refusal(text, next, refusal),
     }

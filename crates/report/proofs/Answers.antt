@@ -8,8 +8,6 @@
 use Prim.Native.Nat.{ℕ, _≤_}
 use mathlib.Core.Path.{_≡_, refl, sym, ap, ap₂, subst, _∙_}
 use mathlib.Core.List.{List}
-use Rattle.script.specs.Reading.{readScript, verdictOf}
-use Rattle.script.specs.declared.Verdict.{Verdict}
 use Rattle.script.proofs.Admitted.{holds-admitted}
 use Rattle.refining.specs.Refining.{Refining, refiningOf}
 use Rattle.refining.specs.declared.answers.Refined.{Refined}
@@ -17,18 +15,18 @@ use Rattle.refine.specs.Calls.{ScriptRefined}
 use Rattle.refine.proofs.Calls.{refining-met}
 use Rattle.brief_report.proofs.Trying.{rows-room}
 use Rattle.reporting.specs.Reporting.{lentRows, lentTable, lentWork, reportOf, reportOfReply, reportOfRefining}
-use Rattle.reporting.specs.Reporting.{Reporting, reportingOfText, reportingOf, Briefly}
+use Rattle.reporting.specs.Reporting.{Reporting, reportingOfText, reportingOf, ReadAs, Briefly}
 use Rattle.reporting.specs.LineTwo.{LineTwoPrinted}
 use Rattle.reporting.specs.declared.Reported.{Reported}
 use Rattle.reporting.proofs.Own.{line-two-printed}
 use Rattle.reporting.specs.declared.Brief.{Brief}
 
 report-admits :
-    (script : List ℕ) {p q count : ℕ} → verdictOf (readScript script) ≡ Verdict.Admitted p q count
+    (script : List ℕ) {p q count : ℕ} → ReadAs script p q count
     → reportOf script ≡ reportOfRefining p q count (refiningOf script lentTable lentWork)
 unfolding reportOf refiningOf
 report-admits script v =
-    let held = holds-admitted script refl v in
+    let held = holds-admitted script refl (v .told) in
     rw (held .read, held .counted)
 
 pub lent-room :
@@ -39,7 +37,7 @@ lent-room script table work refined t e = rows-room lentRows t (refining-met ref
 pub report-refined :
     (script text : List ℕ) (p q count : ℕ) {table work table′ work′ : List ℕ} {reply told : Refined}
     {answer : Reporting}
-    → verdictOf (readScript script) ≡ Verdict.Admitted p q count
+    → ReadAs script p q count
     → table ≡ lentTable
     → work ≡ lentWork
     → ScriptRefined script table work reply table′ work′
@@ -71,7 +69,7 @@ brief-reported script text text′ e tried = reported script text (subst (Briefl
 pub brief-admits :
     (script text text′ : List ℕ) {answer : Brief} {p q count : ℕ} → answer ≡ Brief.Larger p q count
     → Briefly script text text′ answer
-    → verdictOf (readScript script) ≡ Verdict.Admitted p q count
+    → ReadAs script p q count
 brief-admits script text text′ e tried = subst (Briefly script text text′) e tried .0
 
 pub large-reported :

@@ -8,10 +8,8 @@ use reporting::Brief;
 use reporting::Reported;
 use rows::ROW_WIDTH;
 ghost use mathlib.Core.Path.{_≡_};
-ghost use Rattle.script.specs.Reading.{readScript, verdictOf};
-ghost use Rattle.script.specs.declared.Verdict.the-variants.{Admitted};
 ghost use Rattle.reporting.specs.LineTwo.{LineTwoPrinted};
-ghost use Rattle.reporting.specs.Reporting.{lentTable, lentWork, reportingOf};
+ghost use Rattle.reporting.specs.Reporting.{lentTable, lentWork, reportingOf, ReadAs};
 
 // The rows of the table that the program lends.
 pub const ROWS: usize = 3000;
@@ -32,7 +30,7 @@ fn lent_work() -> [u32; 4 * ROWS]
 
 // An admitted script: its table, or the refusal of refining.
 fn report_admitted(script: &[u8], p: u32, q: u32, count: usize, text: &mut [u8]) -> Reported
-    requires { ⌜ verdictOf (readScript (now script)) ≡ Admitted p q count ⌝ }
+    requires { ⌜ ReadAs (now script) p q count ⌝ }
     ensures { λ r. ⌜
         reportingOf (now (script .entry)) (now (text .entry)) ≡ record { reply = r; text = now (text .exit) } ⌝ }
 {

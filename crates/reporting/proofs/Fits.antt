@@ -13,7 +13,7 @@ use native.Mathlib.Omega.{arith}
 use native.Mathlib.Decide.{decLe}
 use lib.ListN.{length, drop, length-map, length-replicate}
 use borrow.Author.Tests.{lt-ltb, le-ltb}
-use Rattle.script.specs.Reading.{Reading, admitted, refused, readScript}
+use Rattle.script.specs.Reading.{Reading, admitted, refused, readScript, letters}
 use Rattle.script.specs.declared.refusal.Refusal.the-variants.{TooManyPieces}
 use Rattle.rows.specs.Rows.{rowWidth}
 use Rattle.refining.specs.Rows.{rowOfPiece}
@@ -42,8 +42,8 @@ report-fits s = go (readScript s)
   where
     go : (r : Reading) → length (reportOfReading r) ≤ longestText
     go (refused r) = omega (arith, refusal-text-short r)
-    go (admitted p q ms) =
-        matches-fit p q (length ms) (givenBy ms) lentTable lentWork
+    go (admitted ls ms ks) =
+        matches-fit (letters ls 0) (letters ls 1) (length ms) (givenBy ms ks) lentTable lentWork
         (length-replicate {A = ℕ} (rowWidth * lentRows) 0) (length-replicate {A = ℕ} (4 * lentRows) 0)
 
 -- a text that fills the buffer to its last byte has room

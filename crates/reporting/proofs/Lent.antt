@@ -6,12 +6,13 @@
 -- Assumes nothing.
 use Prim.Native.Nat.{ℕ, _*_, _≤_}
 use mathlib.Core.Path.{_≡_, sym, ap, _∙_}
-use mathlib.Core.List.{List}
+use mathlib.Core.List.{List, [], _∷_}
 use native.Mathlib.Omega.{arith}
 use native.Mathlib.Decide.{decLe}
 use lib.ListN.{length, take, length-replicate}
 use Rattle.script.specs.Reading.{admitted, readScript}
 use Rattle.script.specs.declared.command.Match.{Match as ScriptMatch}
+use Rattle.script.specs.declared.command.Mark.{Mark}
 use Rattle.rows.specs.Rows.{rowWidth, rowsOf}
 use Rattle.refining.specs.Refining.{Given, givenBy, leastOf, capacityOf, workNeeded, refiningOfMatches}
 use Rattle.refining.specs.Refining.{refiningOf}
@@ -38,24 +39,26 @@ report-lent p q count g table table′ work work′ same enough enough′ =
           ∙ sym (report-crowded p q count g table′ work′ enough′ (omega arith))
     ]
 
-pub report-of-lent : (s table work : List ℕ) {p q : ℕ} {ms : List ScriptMatch} → readScript s ≡ admitted p q ms
+pub report-of-lent : (s table work : List ℕ) {p q : ℕ} {ms : List ScriptMatch} {ks : List Mark}
+    → readScript s ≡ admitted (p ∷ q ∷ []) ms ks
     → capacityOf table ≡ lentRows → 4 * lentRows ≤ length work
     → reportOfRefining p q (length ms) (refiningOf s table work) ≡ reportOf s
 unfolding reportOf refiningOf
-report-of-lent s table work {p} {q} {ms} read rows numbers =
+report-of-lent s table work {p} {q} {ms} {ks} read rows numbers =
     rw read
-    (report-lent p q (length ms) (givenBy ms) table lentTable work lentWork (omega (arith, lent-rows .0))
+    (report-lent p q (length ms) (givenBy ms ks) table lentTable work lentWork (omega (arith, lent-rows .0))
     (omega arith) (omega (arith, lent-rows)))
 
 pub report-of-rows :
-    (s table work : List ℕ) {p q n : ℕ} {ms : List ScriptMatch} → readScript s ≡ admitted p q ms
+    (s table work : List ℕ) {p q n : ℕ} {ms : List ScriptMatch} {ks : List Mark}
+    → readScript s ≡ admitted (p ∷ q ∷ []) ms ks
     → refiningOf s table work .reply ≡ Rows n → n ≤ lentRows
     → tableText p q (length ms) (rowsOf (take (rowWidth * n) (refiningOf s table work .table))) ≡ reportOf s
 unfolding reportOf
-report-of-rows s table work {p} {q} {n} {ms} read replied few =
-    let least : LeastRows (givenBy ms) n (refiningOf s table work .table) =
+report-of-rows s table work {p} {q} {n} {ms} {ks} read replied few =
+    let least : LeastRows (givenBy ms ks) n (refiningOf s table work .table) =
     least-rows s table work (admitted-of read) replied in
     let lent =
-    report-rows p q (length ms) (givenBy ms) lentTable lentWork (omega (arith, lent-rows))
+    report-rows p q (length ms) (givenBy ms ks) lentTable lentWork (omega (arith, lent-rows))
     (omega (arith, least .count, lent-rows .0)) in
     rw read (ap (tableText p q (length ms)) (least .rows) ∙ sym lent)

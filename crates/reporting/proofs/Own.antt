@@ -22,6 +22,7 @@ use Rattle.script.specs.Reading.{admitted, readScript}
 use Rattle.script.specs.Answers.{value, contents}
 use Rattle.script.specs.Outcomes.{Outcome}
 use Rattle.script.specs.declared.command.Match.{Match as ScriptMatch}
+use Rattle.script.specs.declared.command.Mark.{Mark}
 use Rattle.script.proofs.Outcome.{reach-range, reach-within, read-outcome}
 use Rattle.refinement.specs.declared.Side.{Side}
 use Rattle.refinement.specs.declared.Side.the-variants.{A, B}
@@ -70,11 +71,11 @@ numbered-short n ms h i =
     omega (arith, ap (λ (z : Match). z .length) (o .3), h (o .0) (o .2))
 
 -- what the reader grants: no match is longer than p can be
-short : (script : List ℕ) {p q : ℕ} {ms : List ScriptMatch} → readScript script ≡ admitted p q ms → (m : ScriptMatch)
-    → m ∈ ms → m .length ≤ longest
-short script {p} {q} {ms} e = go (read-outcome e)
+short : (script : List ℕ) {p q : ℕ} {ms : List ScriptMatch} {ks : List Mark}
+    → readScript script ≡ admitted (p ∷ q ∷ []) ms ks → (m : ScriptMatch) → m ∈ ms → m .length ≤ longest
+short script {p} {q} {ms} {ks} e = go (read-outcome e)
   where
-    go : Outcome script (value (contents p q ms)) → (m : ScriptMatch) → m ∈ ms → m .length ≤ longest
+    go : Outcome script (value (contents (p ∷ q ∷ []) ms ks)) → (m : ScriptMatch) → m ∈ ms → m .length ≤ longest
     go (Outcome.is-admitted r _ _) m i = omega (arith, reach-within r i .in-a, reach-range r .0 .few)
 
 -- ---- the rows
@@ -84,16 +85,17 @@ unfolding total
 count-all p [] h = refl
 count-all p (r ∷ rs) h = rw (h r (here refl)) (omega (arith, count-all p rs (λ r′ i. h r′ (there i))))
 
-module _ (script : List ℕ) {p q : ℕ} {ms : List ScriptMatch} (read : readScript script ≡ admitted p q ms) where
+module _ (script : List ℕ) {p q : ℕ} {ms : List ScriptMatch} {ks : List Mark}
+    (read : readScript script ≡ admitted (p ∷ q ∷ []) ms ks) where
   admitted-ones : Matches (numbered 1 ms)
   admitted-ones = admitted-matches (admitted-of read)
 
-  resolved : ResolvedRefinement (numbered 1 ms) (givenBy ms .marks) (leastOf (givenBy ms))
-  resolved = table-resolved (numbered 1 ms) (givenBy ms .marks) admitted-ones
+  resolved : ResolvedRefinement (numbered 1 ms) (givenBy ms ks .marks) (leastOf (givenBy ms ks))
+  resolved = table-resolved (numbered 1 ms) (givenBy ms ks .marks) admitted-ones
 
-  covered-of : (s : Side) (h : ℕ) → Covered s (map rowOfPiece (leastOf (givenBy ms))) h → Matched s ms h
+  covered-of : (s : Side) (h : ℕ) → Covered s (map rowOfPiece (leastOf (givenBy ms ks))) h → Matched s ms h
   covered-of s h c =
-      let f = Memᴰ·of-map rowOfPiece (leastOf (givenBy ms)) (c .among) in
+      let f = Memᴰ·of-map rowOfPiece (leastOf (givenBy ms ks)) (c .among) in
       let inside : InStretch s (rowOfPiece (f .0)) h = rw (f .2) (c .inside) in
       let held : Holds (f .0) s h = record { from-left = inside .from-left; before-right = inside .before-right } in
       let o = letter-of-row admitted-ones (resolved .refines) s h (f .1) held in
@@ -106,7 +108,7 @@ module _ (script : List ℕ) {p q : ℕ} {ms : List ScriptMatch} (read : readScr
         before-right = owned .before-right;
       }
 
-  covered-by : (s : Side) (h : ℕ) → Matched s ms h → Covered s (map rowOfPiece (leastOf (givenBy ms))) h
+  covered-by : (s : Side) (h : ℕ) → Matched s ms h → Covered s (map rowOfPiece (leastOf (givenBy ms ks))) h
   covered-by s h m =
       let x = of-numbered 1 (m .listed) in
       let owned : Holds (withNumber (x .0) (m .which)) s h =
@@ -118,16 +120,16 @@ module _ (script : List ℕ) {p q : ℕ} {ms : List ScriptMatch} (read : readScr
         inside = record { from-left = o .2 .from-left; before-right = o .2 .before-right };
       }
 
-  pub covered-matched : (s : Side) (h : ℕ) → Covered s (map rowOfPiece (leastOf (givenBy ms))) h ↔ Matched s ms h
+  pub covered-matched : (s : Side) (h : ℕ) → Covered s (map rowOfPiece (leastOf (givenBy ms ks))) h ↔ Matched s ms h
   covered-matched s h = (covered-of s h, covered-by s h)
 
-  matched-counted : (s : Side) → CountedOnce (Matched s ms) (coverOf s (map rowOfPiece (leastOf (givenBy ms))))
-  matched-counted s = counted-alike (covered-matched s) (cover-counted s (map rowOfPiece (leastOf (givenBy ms))))
+  matched-counted : (s : Side) → CountedOnce (Matched s ms) (coverOf s (map rowOfPiece (leastOf (givenBy ms ks))))
+  matched-counted s = counted-alike (covered-matched s) (cover-counted s (map rowOfPiece (leastOf (givenBy ms ks))))
 
   -- a row has a letter, and no more than its match
-  classed : (r : Row) → r ∈ map rowOfPiece (leastOf (givenBy ms)) → between 1 (2 ^ classCount) r ≡ true
+  classed : (r : Row) → r ∈ map rowOfPiece (leastOf (givenBy ms ks)) → between 1 (2 ^ classCount) r ≡ true
   classed r i =
-      let f = Memᴰ·of-map rowOfPiece (leastOf (givenBy ms)) i in
+      let f = Memᴰ·of-map rowOfPiece (leastOf (givenBy ms ks)) i in
       let o = resolved .refines .pieces (f .0) (f .1) in
       let piece = o .2 in
       let few = numbered-short 1 ms (short script read) (o .1) in
@@ -140,7 +142,7 @@ module _ (script : List ℕ) {p q : ℕ} {ms : List ScriptMatch} (read : readScr
   -- ---- the summary
 
   module _ (table work : List ℕ) {n : ℕ} (success : refiningOf script table work .reply ≡ Rows n) where
-    made : LeastRows (givenBy ms) n (refiningOf script table work .table)
+    made : LeastRows (givenBy ms ks) n (refiningOf script table work .table)
     made = least-rows script table work (admitted-of read) success
 
     pub covers-kept : (s : Side)
@@ -148,21 +150,21 @@ module _ (script : List ℕ) {p q : ℕ} {ms : List ScriptMatch} (read : readScr
     covers-kept s = rw (made .rows) (matched-counted s)
 
     pub pieces-counted : summaryOf (take (rowWidth * n) (refiningOf script table work .table)) .pieces ≡ n
-    pieces-counted = rw (made .rows) (length-map (leastOf (givenBy ms)) rowOfPiece ∙ sym (made .count))
+    pieces-counted = rw (made .rows) (length-map (leastOf (givenBy ms ks)) rowOfPiece ∙ sym (made .count))
 
     pub classes-full : sumOf (summaryOf (take (rowWidth * n) (refiningOf script table work .table)) .classes) ≡ n
     classes-full =
-        let rows = map rowOfPiece (leastOf (givenBy ms)) in
+        let rows = map rowOfPiece (leastOf (givenBy ms ks)) in
         classes-sum (take (rowWidth * n) (refiningOf script table work .table))
         ∙ rw (made .rows) (count-all (between 1 (2 ^ classCount)) rows classed)
         ∙ pieces-counted
 
   -- ---- the text
 
-  pub line-two : length (leastOf (givenBy ms)) ≤ lentRows → LineTwo p q ms (reportOf script)
+  pub line-two : length (leastOf (givenBy ms ks)) ≤ lentRows → LineTwo p q ms ks (reportOf script)
   unfolding reportOf
   line-two room =
-      let rows = map rowOfPiece (leastOf (givenBy ms)) in
+      let rows = map rowOfPiece (leastOf (givenBy ms ks)) in
       let s = summaryOfRows rows in
       record {
         all = s .pieces;
@@ -172,7 +174,7 @@ module _ (script : List ℕ) {p q : ℕ} {ms : List ScriptMatch} (read : readScr
         below = rowLines rows ++ classLines 0 (s .classes);
         line-two =
             rw read
-            (report-rows p q (length ms) (givenBy ms) lentTable lentWork (omega (arith, lent-rows))
+            (report-rows p q (length ms) (givenBy ms ks) lentTable lentWork (omega (arith, lent-rows))
             (omega (arith, lent-rows .0))
             ∙ append-assoc (lengthsLine p q ++ summaryLine (length ms) s) (rowLines rows) (classLines 0 (s .classes)));
         counted-different = distinct-counted rows;

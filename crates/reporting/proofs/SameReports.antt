@@ -15,13 +15,15 @@ use native.Mathlib.Omega.{arith}
 use lib.ListN.{length, take}
 use Rattle.script.specs.Commands.{bitOf}
 use Rattle.script.specs.Refusals.{numberOf, placeOf}
-use Rattle.script.specs.Reading.{Reading, admitted, refused, readScript}
+use Rattle.script.specs.Reading.{Reading, admitted, refused, readScript, letters}
 use Rattle.script.specs.Answers.{value, refusal, contents}
 use Rattle.script.specs.Outcomes.{Within, Short, Outcome}
 use Rattle.script.specs.declared.refusal.Refusal.{Refusal}
 use Rattle.script.specs.declared.refusal.Refusal.the-variants.{WorkTooShort, TooManyPieces}
 use Rattle.script.specs.declared.command.Match.{Match as ScriptMatch}
+use Rattle.script.specs.declared.command.Mark.{Mark}
 use Rattle.script.proofs.Outcome.{reach-place, reach-range, reach-within, read-outcome}
+use Rattle.script.proofs.Admitted.{admitted-ended}
 use Rattle.refinement.specs.declared.Side.the-variants.{A, B}
 use Rattle.refinement.specs.Order.{_∈_}
 use Rattle.refinement.specs.Match.{Match}
@@ -54,7 +56,8 @@ pub data Says (script : List ℕ) : Said → Type 0 where
   refuses : {r : Refusal} → refined script .reply ≡ Refused r → Says script (Said.refusal (numberOf r) (placeOf r))
   -- p and q, the count of matches, and the rows
   lists :
-      {p q n : ℕ} {ms : List ScriptMatch} → readScript script ≡ admitted p q ms → refined script .reply ≡ Rows n
+      {p q n : ℕ} {ms : List ScriptMatch} {ks : List Mark} → readScript script ≡ admitted (p ∷ q ∷ []) ms ks
+      → refined script .reply ≡ Rows n
       → Says script (Said.table p q (length ms) (rowsIn (refined script) n))
 
 -- ---- the numbers of refusals
@@ -62,12 +65,13 @@ pub data Says (script : List ℕ) : Said → Type 0 where
 short-place : {s : List ℕ} {at : ℕ} → Short s at → at < 2 ^ 64
 short-place (Short.lengths _ _) = omega arith
 short-place (Short.pairing r _ _ _) = omega (arith, reach-place r)
+short-place (Short.marking r _ _ _) = omega (arith, reach-place r)
 short-place (Short.ran-out r _) = omega (arith, reach-place r)
 
 outcome-sayable : {s : List ℕ} {number place : ℕ} → Outcome s (refusal number place)
     → Sayable (Said.refusal number place)
 outcome-sayable (Outcome.headless _) = omega arith
-outcome-sayable (Outcome.unknown-command r _ _ _ _ _) = omega (arith, reach-place r)
+outcome-sayable (Outcome.unknown-command r _ _ _ _ _ _) = omega (arith, reach-place r)
 outcome-sayable (Outcome.cut-short h) = omega (arith, short-place h)
 outcome-sayable (Outcome.second-lengths r _) = omega (arith, reach-place r)
 outcome-sayable (Outcome.length-out-of-range _ _) = omega arith
@@ -76,6 +80,9 @@ outcome-sayable (Outcome.empty-match r _ _ _) = omega (arith, reach-place r)
 outcome-sayable (Outcome.beyond-a r _ _ _ _) = omega (arith, reach-place r)
 outcome-sayable (Outcome.beyond-b r _ _ _ _ _) = omega (arith, reach-place r)
 outcome-sayable (Outcome.tail r _ _) = omega (arith, reach-place r)
+outcome-sayable (Outcome.too-many-marks r _ _) = omega (arith, reach-place r)
+outcome-sayable (Outcome.no-such-side r _ _ _) = omega (arith, reach-place r)
+outcome-sayable (Outcome.mark-beyond r _ _ _) = omega (arith, reach-place r)
 
 refusal-sayable : (script table work : List ℕ) {r : Refusal} → refiningOf script table work .reply ≡ Refused r
     → Sayable (Said.refusal (numberOf r) (placeOf r))
@@ -117,20 +124,21 @@ piece-printable {r = r} piece number on-a on-b = record {
 }
 
 table-sayable :
-    (script table work : List ℕ) {p q n : ℕ} {ms : List ScriptMatch} → readScript script ≡ admitted p q ms
+    (script table work : List ℕ) {p q n : ℕ} {ms : List ScriptMatch} {ks : List Mark}
+    → readScript script ≡ admitted (p ∷ q ∷ []) ms ks
     → refiningOf script table work .reply ≡ Rows n
     → Sayable (Said.table p q (length ms) (rowsIn (refiningOf script table work) n))
-table-sayable script table work {p} {q} {n} {ms} read e = go (read-outcome read)
+table-sayable script table work {p} {q} {n} {ms} {ks} read e = go (read-outcome read)
   where
-    go : Outcome script (value (contents p q ms))
+    go : Outcome script (value (contents (p ∷ q ∷ []) ms ks))
         → Sayable (Said.table p q (length ms) (rowsIn (refiningOf script table work) n))
     go (Outcome.is-admitted r _ _) = (
       omega (arith, reach-range r .0 .few),
       omega (arith, reach-range r .1 .few),
       omega (arith, reach-place r),
       rw (least-rows script table work (admitted-of read) e .rows) (λ x i.
-          let resolved = table-resolved (numbered 1 ms) (givenBy ms .marks) (admitted-matches (admitted-of read)) in
-          let f = Memᴰ·of-map rowOfPiece (leastOf (givenBy ms)) i in
+          let resolved = table-resolved (numbered 1 ms) (givenBy ms ks .marks) (admitted-matches (admitted-of read)) in
+          let f = Memᴰ·of-map rowOfPiece (leastOf (givenBy ms ks)) i in
           let o = resolved .refines .pieces (f .0) (f .1) in
           let m = numbered-fits 1 ms (λ y k. reach-within r k) (o .1) in
           subst Printable (f .2)
@@ -153,7 +161,8 @@ says-something script = go (readScript script) refl (refined script .reply) refl
     go : (x : Reading) → readScript script ≡ x → (y : Refined) → refined script .reply ≡ y
         → (a : Said) × Says script a
     go x read (Refined.Refused r) e = (Said.refusal (numberOf r) (placeOf r), refuses e)
-    go (admitted p q ms) read (Refined.Rows n) e = (_, lists read e)
+    go (admitted ls ms ks) read (Refined.Rows n) e =
+        (_, lists (read ∙ ap (λ l. admitted l ms ks) (admitted-ended read .lengths)) e)
     go (refused r) read (Refined.Rows n) e = absurd (refused-no-rows script lentTable lentWork read e)
 
 pub says-printed : {script : List ℕ} {a : Said} → Says script a → reportOf script ≡ textOf a
@@ -162,11 +171,12 @@ says-printed {script} (refuses {r} e) = go (readScript script) e
   where
     go : (x : Reading) → refiningOfReading x lentTable lentWork .reply ≡ Refused r → reportOfReading x ≡ refusalText r
     go (refused r′) e = let same : r′ ≡ r = cc in ap refusalText same
-    go (admitted p q ms) e =
-        ap (reportOfReply p q (length ms) (refiningOfMatches (givenBy ms) lentTable lentWork .table)) e
-says-printed (lists {p} {q} {ms = ms} read e) =
+    go (admitted ls ms ks) e =
+        let x = refiningOfMatches (givenBy ms ks) lentTable lentWork in
+        ap (reportOfReply (letters ls 0) (letters ls 1) (length ms) (x .table)) e
+says-printed (lists {p} {q} {ms = ms} {ks = ks} read e) =
     rw read
-    (ap (reportOfReply p q (length ms) (refiningOfMatches (givenBy ms) lentTable lentWork .table)) (rw read at e))
+    (ap (reportOfReply p q (length ms) (refiningOfMatches (givenBy ms ks) lentTable lentWork .table)) (rw read at e))
 
 says-sayable : {script : List ℕ} {a : Said} → Says script a → Sayable a
 says-sayable {script} (refuses e) = refusal-sayable script lentTable lentWork e

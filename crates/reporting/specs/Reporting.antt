@@ -4,6 +4,7 @@
 --     reportOf script          what the program prints for an input
 --     Reporting                the reply of the call, and what the text buffer holds after it
 --     reportingOf script text  both, by what the script and the text buffer hold before it
+--     ReadAs                   the script is admitted, with these lengths and so many matches
 --     Briefly                  what a try with a small table does, by its answer
 --     longestText              so many bytes are room for every report; that they are is a law
 -- 01, "One run, complete". Assumes nothing.
@@ -14,7 +15,7 @@ use mathlib.Core.List.{List, _++_}
 use lib.ListN.{length, take, drop, replicate}
 use lib.Dec.{ltb}
 use Rattle.script.specs.Limits.{longestScript}
-use Rattle.script.specs.Reading.{Reading, admitted, refused, readScript, verdictOf}
+use Rattle.script.specs.Reading.{Reading, admitted, refused, readScript, letters, verdictOf}
 use Rattle.script.specs.declared.Verdict.{Verdict}
 use Rattle.rows.specs.Rows.{rowWidth, rowsOf}
 use Rattle.refining.specs.Refining.{givenBy, Refining, refiningOfMatches}
@@ -48,8 +49,8 @@ reportOfRefining p q count x = reportOfReply p q count (x .table) (x .reply)
 
 abbrev pub reportOfReading : Reading → List ℕ
 reportOfReading (refused r) = refusalText r
-reportOfReading (admitted p q ms) =
-    reportOfRefining p q (length ms) (refiningOfMatches (givenBy ms) lentTable lentWork)
+reportOfReading (admitted ls ms ks) =
+    reportOfRefining (letters ls 0) (letters ls 1) (length ms) (refiningOfMatches (givenBy ms ks) lentTable lentWork)
 
 -- SCOPE, "Text" and "Refusal line": for any string of bytes the one or the other
 unfoldable pub reportOf : List ℕ → List ℕ
@@ -70,11 +71,15 @@ reportingOfText printed text =
 abbrev pub reportingOf : List ℕ → List ℕ → Reporting
 reportingOf script text = reportingOfText (reportOf script) text
 
+-- of the marks the text says nothing
+pub record ReadAs (script : List ℕ) (p q count : ℕ) : Type 0 where
+  pub marks : ℕ
+  pub told : verdictOf (readScript script) ≡ Verdict.Admitted p q count marks
+
 -- an answer is that of the call; without one the script is admitted, and the buffer as it was
 abbrev pub Briefly : List ℕ → List ℕ → List ℕ → Brief → Type 0
 Briefly script text text′ (Brief.Answered reply) = reportingOf script text ≡ record { reply = reply; text = text′ }
-Briefly script text text′ (Brief.Larger p q count) =
-    (verdictOf (readScript script) ≡ Verdict.Admitted p q count) × (text′ ≡ text)
+Briefly script text text′ (Brief.Larger p q count) = ReadAs script p q count × (text′ ≡ text)
 
 -- 3,000 rows of at most 86 bytes, thirty classes and the first two lines take less
 abbrev pub longestText : ℕ

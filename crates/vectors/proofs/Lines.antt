@@ -8,6 +8,7 @@ use Rattle.script.specs.Reading.{readFrom, readScript}
 use Rattle.refinement.specs.Order.{insertBy, sortBy}
 use Rattle.refinement.specs.Least as Least
 use Rattle.records.specs.Records.{recordsOf}
+use Rattle.records.specs.Records as Records
 use Rattle.records.specs.Bytes.{bytesOf}
 use Rattle.records.specs.Writing.{judgedFrom}
 use Rattle.rows.specs.Rows.{firstRows, rowsOf, numbersOf}
@@ -33,6 +34,6 @@ unfolding readFrom readScript insertBy sortBy flatMap Dec·and decLe decLt ℕ-d
     Least.ends Least.spanning Least.images Least.spannedMarks Least.addNew Least.grow Least.spanCount
     Least.leastCuts Least.cutsWithin Least.pieceOf Least.piecesBetween Least.piecesOf Least.tableFrom
     Least.leastTable total classesFrom lettersFrom placesWithin rowLines classLines reportOf
-    carryingOf leading recordsOf bytesOf judgedFrom lettersIn skippedIn scoreOf directFrom followersOf chainsFrom
-    chainsOf betters bestOf backboneOf pointsOf chainingOfMatches chainingOf
+    carryingOf leading recordsOf Records.pointsOf bytesOf judgedFrom lettersIn skippedIn scoreOf directFrom
+    followersOf chainsFrom chainsOf betters bestOf backboneOf pointsOf chainingOfMatches chainingOf
 lines-hold = refl

@@ -1,10 +1,12 @@
 -- The kinds of lines: a call, what the definitions say of it, and what must come of it.
 --     Outcome           all that is there after a call
 --     Line              what the definitions say, beside what must come
---     refines, reads, refuses, finds, findsNone, carriesA, carriesB     calls on a script, through the doors
+--     refines, reads, readsMarked, refuses, finds, findsNone, carriesA, carriesB     calls on a script, through the
+--                       doors; a script that is `read` has no marks
 --     chains, chainsNone     calls for the backbone, through the door
---     writes, writesNone, lists, listsNone     calls on lists, through the doors
---     marks, sums       calls on a table, through the doors
+--     writes, writesNone, lists, listsNone     calls on lists without marks, through the doors
+--     writesMarked, writesMarkedNone, listsMarked, listsMarkedNone     the same with marks
+--     stands, sums      calls on a table, through the doors
 --     covers            the letters covered, in a table that refining made
 --     prints, hands     what the program prints; and the same in a lent buffer, through the door
 -- Every lent number, and every number behind a pointer, is 99 before the call, so that a number that is kept shows.
@@ -34,8 +36,8 @@ pub data Outcome : Type 0 where
   found : Reply OneMatch → Outcome
   carried : Reply ℕ → Outcome
   written : Reply ℕ → (script : List ℕ) → Outcome
-  listed : Reply Read → (records : List ℕ) → Outcome
-  marked : RowsReply → Outcome
+  listed : Reply Read → (records marks : List ℕ) → Outcome
+  standing : RowsReply → Outcome
   summed : SummaryReply → Outcome
   covered : List ℕ → Outcome
   printed : (text : List ℕ) → Outcome
@@ -104,14 +106,18 @@ abbrev keeps : {X : Type 0} → X → ℕ → ℕ → Reply X
 keeps was number place = record { number = number; place = place; given = was }
 
 abbrev oldRead : Read
-oldRead = record { p = old; q = old; count = old }
+oldRead = record { p = old; q = old; count = old; marks = old }
 
 abbrev readsTo : List ℕ → Reply Read → Line
 readsTo script x = record { comes = read (readDoor script old oldRead); leaves = read x }
 
--- admitted: p, q and the count of matches
+-- admitted: p, q and the counts of matches and marks
+abbrev pub readsMarked : List ℕ → ℕ → ℕ → ℕ → ℕ → Line
+readsMarked script p q count marks =
+    readsTo script (gives (record { p = p; q = q; count = count; marks = marks }))
+
 abbrev pub reads : List ℕ → ℕ → ℕ → ℕ → Line
-reads script p q count = readsTo script (gives (record { p = p; q = q; count = count }))
+reads script p q count = readsMarked script p q count 0
 
 -- refused: the number and the place
 abbrev pub refuses : List ℕ → ℕ → ℕ → Line
@@ -194,47 +200,77 @@ chainsNone l number place =
 
 -- ---- lists
 
-abbrev writesTo : ℕ → ℕ → List ℕ → ℕ → Reply ℕ → List ℕ → Line
-writesTo p q records lent x script =
+abbrev writesTo : ℕ → ℕ → List ℕ → List ℕ → ℕ → Reply ℕ → List ℕ → Line
+writesTo p q records marks lent x script =
     let buffer = replicate lent old in
     record {
-      comes = written (writeDoor p q records buffer old old) (writingOf p q records buffer .script);
+      comes = written (writeDoor p q records marks buffer old old) (writingOf p q records marks buffer .script);
       leaves = written x script;
     }
 
--- p, q and the records in a buffer of so many bytes: the script at its start; or the refusal's number and place
+-- p, q, the records and the marks in a buffer of so many bytes: the script at its start; or the refusal's number and
+-- place
+abbrev pub writesMarked : ℕ → ℕ → List ℕ → List ℕ → ℕ → List ℕ → Line
+writesMarked p q records marks lent script =
+    writesTo p q records marks lent (gives (length script)) (script ++ replicate (lent - length script) old)
+
+abbrev pub writesMarkedNone : ℕ → ℕ → List ℕ → List ℕ → ℕ → ℕ → ℕ → Line
+writesMarkedNone p q records marks lent number place =
+    writesTo p q records marks lent (keeps old number place) (replicate lent old)
+
 abbrev pub writes : ℕ → ℕ → List ℕ → ℕ → List ℕ → Line
-writes p q records lent script =
-    writesTo p q records lent (gives (length script)) (script ++ replicate (lent - length script) old)
+writes p q records lent script = writesMarked p q records [] lent script
 
 abbrev pub writesNone : ℕ → ℕ → List ℕ → ℕ → ℕ → ℕ → Line
-writesNone p q records lent number place = writesTo p q records lent (keeps old number place) (replicate lent old)
+writesNone p q records lent number place = writesMarkedNone p q records [] lent number place
 
-abbrev listsTo : List ℕ → ℕ → Reply Read → List ℕ → Line
-listsTo script lent x records =
+abbrev listsTo : List ℕ → ℕ → ℕ → Reply Read → List ℕ → List ℕ → Line
+listsTo script lent lent-marks x records marks =
     let buffer = replicate lent old in
+    let points = replicate lent-marks old in
+    let y = listingOf script buffer points in
     record {
-      comes = listed (recordsDoor script buffer old oldRead) (listingOf script buffer .records);
-      leaves = listed x records;
+      comes = listed (recordsDoor script buffer points old oldRead) (y .records) (y .marks);
+      leaves = listed x records marks;
     }
 
--- a script in a buffer of so many numbers: p, q, the count, and the records at its start; or number and place
+-- what was read: p and q, and the numbers of the records and of the marks
+pub record Lists : Type 0 where
+  pub p : ℕ
+  pub q : ℕ
+  pub count : ℕ
+  pub records : List ℕ
+  pub mark-count : ℕ
+  pub marks : List ℕ
+
+-- a script in buffers of so many numbers: both lists at their start; or number and place
+abbrev pub listsMarked : List ℕ → ℕ → ℕ → Lists → Line
+listsMarked script lent lent-marks l =
+    listsTo script lent lent-marks
+    (gives (record { p = l .p; q = l .q; count = l .count; marks = l .mark-count }))
+    (l .records ++ replicate (lent - length (l .records)) old)
+    (l .marks ++ replicate (lent-marks - length (l .marks)) old)
+
+abbrev pub listsMarkedNone : List ℕ → ℕ → ℕ → ℕ → ℕ → Line
+listsMarkedNone script lent lent-marks number place =
+    listsTo script lent lent-marks (keeps oldRead number place) (replicate lent old) (replicate lent-marks old)
+
 abbrev pub lists : List ℕ → ℕ → ℕ → ℕ → ℕ → List ℕ → Line
 lists script lent p q count records =
-    listsTo script lent (gives (record { p = p; q = q; count = count }))
-    (records ++ replicate (lent - length records) old)
+    listsMarked script lent 1
+    (record { p = p; q = q; count = count; records = records; mark-count = 0; marks = [] })
 
 abbrev pub listsNone : List ℕ → ℕ → ℕ → ℕ → Line
-listsNone script lent number place = listsTo script lent (keeps oldRead number place) (replicate lent old)
+listsNone script lent number place = listsMarkedNone script lent 1 number place
 
 -- ---- tables
 
 -- the rows of the match of that number: from where to where they stand
-abbrev pub marks : List ℕ → ℕ → ℕ → ℕ → Line
-marks table which start end =
+abbrev pub stands : List ℕ → ℕ → ℕ → ℕ → Line
+stands table which start end =
     record {
-      comes = marked (rowsDoor table which);
-      leaves = marked (record { number = 0; start = start; end = end });
+      comes = standing (rowsDoor table which);
+      leaves = standing (record { number = 0; start = start; end = end });
     }
 
 -- pieces, distinct pieces, the letters covered on A and on B, and the classes

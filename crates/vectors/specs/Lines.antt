@@ -1,17 +1,18 @@
 -- 01's lines marked M as one table, and with them lines for what 01 says with numbers but does not mark: each refusal's
 -- number and place, the order of a number's bytes, the limits, which classes are printed, where a position is carried,
--- and for lists, distinct pieces and the backbone what 02 says of them.
+-- and for lists, distinct pieces, the backbone and marks what 02 says of them.
 -- TO READ beside 01, "Small scripts at the edges", "Refused scripts and calls" and "One run, complete". All bytes are
 -- written out: the table says by itself in which order a number's bytes stand and how a number is printed.
 --     lines               the table; `specs/Kinds` has the kinds of lines
---     mostPass, oneMore   two more lines, which are too long to be computed
+--     mostPass, oneMore, mostMarksPass, oneMarkMore     four more lines, which are too long to be computed
 -- Assumes nothing.
 use Prim.Native.Nat.{ℕ, zero, suc}
 use mathlib.Core.List.{List, [], _∷_, _++_}
 use lib.ListN.{replicate}
 use Rattle.vectors.specs.Kinds.{Line, Expected, refused, pieces, flat, refines, reads, refuses, finds, findsNone}
-use Rattle.vectors.specs.Kinds.{to, stays, carriesA, carriesB, marks, sums, covers, prints, hands}
+use Rattle.vectors.specs.Kinds.{to, stays, carriesA, carriesB, stands, sums, covers, prints, hands}
 use Rattle.vectors.specs.Kinds.{chains, chainsNone, writes, writesNone, lists, listsNone}
+use Rattle.vectors.specs.Kinds.{readsMarked, writesMarked, writesMarkedNone, listsMarked, listsMarkedNone}
 
 -- ---- scripts
 
@@ -30,6 +31,10 @@ direct a b d = 0x44 ∷ small a ++ small b ++ small d
 
 abbrev backward : ℕ → ℕ → ℕ → List ℕ
 backward a b d = 0x52 ∷ small a ++ small b ++ small d
+
+-- a mark: one byte for the side, and a position
+abbrev pub mark : ℕ → ℕ → List ℕ
+mark side h = 0x4D ∷ side ∷ small h
 
 abbrev pub end : List ℕ
 end = 0x45 ∷ []
@@ -86,6 +91,38 @@ runRows =
 
 abbrev runPieces : Expected
 runPieces = pieces runRows 8
+
+-- the run with a mark in the middle, and its rows with a cut at A 1, which match 1 carries to B 1
+abbrev runWith : List ℕ → List ℕ
+runWith m = lengths 10 10 ++ direct 0 0 6 ++ m ++ backward 2 3 5 ++ end
+
+abbrev markedRows : List (List ℕ)
+markedRows =
+    (1 ∷ 0 ∷ 0 ∷ 1 ∷ 0 ∷ [])
+    ∷ (1 ∷ 1 ∷ 1 ∷ 1 ∷ 0 ∷ [])
+    ∷ (1 ∷ 2 ∷ 2 ∷ 1 ∷ 0 ∷ [])
+    ∷ (1 ∷ 3 ∷ 3 ∷ 1 ∷ 0 ∷ [])
+    ∷ (1 ∷ 4 ∷ 4 ∷ 2 ∷ 0 ∷ [])
+    ∷ (2 ∷ 2 ∷ 7 ∷ 1 ∷ 1 ∷ [])
+    ∷ (2 ∷ 3 ∷ 6 ∷ 1 ∷ 1 ∷ [])
+    ∷ (2 ∷ 4 ∷ 4 ∷ 2 ∷ 1 ∷ [])
+    ∷ (2 ∷ 6 ∷ 3 ∷ 1 ∷ 1 ∷ [])
+    ∷ []
+
+-- one match of four letters from 0 on, and a mark behind it
+abbrev fourWith : List ℕ → List ℕ
+fourWith m = lengths 10 10 ++ direct 0 0 4 ++ m ++ end
+
+-- one match from A 0 to B 4, where a side's positions tell which side it is
+abbrev shiftedWith : List ℕ → List ℕ
+shiftedWith m = lengths 10 10 ++ direct 0 4 4 ++ m ++ end
+
+-- marks and matches in this order, and with the matches first
+abbrev mixed : List ℕ
+mixed = lengths 10 12 ++ mark 1 12 ++ direct 0 0 6 ++ mark 0 1 ++ backward 2 3 5 ++ end
+
+abbrev sorted : List ℕ
+sorted = lengths 10 12 ++ direct 0 0 6 ++ backward 2 3 5 ++ mark 1 12 ++ mark 0 1 ++ end
 
 -- the text of the run above, letter by letter
 abbrev runText : List ℕ
@@ -448,11 +485,11 @@ lines =
     ∷ lists (lengths 1 2 ++ end) 0 1 2 0 []
     ∷ listsNone (lengths 10 10 ++ direct 0 0 6) 0 3 22
     -- the rows of a match: up to the first break; none; and none by the numbers that form no row
-    ∷ marks anything 2 5 15
-    ∷ marks anything 9 15 20
-    ∷ marks anything 0 30 35
-    ∷ marks anything 5 0 0
-    ∷ marks anything 3 0 0
+    ∷ stands anything 2 5 15
+    ∷ stands anything 9 15 20
+    ∷ stands anything 0 30 35
+    ∷ stands anything 5 0 0
+    ∷ stands anything 3 0 0
     -- the summary of the same: seven rows, two of them the same piece, three in no class; classes 0, 3 and 29
     ∷ sums anything 7 6 4294967295 4294967295
     (flat ((1 ∷ 0 ∷ 0 ∷ 2 ∷ []) ∷ replicate 25 0 ∷ (1 ∷ []) ∷ []))
@@ -479,19 +516,112 @@ lines =
     ∷ covers (lengths 5 5 ++ direct 0 0 4 ++ direct 0 1 4 ++ end) 8 4 5
     ∷ covers (lengths 10 20 ++ direct 0 0 3 ++ direct 2 10 3 ++ backward 7 19 1 ++ end) 5 6 7
     ∷ covers (lengths 1 1 ++ end) 0 0 0
+    -- a spanned mark is a cut, and is carried on; one that no match spans changes nothing
+    ∷ refines (record { script = runWith (mark 0 1); table = 45; work = 36; expected = pieces markedRows 9 })
+    ∷ refines (record { script = runWith (mark 1 1); table = 45; work = 36; expected = pieces markedRows 9 })
+    ∷ refines (record { script = runWith (mark 0 9); table = 40; work = 32; expected = runPieces })
+    -- .. nor takes a place: one row and four numbers of work
+    ∷ refines (record {
+      script = lengths 10 10 ++ direct 0 0 1 ++ mark 0 5 ++ mark 0 6 ++ mark 1 7 ++ end;
+      table = 5;
+      work = 4;
+      expected = pieces ((1 ∷ 0 ∷ 0 ∷ 1 ∷ 0 ∷ []) ∷ []) 1;
+    })
+    -- 12 by the pieces that a mark adds; a mark at an end, or twice, adds none
+    ∷ refines (record {
+      script = fourWith (mark 0 2);
+      table = 10;
+      work = 8;
+      expected = pieces ((1 ∷ 0 ∷ 0 ∷ 2 ∷ 0 ∷ []) ∷ (1 ∷ 2 ∷ 2 ∷ 2 ∷ 0 ∷ []) ∷ []) 2;
+    })
+    ∷ refines (record { script = fourWith (mark 0 2); table = 9; work = 8; expected = refused 12 0 })
+    ∷ refines (record {
+      script = fourWith (mark 0 4 ++ mark 1 0 ++ mark 0 0);
+      table = 9;
+      work = 4;
+      expected = pieces ((1 ∷ 0 ∷ 0 ∷ 4 ∷ 0 ∷ []) ∷ []) 1;
+    })
+    ∷ refines (record {
+      script = fourWith (mark 1 2 ++ mark 0 2 ++ mark 1 2);
+      table = 10;
+      work = 8;
+      expected = pieces ((1 ∷ 0 ∷ 0 ∷ 2 ∷ 0 ∷ []) ∷ (1 ∷ 2 ∷ 2 ∷ 2 ∷ 0 ∷ []) ∷ []) 2;
+    })
+    -- on its own side alone
+    ∷ refines (record {
+      script = shiftedWith (mark 1 2 ++ mark 0 6);
+      table = 9;
+      work = 4;
+      expected = pieces ((1 ∷ 0 ∷ 4 ∷ 4 ∷ 0 ∷ []) ∷ []) 1;
+    })
+    ∷ refines (record {
+      script = shiftedWith (mark 1 6);
+      table = 10;
+      work = 8;
+      expected = pieces ((1 ∷ 0 ∷ 4 ∷ 2 ∷ 0 ∷ []) ∷ (1 ∷ 2 ∷ 6 ∷ 2 ∷ 0 ∷ []) ∷ []) 2;
+    })
+    -- matches keep their numbers among marks; p, q and both counts
+    ∷ readsMarked mixed 10 12 2 2
+    ∷ finds mixed 2 2 3 5 1
+    ∷ findsNone mixed 3 13 0
+    ∷ carriesA mixed 2 2 (to 8)
+    ∷ refuses (mark 0 1 ++ end) 1 0
+    -- 20 and 21 at the mark's command: by p on A, by q on B; the last position passes
+    ∷ refuses (lengths 10 10 ++ mark 2 0 ++ end) 20 9
+    ∷ refuses (lengths 10 10 ++ mark 255 0 ++ end) 20 9
+    ∷ refuses (lengths 10 10 ++ mark 0 11 ++ end) 21 9
+    ∷ readsMarked (lengths 10 10 ++ mark 0 10 ++ end) 10 10 0 1
+    ∷ refuses (lengths 10 12 ++ direct 0 0 6 ++ mark 0 12 ++ end) 21 22
+    ∷ readsMarked (lengths 10 12 ++ mark 1 12 ++ end) 10 12 0 1
+    ∷ refuses (lengths 12 10 ++ mark 1 12 ++ end) 21 9
+    -- 20 before 21, and 3 before both
+    ∷ refuses (lengths 10 10 ++ mark 2 11 ++ end) 20 9
+    ∷ refuses (lengths 10 10 ++ (0x4D ∷ 2 ∷ 11 ∷ 0 ∷ 0 ∷ [])) 3 9
+    -- the order of a position's bytes
+    ∷ refuses (lengths 10 10 ++ (0x4D ∷ 0 ∷ 0 ∷ 0 ∷ 0 ∷ 1 ∷ []) ++ end) 21 9
+    -- both lists as a script, matches first; one byte too few gives 16 at 0
+    ∷ writesMarked 10 12 runRecords (1 ∷ 12 ∷ 0 ∷ 1 ∷ []) 50 sorted
+    ∷ writesMarkedNone 10 12 runRecords (1 ∷ 12 ∷ 0 ∷ 1 ∷ []) 47 16 0
+    -- 15 for an odd count, after 5 and before 6; 19 behind 6, and before a record's fault
+    ∷ writesMarkedNone 0 10 [] (0 ∷ []) 40 5 0
+    ∷ writesMarkedNone 10 10 [] (0 ∷ []) 40 15 0
+    ∷ writesMarkedNone 10 10 (replicate 8196 2) (0 ∷ []) 4 15 0
+    ∷ writesMarkedNone 10 10 (replicate 8196 2) (replicate 1026 2) 4 6 0
+    ∷ writesMarkedNone 10 10 (0 ∷ 0 ∷ 0 ∷ 2 ∷ []) (replicate 1026 2) 4 19 0
+    -- at a mark, counted on from the records: 20, 21; a record's fault before a mark's
+    ∷ writesMarkedNone 10 10 runRecords (0 ∷ 1 ∷ 2 ∷ 11 ∷ []) 60 20 4
+    ∷ writesMarkedNone 10 10 runRecords (256 ∷ 0 ∷ []) 60 20 3
+    ∷ writesMarkedNone 10 12 runRecords (1 ∷ 12 ∷ 0 ∷ 11 ∷ []) 0 21 4
+    ∷ writesMarkedNone 10 10 (0 ∷ 0 ∷ 0 ∷ 0 ∷ []) (2 ∷ 0 ∷ []) 60 7 1
+    -- and back, also of a script that has them mixed; 16 for either buffer
+    ∷ listsMarked sorted 9 5
+    (record { p = 10; q = 12; count = 2; records = runRecords; mark-count = 2; marks = 1 ∷ 12 ∷ 0 ∷ 1 ∷ [] })
+    ∷ listsMarked mixed 8 4
+    (record { p = 10; q = 12; count = 2; records = runRecords; mark-count = 2; marks = 1 ∷ 12 ∷ 0 ∷ 1 ∷ [] })
+    ∷ listsMarkedNone mixed 8 3 16 0
+    ∷ listsMarkedNone mixed 7 4 16 0
     ∷ []
 
--- ---- the limit of matches: 26,634 bytes are too many to compute with, so `proofs/Most` goes match by match
+-- ---- the limits of matches and marks: so many bytes are too many to compute with, so `proofs/Most` goes command by
+-- command
 
--- direct 0 0 1 so many times
-unfoldable pub many : ℕ → List ℕ
-many zero = []
-many (suc n) = direct 0 0 1 ++ many n
+-- a command so many times
+unfoldable pub many : List ℕ → ℕ → List ℕ
+many command zero = []
+many command (suc n) = command ++ many command n
 
 -- SCOPE, "The edge lines": 2,048 matches pass the reader
 abbrev pub mostPass : Line
-mostPass = reads (lengths 1 1 ++ (many 2048 ++ end)) 1 1 2048
+mostPass = reads (lengths 1 1 ++ (many (direct 0 0 1) 2048 ++ end)) 1 1 2048
 
 -- SCOPE, "The edge lines": one match more is 6, where its command stands
 abbrev pub oneMore : Line
-oneMore = refuses (lengths 1 1 ++ (many 2048 ++ (direct 0 0 1 ++ end))) 6 26633
+oneMore = refuses (lengths 1 1 ++ (many (direct 0 0 1) 2048 ++ (direct 0 0 1 ++ end))) 6 26633
+
+-- SCOPE, "The edge lines": so do 512 marks
+abbrev pub mostMarksPass : Line
+mostMarksPass = readsMarked (lengths 1 1 ++ (many (mark 1 0) 512 ++ end)) 1 1 0 512
+
+-- SCOPE, "The edge lines": one mark more is 19, where its command stands, also if it is cut short
+abbrev pub oneMarkMore : Line
+oneMarkMore = refuses (lengths 1 1 ++ (many (mark 1 0) 512 ++ (0x4D ∷ []))) 19 3081

@@ -22,14 +22,28 @@ number-of-requires c κs = search needs
 same-length : tie.Need-same-length
 same-length c = search needs
 
-returns : tie.Need-returns
-returns c = search (needs, records-given)
-
 same-length-2 : tie.Need-same-length-2
 same-length-2 c = search needs
 
+returns : tie.Need-returns
+returns c = search (needs, records-given)
+
+same-length-3 : tie.Need-same-length-3
+same-length-3 c = search needs
+
+same-length-4 : tie.Need-same-length-4
+same-length-4 c = search needs
+
 returns-2 : tie.Need-returns-2
-returns-2 c = search (needs, records-refused)
+returns-2 c =
+    let listed : tie.After-read-records = search in
+    let told : tie.After-refusal = search in
+    let at : tie.After-place-of = search in
+    let answered = listed .read-records .ensures in (
+      records-refused _ _ _ _ _ (answered .0) (told .refusal .given .1) (c .number-of .ensures)
+          (at .place-of .ensures),
+      (answered .1 .0, answered .1 .1 .0),
+    )
 
 pub notchergrey-read-records-spec : {M : Type 1} → statement M
 notchergrey-read-records-spec =
@@ -41,6 +55,8 @@ notchergrey-read-records-spec =
     place-of-requires
     number-of-requires
     same-length
-    returns
     same-length-2
+    returns
+    same-length-3
+    same-length-4
     returns-2)
