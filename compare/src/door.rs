@@ -17,6 +17,7 @@ pub struct Reading {
     pub p: u32,
     pub q: u32,
     pub count: usize,
+    pub mark_count: usize,
 }
 
 /// The numbers lent to the door that finds one match.
@@ -89,6 +90,7 @@ pub fn read(script: &[u8], lent: &mut Reading) -> u32 {
             &mut lent.p,
             &mut lent.q,
             &mut lent.count,
+            &mut lent.mark_count,
         )
     }
 }
@@ -108,13 +110,22 @@ pub fn one_match(script: &[u8], number: u32, lent: &mut OneMatch) -> u32 {
     }
 }
 
-pub fn write(p: u32, q: u32, records: &[u32], script: &mut [u8], lent: &mut Writing) -> u32 {
+pub fn write(
+    p: u32,
+    q: u32,
+    records: &[u32],
+    marks: &[u32],
+    script: &mut [u8],
+    lent: &mut Writing,
+) -> u32 {
     unsafe {
         notchergrey_write(
             p,
             q,
             start_of(records),
             records.len(),
+            start_of(marks),
+            marks.len(),
             start_of_lent(script),
             script.len(),
             &mut lent.place,
@@ -123,17 +134,25 @@ pub fn write(p: u32, q: u32, records: &[u32], script: &mut [u8], lent: &mut Writ
     }
 }
 
-pub fn read_records(script: &[u8], records: &mut [u32], lent: &mut Reading) -> u32 {
+pub fn read_records(
+    script: &[u8],
+    records: &mut [u32],
+    marks: &mut [u32],
+    lent: &mut Reading,
+) -> u32 {
     unsafe {
         notchergrey_read_records(
             start_of(script),
             script.len(),
             start_of_lent(records),
             records.len(),
+            start_of_lent(marks),
+            marks.len(),
             &mut lent.place,
             &mut lent.p,
             &mut lent.q,
             &mut lent.count,
+            &mut lent.mark_count,
         )
     }
 }

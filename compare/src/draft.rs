@@ -1,10 +1,11 @@
 //! Scripts written command by command, good or bad: nothing here tests a number.
 
-use crate::slow::script::{DIRECT, END, LENGTHS, REVERSED};
+use crate::slow::script::{DIRECT, END, LENGTHS, MARK, REVERSED};
 
 /// A command byte and its operands.
 pub const BYTES_OF_LENGTHS: usize = 1 + 2 * 4;
 pub const BYTES_OF_A_MATCH: usize = 1 + 3 * 4;
+pub const BYTES_OF_A_MARK: usize = 1 + 1 + 4;
 pub const BYTES_OF_END: usize = 1;
 
 /// The operands and the direction of a match.
@@ -25,6 +26,13 @@ impl DraftMatch {
             reversed: false,
         }
     }
+}
+
+/// The operands of a mark.
+#[derive(Clone, Copy, Debug, PartialEq, Eq)]
+pub struct DraftMark {
+    pub side: u8,
+    pub position: u32,
 }
 
 /// The bytes of a script that is still being written.
@@ -49,6 +57,15 @@ impl Draft {
     pub fn matching(self, m: DraftMatch) -> Draft {
         let byte = if m.reversed { REVERSED } else { DIRECT };
         self.command(byte, &[m.left_a, m.left_b, m.length])
+    }
+
+    pub fn mark(self, side: u8, position: u32) -> Draft {
+        let bytes = position.to_le_bytes();
+        self.bytes(&[MARK, side]).bytes(&bytes)
+    }
+
+    pub fn marking(self, mark: DraftMark) -> Draft {
+        self.mark(mark.side, mark.position)
     }
 
     /// A command byte with as many operands as are given.

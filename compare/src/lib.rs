@@ -7,6 +7,8 @@ pub mod draft;
 pub mod ends;
 pub mod groups;
 pub mod kinds;
+pub mod list;
+pub mod marks;
 pub mod part;
 pub mod random;
 pub mod slow;

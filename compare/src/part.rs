@@ -5,8 +5,8 @@ use crate::random::Random;
 use crate::tally::{Need, Tally};
 use std::fmt;
 
-/// An input is a list of `Element`s: the bytes of a script, the numbers of a table, or p and q with
-/// the numbers of the records behind them.
+/// An input is a list of `Element`s: the bytes of a script, the numbers of a table, or those of a list
+/// for the writer.
 pub struct Part<Element: 'static> {
     /// The door's name.
     pub name: &'static str,

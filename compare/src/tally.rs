@@ -62,6 +62,13 @@ impl Need {
         Need::of(Outcome::Kind(name), times, values)
     }
 
+    pub const fn kind_with(name: &'static str, value: usize) -> Need {
+        Need {
+            value: Some(value),
+            ..Need::kind(name, 1, 1)
+        }
+    }
+
     const fn of(outcome: Outcome, times: usize, values: usize) -> Need {
         Need {
             outcome,
@@ -78,18 +85,21 @@ impl Need {
     }
 }
 
-/// 1 and 5 are found only at the first command, and 6 only at match 2,049.
+/// 1 and 5 are found only at the first command, 6 only at match 2,049, and 19 only at mark 513.
 pub const REFUSALS_OF_SCRIPTS: &[Need] = &[
     Need::refused(1, 100, 1),
     Need::refused(2, 100, 10),
     Need::refused(3, 100, 20),
     Need::refused(4, 100, 10),
     Need::refused(5, 100, 1),
-    Need::refused(6, 100, 1),
+    Need::refused(6, 100, 5),
     Need::refused(7, 100, 10),
     Need::refused(8, 100, 10),
     Need::refused(9, 100, 10),
     Need::refused(10, 100, 10),
+    Need::refused(19, 100, 5),
+    Need::refused(20, 100, 10),
+    Need::refused(21, 100, 10),
 ];
 
 /// The counts of one part.

@@ -2,16 +2,18 @@
 //! themselves: a program that goes on in another way after some turns, or with many cuts, must have met
 //! scripts that have them.
 //!
-//! The ends on A are new at first. In a turn the new cuts of one side are carried to the other, where
-//! those that were not known are the new ones; the sides take turns, A first.
+//! The ends on A and the spanned marks there are new at first. In a turn the new cuts of one side are carried to
+//! the other, where those that were not known are the new ones; the sides take turns, A first. The spanned marks on
+//! B are new there with what the first turn brings.
 
 use crate::slow::carrying::Side;
-use crate::slow::script::Match;
+use crate::slow::script::{Mark, Match};
 use std::collections::BTreeSet;
 
 pub const LATE_TABLE: &str = "33 matches and more, a table after 18 turns and more";
 pub const LATE_AND_EXACT: &str = "33 matches and more, 18 turns and more, just enough rows";
 pub const LATE_AND_SHORT: &str = "33 matches and more, one row short, told in turn 18 or later";
+pub const LATE_REFUSAL: &str = "33 matches and more, too many pieces, told in turn 18 or later";
 pub const LATE_BY_FEW: &str = "33 matches and more, too many pieces in a late turn of few cuts";
 pub const LATE_BY_MORE: &str = "33 matches and more, too many pieces in a late turn of more cuts";
 pub const EARLY_REFUSAL: &str = "33 matches and more, too many pieces in the first two turns";
@@ -58,10 +60,12 @@ pub struct Turns {
     pub cuts: [usize; 2],
 }
 
-/// The turns of a script with these matches, up to one that makes more than `most` pieces certain.
-pub fn of(matches: &[Match], most: usize) -> Turns {
+/// The turns of a script with these matches and marks, up to one that makes more than `most` pieces certain.
+pub fn of(matches: &[Match], marks: &[Mark], most: usize) -> Turns {
     let mut cuts = [BTreeSet::new(), BTreeSet::new()];
     cuts[0].extend(matches.iter().flat_map(|m| ends(m, Side::A)));
+    cuts[0].extend(spanned(matches, marks, Side::A));
+    let mut on_b = spanned(matches, marks, Side::B);
     let mut new: Vec<u64> = cuts[0].iter().copied().collect();
     let mut turns = Vec::new();
     let mut hits = [0; 2];
@@ -70,7 +74,7 @@ pub fn of(matches: &[Match], most: usize) -> Turns {
         if new.is_empty() {
             break;
         }
-        let carried = carried(&new, matches.iter(), side);
+        let mut carried = carried(&new, matches.iter(), side);
         let sampled = self::carried(&new, matches.iter().step_by(SAMPLED), side);
         turns.push(Turn {
             new: new.len(),
@@ -81,6 +85,7 @@ pub fn of(matches: &[Match], most: usize) -> Turns {
         if hits[from] > most + matches.len() {
             break;
         }
+        carried.append(&mut on_b);
         let other = &mut cuts[1 - from];
         new = carried.into_iter().filter(|&h| other.insert(h)).collect();
         new.sort_unstable();
@@ -90,6 +95,13 @@ pub fn of(matches: &[Match], most: usize) -> Turns {
         turns,
         cuts: cuts.map(|cuts| cuts.len()),
     }
+}
+
+/// The marks on a side that some match spans.
+fn spanned(matches: &[Match], marks: &[Mark], side: Side) -> Vec<u64> {
+    let on_side = marks.iter().filter(|mark| mark.side == side);
+    let spanned = on_side.filter(|mark| matches.iter().any(|m| mark.is_spanned_by(m)));
+    spanned.map(|mark| mark.position).collect()
 }
 
 fn ends(m: &Match, side: Side) -> [u64; 2] {
@@ -221,6 +233,7 @@ impl Turns {
             (LATE_TABLE, is_late && refused.is_none()),
             (LATE_AND_EXACT, is_late && exact),
             (LATE_AND_SHORT, is_late && short),
+            (LATE_REFUSAL, refused.is_some_and(Met::is_late)),
             (LATE_BY_FEW, refused.is_some_and(by_few)),
             (LATE_BY_MORE, refused.is_some_and(by_more)),
             (EARLY_REFUSAL, refused.is_some_and(|met| met.number <= 2)),
@@ -246,6 +259,11 @@ impl Turns {
         let of_many_matches = of_many_matches.into_iter().filter(|_| many);
         let of_call = of_many_matches.chain(of_all).filter(|(_, is)| *is);
         of_call.map(|(kind, _)| kind).collect()
+    }
+
+    /// The last cuts are found late, however many rows there are.
+    pub fn are_late(&self) -> bool {
+        self.turns.len() > FIRST_TURNS
     }
 
     /// There would be too many hits if each match spanned each cut, but there are not.

@@ -247,6 +247,6 @@ fn the_scripts_of_examples() -> io::Result<()> {
             }
         }
     }
-    assert_eq!(tables, 4 + 3);
+    assert_eq!(tables, 5 + 3);
     Ok(())
 }

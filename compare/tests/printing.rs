@@ -32,9 +32,37 @@ fn refusals() {
         (of_ten().direct(1, 0, 10).end(), "refused 8 9\n"),
         (of_ten().direct(1, 0, u32::MAX).end(), "refused 8 9\n"),
         (Draft::lengths(1_000_000_001, 1).end(), "refused 5 0\n"),
+        (of_ten().mark(2, 0).end(), "refused 20 9\n"),
+        (of_ten().mark(1, 11).end(), "refused 21 9\n"),
     ] {
         assert_eq!(report(&script), text);
     }
+}
+
+/// The marks themselves are not printed: a mark on A between two cuts, one at an end on B, and one that no match spans.
+#[test]
+fn the_run_of_01_with_marks() {
+    let marked = Draft::lengths(10, 10)
+        .mark(0, 1)
+        .direct(0, 0, 6)
+        .mark(1, 8)
+        .reversed(2, 3, 5)
+        .mark(0, 9);
+    let text = "lengths 10 10
+matches 2 pieces 9 distinct 9 covers 7 8
+1 0 0 1 +
+1 1 1 1 +
+1 2 2 1 +
+1 3 3 1 +
+1 4 4 2 +
+2 2 7 1 -
+2 3 6 1 -
+2 4 4 2 -
+2 6 3 1 -
+class 0 7
+class 1 2
+";
+    assert_eq!(report(&marked.end()), text);
 }
 
 #[test]

@@ -25,6 +25,7 @@ fn lengths_and_end() {
         p: 1,
         q: 1,
         matches: vec![],
+        marks: vec![],
     };
     assert_eq!(read(&bytes), Ok(script));
 }
@@ -92,6 +93,7 @@ fn the_run_of_01() {
         p: 10,
         q: 10,
         matches: vec![first, second],
+        marks: vec![],
     };
     assert_eq!(read(&bytes), Ok(script));
 }
@@ -119,11 +121,21 @@ fn the_most_matches() {
 }
 
 #[test]
-fn the_first_26635_bytes_decide() {
-    let tail = [many_matches(2_048).end(), vec![0x45; 100]].concat();
-    let too_many = many_matches(2_100).end();
-    for long in [tail, too_many] {
-        assert_eq!(read(&long), read(&long[..26_635]));
+fn the_first_29707_bytes_decide() {
+    let longest = (0..512).fold(many_matches(2_048), |draft, _| draft.mark(1, 10));
+    let tail = [longest.clone().end(), vec![0x45; 100]].concat();
+    let no_end = longest.clone().without_end();
+    let cut_short = [no_end, vec![0x4D]].concat();
+    let too_many = many_matches(2_300).end();
+    assert_eq!(longest.end().len(), 29_706);
+    for (long, number, place) in [
+        (tail, 10, 29_706),
+        (cut_short, 19, 29_705),
+        (too_many, 6, 26_633),
+    ] {
+        let deciding = &long[..long.len().min(29_707)];
+        assert_eq!(read(&long), read(deciding));
+        assert_refused(&long, number, place);
     }
 }
 
@@ -177,7 +189,10 @@ fn bytes_that_run_out_where_a_command_is_due() {
 #[test]
 fn unknown_commands() {
     assert_refused(&[0x45], 1, 0);
-    assert_refused(&Draft::lengths(1, 1).command(0x4D, &[]).without_end(), 2, 9);
+    for byte in [0x43, 0x46, 0x4B, 0x4E, 0x51, 0x53, 0, 0xFF] {
+        let unknown = Draft::lengths(1, 1).command(byte, &[]).without_end();
+        assert_refused(&unknown, 2, 9);
+    }
 }
 
 #[test]

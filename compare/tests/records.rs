@@ -1,5 +1,5 @@
 //! The slow program writes scripts from lists and reads them back: the lines of request #101, the
-//! orders of refusals, what is kept, and both round trips.
+//! orders of refusals, what is kept, and both round trips. Lists with marks are in `mark_lists.rs`.
 
 use compare::draft::{Draft, DraftMatch};
 use compare::random::Random;
@@ -22,7 +22,7 @@ const RUN_BYTES: [u8; 36] = [
 /// The answer and the buffer of so many bytes, which held rubbish before.
 fn written(p: u32, q: u32, records: &[u32], room: usize) -> (Result<usize, Refusal>, Vec<u8>) {
     let mut script = vec![RUBBISH; room];
-    let answer = write(p, q, records, &mut script);
+    let answer = write(p, q, records, &[], &mut script);
     (answer, script)
 }
 
@@ -45,7 +45,7 @@ fn script_length(records: usize) -> usize {
 fn listed(script: &[u8]) -> (u32, u32, Vec<u32>) {
     let count = read(script).expect("a script").matches.len();
     let mut records = vec![RUBBISH_NUMBER; 4 * count];
-    let script = read_records(script, &mut records).expect("records");
+    let script = read_records(script, &mut records, &mut []).expect("records");
     assert_eq!(script.matches.len(), count);
     (script.p as u32, script.q as u32, records)
 }
@@ -248,7 +248,7 @@ fn a_records_fault_is_that_of_its_match() {
 #[test]
 fn the_run_read_back() {
     let mut records = [RUBBISH_NUMBER; 8];
-    let script = read_records(&RUN_BYTES, &mut records).expect("records");
+    let script = read_records(&RUN_BYTES, &mut records, &mut []).expect("records");
     assert_eq!((script.p, script.q, script.matches.len()), (10, 10, 2));
     assert_eq!(records, RUN);
 }
@@ -257,7 +257,7 @@ fn the_run_read_back() {
 fn a_number_too_few() {
     for room in 0..=7 {
         let mut records = vec![RUBBISH_NUMBER; room];
-        let too_short = read_records(&RUN_BYTES, &mut records).expect_err("a refusal");
+        let too_short = read_records(&RUN_BYTES, &mut records, &mut []).expect_err("a refusal");
         assert_eq!((too_short.number(), too_short.place), (16, 0));
         assert_eq!(records, vec![RUBBISH_NUMBER; room]);
     }
@@ -266,7 +266,7 @@ fn a_number_too_few() {
 #[test]
 fn numbers_behind_the_records_are_kept() {
     let mut records = [RUBBISH_NUMBER; 13];
-    assert!(read_records(&RUN_BYTES, &mut records).is_ok());
+    assert!(read_records(&RUN_BYTES, &mut records, &mut []).is_ok());
     assert_eq!(records[..8], RUN);
     assert_eq!(records[8..], [RUBBISH_NUMBER; 5]);
 }
@@ -277,7 +277,7 @@ fn the_script_before_16() {
         for room in [0, 7, 8, 20] {
             let mut records = vec![RUBBISH_NUMBER; room];
             let cut_short = &RUN_BYTES[..length];
-            let refused = read_records(cut_short, &mut records);
+            let refused = read_records(cut_short, &mut records, &mut []);
             assert_eq!(refused, Err(read(cut_short).expect_err("a refusal")));
             assert_eq!(records, vec![RUBBISH_NUMBER; room]);
         }

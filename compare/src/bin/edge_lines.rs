@@ -19,7 +19,7 @@ fn work_lines() {
     let run = Draft::lengths(10, 10).direct(0, 0, 6).reversed(2, 3, 5);
     let script = run.end();
     for work in [32, 31] {
-        println!("work {work} {}", refining(&script, work));
+        println!("work {work} {}", refining(&script, 40, work));
     }
 }
 
@@ -27,7 +27,7 @@ fn work_lines() {
 fn touching_lines() {
     let touching = Draft::lengths(8, 8).direct(0, 0, 4).direct(4, 4, 4);
     let script = touching.end();
-    println!("touching {}", refining(&script, 32));
+    println!("touching {}", refining(&script, 40, 32));
     for side in [Side::A, Side::B] {
         for number in [1, 2] {
             let carried = carry(&script, number, side, 4);
@@ -60,9 +60,9 @@ fn reading(script: &[u8]) -> String {
     answer(read(script).map(|_| "admitted".to_string()))
 }
 
-/// With 40 numbers of table.
-fn refining(script: &[u8], work: usize) -> String {
-    let rows = refine(script, &mut [0; 40], &mut vec![0; work]);
+/// With so many numbers of table and of work.
+fn refining(script: &[u8], table: usize, work: usize) -> String {
+    let rows = refine(script, &mut vec![0; table], &mut vec![0; work]);
     answer(rows.map(|count| format!("rows {count}")))
 }
 

@@ -31,8 +31,9 @@ fn main() -> io::Result<()> {
 /// The score, the count of the table's rows and the chain's length; then for each row of the chain
 /// its row number, left-A, left-B and length.
 fn chain_lines(bytes: &[u8], price: u32) -> Result<String, Refusal> {
-    let matches = script::read(bytes)?.matches;
-    let pieces = least(&matches, usize::MAX).expect("room for any count of pieces");
+    let script = script::read(bytes)?;
+    let pieces =
+        least(&script.matches, &script.marks, usize::MAX).expect("room for any count of pieces");
     let best = backbone(&pieces, price);
     let (score, rows, length) = (best.score, pieces.len(), best.chain.len());
     let mut text = format!("score {score} rows {rows} chain {length}\n");

@@ -2,7 +2,7 @@
 
 use compare::draft::Draft;
 use compare::slow::report::report;
-use compare::slow::script::{DIRECT, END, LENGTHS, MOST_MATCHES};
+use compare::slow::script::{DIRECT, END, LENGTHS, MOST_MARKS, MOST_MATCHES};
 use std::path::Path;
 use std::{env, fs, io};
 
@@ -30,6 +30,18 @@ fn good() -> Vec<(&'static str, Vec<u8>)> {
         (
             "two-matches",
             some().direct(0, 0, 6).reversed(2, 3, 5).end(),
+        ),
+        // 02, #106: marks that make cuts, A 1 and B 5; one at an end, B 8; one that no match spans, A 9
+        (
+            "two-matches-and-marks",
+            some()
+                .mark(0, 1)
+                .direct(0, 0, 6)
+                .mark(1, 8)
+                .mark(0, 9)
+                .reversed(2, 3, 5)
+                .mark(1, 5)
+                .end(),
         ),
         ("no-matches", Draft::lengths(1, 1).end()),
         ("2048-matches", apart(MOST_MATCHES as u32).end()),
@@ -70,11 +82,26 @@ fn refused() -> Vec<(&'static str, Vec<u8>)> {
         ("refused-10-tail", some().command(END, &[]).end()),
         (
             "refused-10-past-the-limit",
-            apart(most).command(END, &[]).bytes(&[END; 1_000]).end(),
+            marked(apart(most), MOST_MARKS)
+                .command(END, &[])
+                .bytes(&[END; 1_000])
+                .end(),
         ),
         (
             "refused-12-3001-pieces",
             shifted(1_500).direct(1_600, 1_600, 10).end(),
+        ),
+        (
+            "refused-19-too-many-marks",
+            marked(some(), MOST_MARKS + 1).end(),
+        ),
+        (
+            "refused-20-no-such-side",
+            some().direct(0, 0, 6).mark(2, 3).end(),
+        ),
+        (
+            "refused-21-mark-beyond",
+            some().direct(0, 0, 6).mark(1, 11).end(),
         ),
     ]
 }
@@ -94,6 +121,11 @@ fn apart(count: u32) -> Draft {
             draft.reversed(left_a, left_b, 5)
         }
     })
+}
+
+/// The same mark again and again.
+fn marked(draft: Draft, count: usize) -> Draft {
+    (0..count).fold(draft, |draft, _| draft.mark(0, 5))
 }
 
 /// One stretch of A matches two of B that lie one letter apart: every letter becomes a piece.

@@ -1,11 +1,12 @@
 //! Refines long zigzags, to be run under a small stack, each cut carried from the last: of 100,000 and 1,000,000 rows
-//! by themselves, and of about 100,000 rows among up to 2,048 matches that lie over them and behind them. Every match
-//! is cut into single letters. A script is refined with just enough rows and with more, and is refused with one row
-//! less. Its last line is `zigzag: N rows, 0 differences`, and its status 0, only if all tables have just those rows.
+//! by themselves, of 100,000 rows where every other cut comes from a mark, and of about 100,000 rows among up to 2,048
+//! matches that lie over them and behind them. Every match is cut into single letters. A script is refined with just
+//! enough rows and with more, and is refused with one row less. Its last line is `zigzag: N rows, 0 differences`, and
+//! its status 0, only if all tables have just those rows.
 
 use compare::door::{self, Refining};
-use compare::draft::DraftMatch;
-use compare::groups::shapes::{match_up_to, script, zigzag};
+use compare::draft::{DraftMark, DraftMatch};
+use compare::groups::shapes::{match_up_to, script_with, zigzag};
 use compare::part::{same, same_all};
 use compare::random::Random;
 use std::process::ExitCode;
@@ -58,7 +59,11 @@ fn all_rows() -> Result<usize, String> {
     let alone = [50_000, 500_000].map(|letters| zigzag(true, letters, 1, false));
     let mut rows = 0;
     for matches in alone {
-        rows += refined_rows(&matches)?;
+        rows += refined_rows(&matches, &[])?;
+    }
+    for side in [0, 1] {
+        let mark = DraftMark { side, position: 1 };
+        rows += refined_rows(&zigzag(side == 0, 50_000, 2, false), &[mark])?;
     }
     let mut random = Random::from_seed(2002);
     for kind in &AMONG {
@@ -70,7 +75,7 @@ fn all_rows() -> Result<usize, String> {
                 } else {
                     random.shuffle(&mut matches);
                 }
-                rows += refined_rows(&matches)?;
+                rows += refined_rows(&matches, &[])?;
             }
         }
     }
@@ -96,9 +101,9 @@ fn matches_of(kind: &Among, reversed: bool, random: &mut Random) -> Vec<DraftMat
     matches
 }
 
-/// Holds the calls for these matches to their letters, which are as many as the rows.
-fn refined_rows(matches: &[DraftMatch]) -> Result<usize, String> {
-    let bytes = script(matches);
+/// Holds the calls for these matches and marks to their letters, which are as many as the rows.
+fn refined_rows(matches: &[DraftMatch], marks: &[DraftMark]) -> Result<usize, String> {
+    let bytes = script_with(matches, marks);
     let letters: Vec<u32> = (1..).zip(matches).flat_map(letters_of).collect();
     let rows = letters.len() / 5;
     for (capacity, longer) in [(rows, 0), (rows, 999), (rows + 1, 0), (2 * rows, 3)] {

@@ -2,6 +2,7 @@
 
 use crate::door::{self, Carrying};
 use crate::groups;
+use crate::marks;
 use crate::part::{same, Part};
 use crate::random::Random;
 use crate::slow::carrying::{carry, Side};
@@ -12,7 +13,7 @@ use crate::tally::{Need, Tally, REFUSALS_OF_SCRIPTS};
 pub const PART: Part<u8> = Part {
     name: "notchergrey_carry_from_a and _from_b",
     once: &[groups::EDGES, groups::LARGE],
-    each_round: &[groups::SHAPES, groups::FAULTS],
+    each_round: &[groups::SHAPES, groups::SHAPES_WITH_MARKS, groups::FAULTS],
     least: 20_000,
     compare,
     needs: &[
@@ -20,6 +21,9 @@ pub const PART: Part<u8> = Part {
             Need::success(100_000, 1_000),
             Need::refused(13, 10_000, 1),
             Need::refused(14, 50_000, 1),
+            Need::kind(marks::FIRST, 1_000, 10),
+            Need::kind(marks::BETWEEN, 1_000, 10),
+            Need::kind(marks::BEHIND, 1_000, 10),
         ],
         REFUSALS_OF_SCRIPTS,
     ],
@@ -27,6 +31,9 @@ pub const PART: Part<u8> = Part {
 
 fn compare(bytes: &[u8], random: &mut Random, tally: &mut Tally) -> Result<(), String> {
     let slow = script::read(bytes);
+    if let Ok(script) = &slow {
+        marks::count_order(bytes, script, tally);
+    }
     for number in numbers(&slow, random) {
         for side in [Side::A, Side::B] {
             for position in positions(&slow, number, side, random) {

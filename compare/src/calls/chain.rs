@@ -18,13 +18,20 @@ const FALLING_NUMBERS: &str = "row numbers that fall along the chain";
 const SKIPPING: &str = "a chain that skips letters at a price";
 const MANY_DIRECT: &str = "too many direct pieces to go through all chains";
 const NO_DIRECT: &str = "no direct piece";
+const BY_MARKS: &str = "another chain than without the marks";
 
 pub const PART: Part<u8> = Part {
     name: "notchergrey_chain",
-    once: &[groups::EDGES, groups::CHAINS_ONCE, groups::LARGE],
+    once: &[
+        groups::EDGES,
+        groups::CHAINS_ONCE,
+        groups::LARGE,
+        groups::LARGE_WITH_MARKS,
+    ],
     each_round: &[
         groups::CHAINS,
         groups::CHAINS,
+        groups::CHAINS_WITH_MARKS,
         groups::SHAPES,
         groups::FAULTS,
     ],
@@ -44,6 +51,7 @@ pub const PART: Part<u8> = Part {
             Need::kind(SKIPPING, 3_000, 3),
             Need::kind(MANY_DIRECT, 500, 20),
             Need::kind(NO_DIRECT, 500, 1),
+            Need::kind(BY_MARKS, 3_000, 5),
         ],
         REFUSALS_OF_SCRIPTS,
     ],
@@ -143,7 +151,7 @@ fn calls_around_the_rows(bytes: &[u8], random: &mut Random) -> Vec<Call> {
     let Ok(script) = script::read(bytes) else {
         return vec![any_call(random, 8), any_call(random, 8)];
     };
-    let Some(pieces) = refinement::least(&script.matches, ROWS) else {
+    let Some(pieces) = refinement::least(&script.matches, &script.marks, ROWS) else {
         return vec![Call::for_rows(ROWS, 1), any_call(random, 8)];
     };
     const MANY: usize = 100;
@@ -280,8 +288,10 @@ fn count(bytes: &[u8], price: u32, slow: &Result<Chained, Refusal>, tally: &mut 
     let (Ok(chained), Ok(script)) = (slow, script::read(bytes)) else {
         return;
     };
-    let pieces = refinement::least(&script.matches, chained.rows).expect("the rows fit");
+    let least = |marks| refinement::least(&script.matches, marks, chained.rows);
+    let pieces = least(&script.marks).expect("the rows fit");
     let found = backbone(&pieces, price);
+    let without_marks = || backbone(&least(&[]).expect("no more rows"), price);
     let piece = |number: &u32| &pieces[*number as usize - 1];
     let skips = |pair: &[u32]| {
         let (left, right) = (piece(&pair[0]), piece(&pair[1]));
@@ -298,6 +308,10 @@ fn count(bytes: &[u8], price: u32, slow: &Result<Chained, Refusal>, tally: &mut 
         (SKIPPING, price > 0 && pairs.any(skips)),
         (MANY_DIRECT, found.equals.is_none()),
         (NO_DIRECT, found.chain.is_empty()),
+        (
+            BY_MARKS,
+            !script.marks.is_empty() && without_marks().chain != found.chain,
+        ),
     ];
     for (kind, _) in kinds.into_iter().filter(|(_, is)| *is) {
         tally.met_outcome(Outcome::Kind(kind), found.chain.len());

@@ -1,7 +1,9 @@
 //! `notchergrey_match` beside the slow program.
 
+use super::read::ORDERS_OF_MARKS;
 use crate::door::{self, OneMatch};
 use crate::groups;
+use crate::marks;
 use crate::part::{same, Part};
 use crate::random::Random;
 use crate::slow::refusal::Refusal;
@@ -14,11 +16,12 @@ pub const PART: Part<u8> = Part {
     name: "notchergrey_match",
     once: &[groups::READING_ONCE],
     each_round: &[groups::READING_EACH_ROUND],
-    least: 100_000,
+    least: 140_000,
     compare: compare_some,
     needs: &[
         &[Need::success(100_000, 1_000), Need::refused(13, 10_000, 1)],
         REFUSALS_OF_SCRIPTS,
+        ORDERS_OF_MARKS,
     ],
 };
 
@@ -36,6 +39,9 @@ const FEW: usize = 200;
 
 fn compare_some(bytes: &[u8], random: &mut Random, tally: &mut Tally) -> Result<(), String> {
     let slow = script::read(bytes);
+    if let Ok(script) = &slow {
+        marks::count_order(bytes, script, tally);
+    }
     let numbers = match &slow {
         Ok(script) if script.matches.len() <= FEW => every_number(script),
         Ok(script) => some_numbers(random, script),

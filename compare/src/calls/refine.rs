@@ -3,20 +3,26 @@
 use crate::door::{self, Refining};
 use crate::ends;
 use crate::groups;
+use crate::marks;
 use crate::part::{same, same_all, Part};
 use crate::random::Random;
 use crate::slow::refinement;
 use crate::slow::refusal::Refusal;
 use crate::slow::report::ROWS;
-use crate::slow::script;
+use crate::slow::script::{self, Script};
 use crate::slow::table::{self, NUMBERS_OF_A_ROW, WORK_OF_A_ROW};
 use crate::tally::{Need, Outcome, Tally, REFUSALS_OF_SCRIPTS};
 
 pub const PART: Part<u8> = Part {
     name: "notchergrey_refine",
-    once: &[groups::EDGES, groups::EVERY_TINY_SCRIPT, groups::LARGE],
-    each_round: &[groups::SHAPES, groups::FAULTS],
-    least: 50_000,
+    once: &[
+        groups::EDGES,
+        groups::EVERY_TINY_SCRIPT,
+        groups::LARGE,
+        groups::LARGE_WITH_MARKS,
+    ],
+    each_round: &[groups::SHAPES, groups::SHAPES_WITH_MARKS, groups::FAULTS],
+    least: 80_000,
     compare: compare_around_the_rows,
     needs: &[
         &[
@@ -32,8 +38,28 @@ pub const PART: Part<u8> = Part {
             Need::kind(ends::APART_ON_B, 2_000, 8),
         ],
         REFUSALS_OF_SCRIPTS,
+        KINDS_OF_MARKS,
     ],
 };
+
+/// Of each kind there are scripts with several counts of marks.
+const KINDS_OF_MARKS: &[Need] = &[
+    Need::kind(marks::MAKES_A_CUT_ON_A, 1_500, 10),
+    Need::kind(marks::MAKES_A_CUT_ON_B, 1_500, 10),
+    Need::kind(marks::CARRIED_ON, 1_000, 10),
+    Need::kind(marks::A_CUT_ANYWAY, 1_000, 10),
+    Need::kind(marks::AT_AN_END, 3_000, 10),
+    Need::kind(marks::REPEATED, 2_000, 10),
+    Need::kind(marks::UNSPANNED, 3_000, 10),
+    Need::kind(marks::ASTRAY_ON_A, 300, 10),
+    Need::kind(marks::ASTRAY_ON_B, 300, 10),
+    Need::kind(marks::MANY_UNSPANNED, 200, 50),
+    Need::kind(marks::DECIDES, 3_000, 10),
+    Need::kind(marks::NO_MATCH, 100, 5),
+    Need::kind(marks::FIRST, 3_000, 10),
+    Need::kind(marks::BETWEEN, 3_000, 10),
+    Need::kind(marks::BEHIND, 2_000, 10),
+];
 
 pub const PART_OF_ALL_LENGTHS: Part<u8> = Part {
     name: "notchergrey_refine, buffers of every small length",
@@ -67,6 +93,25 @@ fn compare_around_the_rows(
         for kind in ends::of(&script.matches) {
             tally.met_outcome(Outcome::Kind(kind), script.matches.len());
         }
+        marks::count(bytes, &script, tally);
+        compare_without_marks(bytes, &script, random, tally)?;
+    }
+    Ok(())
+}
+
+/// Where marks make rows: room for just as many rows as there are without the marks, and for some more.
+fn compare_without_marks(
+    bytes: &[u8],
+    script: &Script,
+    random: &mut Random,
+    tally: &mut Tally,
+) -> Result<(), String> {
+    let Some([with, without]) = marks::rows(script).filter(|rows| rows[0] > rows[1]) else {
+        return Ok(());
+    };
+    for rows in [without, random.count_between(without, with - 1)] {
+        tally.met_outcome(Outcome::Kind(marks::DECIDES), script.marks.len());
+        compare_one(bytes, just_enough(rows), random, tally)?;
     }
     Ok(())
 }
@@ -84,7 +129,7 @@ fn lengths_around_the_rows(bytes: &[u8], random: &mut Random) -> Vec<Lengths> {
     let Ok(script) = script::read(bytes) else {
         return vec![any_lengths(random, 8), any_lengths(random, 8)];
     };
-    let Some(pieces) = refinement::least(&script.matches, ROWS) else {
+    let Some(pieces) = refinement::least(&script.matches, &script.marks, ROWS) else {
         return vec![just_enough(ROWS), any_lengths(random, 8)];
     };
     const MANY: usize = 100;

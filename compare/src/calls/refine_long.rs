@@ -6,16 +6,20 @@ use crate::groups;
 use crate::part::Part;
 use crate::random::Random;
 use crate::slow::refinement;
-use crate::slow::script;
+use crate::slow::script::{self, Script};
 use crate::slow::table::{refine_admitted, NUMBERS_OF_A_ROW};
 use crate::tally::{Need, Outcome, Tally};
 use crate::turns;
 
+const LATE_BY_MARKS: &str = "33 matches and more, 18 turns and more, for marks alone";
+const SHORT_BY_MARKS: &str =
+    "33 matches and more, too many pieces, told in turn 18 or later, for marks alone";
+
 pub const PART: Part<u8> = Part {
     name: "notchergrey_refine, many turns and many cuts",
-    once: &[groups::LONG_ONCE],
-    each_round: &[groups::LONG_EACH_ROUND],
-    least: 10_000,
+    once: &[groups::LONG_ONCE, groups::LONG_ONCE_WITH_MARKS],
+    each_round: &[groups::LONG_EACH_ROUND, groups::LONG_WITH_MARKS],
+    least: 12_000,
     compare,
     needs: &[&[
         Need::success(30_000, 1_000),
@@ -38,6 +42,8 @@ pub const PART: Part<u8> = Part {
         Need::kind(turns::SHORT_16384, 15, 12),
         Need::kind(turns::EXACT_40000, 12, 5),
         Need::kind(turns::SHORT_40000, 6, 5),
+        Need::kind(LATE_BY_MARKS, 3_000, 500),
+        Need::kind(SHORT_BY_MARKS, 1_000, 200),
     ]],
 };
 
@@ -45,13 +51,14 @@ pub const PART: Part<u8> = Part {
 const MOST_ROWS: usize = 100_000;
 
 fn compare(bytes: &[u8], random: &mut Random, tally: &mut Tally) -> Result<(), String> {
-    let matches = match script::read(bytes) {
-        Ok(script) => script.matches,
+    let Script { matches, marks, .. } = match script::read(bytes) {
+        Ok(script) => script,
         Err(refusal) => return Err(format!("a group drew a script with a fault: {refusal}")),
     };
-    let pieces = refinement::least(&matches, MOST_ROWS);
+    let pieces = refinement::least(&matches, &marks, MOST_ROWS);
     let rows = pieces.as_ref().map(Vec::len);
-    let turns = turns::of(&matches, MOST_ROWS);
+    let turns = turns::of(&matches, &marks, MOST_ROWS);
+    let early = !marks.is_empty() && !turns::of(&matches, &[], MOST_ROWS).are_late();
     for lengths in lengths(rows, random) {
         let within = |capacity| pieces.clone().filter(|pieces| pieces.len() <= capacity);
         let slow = |table: &mut [u32], work: &mut [u32]| refine_admitted(within, table, work);
@@ -59,6 +66,14 @@ fn compare(bytes: &[u8], random: &mut Random, tally: &mut Tally) -> Result<(), S
         let capacity = lengths.table / NUMBERS_OF_A_ROW;
         for kind in turns.kinds(capacity, rows) {
             tally.met_outcome(Outcome::Kind(kind), capacity);
+            let by_marks = match kind {
+                turns::LATE_TABLE => LATE_BY_MARKS,
+                turns::LATE_REFUSAL => SHORT_BY_MARKS,
+                _ => continue,
+            };
+            if early {
+                tally.met_outcome(Outcome::Kind(by_marks), capacity);
+            }
         }
     }
     Ok(())

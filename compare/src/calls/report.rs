@@ -2,6 +2,7 @@
 
 use crate::door;
 use crate::groups;
+use crate::marks;
 use crate::part::{same, same_all, Part};
 use crate::random::Random;
 use crate::slow::refusal::{Refusal, Word};
@@ -10,9 +11,9 @@ use crate::tally::{Need, Tally, REFUSALS_OF_SCRIPTS};
 
 pub const PART: Part<u8> = Part {
     name: "notchergrey_report",
-    once: &[groups::EDGES, groups::LARGE],
-    each_round: &[groups::SHAPES, groups::FAULTS],
-    least: 22_000,
+    once: &[groups::EDGES, groups::LARGE, groups::LARGE_WITH_MARKS],
+    each_round: &[groups::SHAPES, groups::SHAPES_WITH_MARKS, groups::FAULTS],
+    least: 24_000,
     compare,
     needs: &[
         &[
@@ -21,6 +22,10 @@ pub const PART: Part<u8> = Part {
             Need::success_with(ROWS),
             Need::refused(12, 20, 1),
             Need::refused(16, 20_000, 1),
+            Need::kind(marks::MAKES_A_CUT_ON_A, 1_000, 10),
+            Need::kind(marks::MAKES_A_CUT_ON_B, 1_000, 10),
+            Need::kind(marks::UNSPANNED, 1_000, 10),
+            Need::kind(marks::BETWEEN, 1_000, 10),
         ],
         REFUSALS_OF_SCRIPTS,
     ],
@@ -29,6 +34,9 @@ pub const PART: Part<u8> = Part {
 fn compare(bytes: &[u8], random: &mut Random, tally: &mut Tally) -> Result<(), String> {
     let slow = run(bytes);
     let text = text_of(&slow);
+    if let Ok(refined) = &slow {
+        marks::count(bytes, &refined.script, tally);
+    }
     let rows = slow.map(|refined| refined.rows);
     let just_enough = text.len();
     for room in [just_enough, just_enough + random.count_between(1, 100)] {

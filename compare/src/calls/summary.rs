@@ -4,6 +4,7 @@
 use crate::door::{self, Refining};
 use crate::groups;
 use crate::kinds;
+use crate::marks;
 use crate::part::{same, same_all, Part};
 use crate::random::Random;
 use crate::slow::report::ROWS;
@@ -27,7 +28,7 @@ pub const PART: Part<u32> = Part {
 pub const PART_OF_OWN_TABLES: Part<u8> = Part {
     name: "notchergrey_summary, tables that notchergrey_refine made",
     once: &[groups::LARGE, groups::OWN_TABLES],
-    each_round: &[groups::SHAPES],
+    each_round: &[groups::SHAPES, groups::SHAPES_WITH_MARKS],
     least: 5_000,
     compare: compare_own,
     needs: &[&[
@@ -39,6 +40,8 @@ pub const PART_OF_OWN_TABLES: Part<u8> = Part {
         Need::kind(kinds::DIRECTION_TELLS, 100, 5),
         Need::kind(kinds::NUMBER_MISLEADS, 500, 10),
         Need::kind(kinds::SIDES_DIFFER, 1_000, 20),
+        Need::kind(marks::MAKES_A_CUT_ON_A, 300, 10),
+        Need::kind(marks::MAKES_A_CUT_ON_B, 300, 10),
     ]],
 };
 
@@ -108,6 +111,7 @@ fn compare_own(bytes: &[u8], random: &mut Random, tally: &mut Tally) -> Result<(
     let (Ok(script), Some(table)) = (script::read(bytes), own_table(bytes)) else {
         return Ok(());
     };
+    marks::count(bytes, &script, tally);
     let lent = compare_table(&table, random, tally)?;
     same_all("by the matches, covers", &script.covers(), &lent.covers)
 }

@@ -2,21 +2,23 @@
 
 use super::read;
 use crate::door::{self, Reading, Writing};
-use crate::draft::{BYTES_OF_A_MATCH, BYTES_OF_END, BYTES_OF_LENGTHS};
 use crate::groups;
+use crate::list::List;
 use crate::part::{lengths_around, same, same_all, Part};
 use crate::random::Random;
-use crate::slow::records::{self, NUMBERS_OF_A_RECORD};
+use crate::slow::records;
 use crate::slow::refusal::Refusal;
-use crate::slow::script::MOST_MATCHES;
+use crate::slow::script::{MOST_MARKS, MOST_MATCHES};
 use crate::tally::{Need, Outcome, Tally};
 
-/// An input is p, q and then the numbers of the records.
+const MARKS: &str = "marks written";
+
+/// An input is a list with its marks.
 pub const PART: Part<u32> = Part {
     name: "notchergrey_write",
     once: &[groups::LISTS_ONCE],
     each_round: &[groups::LISTS_EACH_ROUND],
-    least: 50_000,
+    least: 70_000,
     compare,
     needs: &[
         &[
@@ -31,12 +33,17 @@ pub const PART: Part<u32> = Part {
             Need::refused(9, 5_000, 20),
             Need::refused(15, 5_000, 20),
             Need::refused(16, 20_000, 1),
+            Need::refused(19, 150, 1),
+            Need::refused(20, 3_000, 30),
+            Need::refused(21, 3_000, 30),
+            Need::kind(MARKS, 10_000, 100),
+            Need::kind_with(MARKS, MOST_MARKS),
         ],
         FIRST_AND_LAST_PLACES,
     ],
 };
 
-/// A fault of the first record and of the last that there can be, and 15 before any record.
+/// A fault of the first record or mark and of the last that there can be, and 15 before any record.
 const FIRST_AND_LAST_PLACES: &[Need] = &[
     Need::refused_at(7, 1),
     Need::refused_at(8, 1),
@@ -47,30 +54,15 @@ const FIRST_AND_LAST_PLACES: &[Need] = &[
     Need::refused_at(8, MOST_MATCHES),
     Need::refused_at(9, MOST_MATCHES),
     Need::refused_at(15, MOST_MATCHES),
+    Need::refused_at(20, 1),
+    Need::refused_at(21, 1),
+    Need::refused_at(20, MOST_MATCHES + MOST_MARKS),
+    Need::refused_at(21, MOST_MATCHES + MOST_MARKS),
 ];
 
-/// What the door takes beside the buffer.
-#[derive(Clone, Copy)]
-struct List<'a> {
-    p: u32,
-    q: u32,
-    records: &'a [u32],
-}
-
-impl List<'_> {
-    fn count(&self) -> usize {
-        self.records.len() / NUMBERS_OF_A_RECORD
-    }
-}
-
 fn compare(input: &[u32], random: &mut Random, tally: &mut Tally) -> Result<(), String> {
-    let list = List {
-        p: input[0],
-        q: input[1],
-        records: &input[2..],
-    };
-    let needed = BYTES_OF_LENGTHS + BYTES_OF_A_MATCH * list.count() + BYTES_OF_END;
-    for room in lengths_around(needed, random) {
+    let list = List::of_input(input);
+    for room in lengths_around(list.script_length(), random) {
         compare_one(list, room, random, tally)
             .map_err(|what| format!("with {room} bytes for the script, {what}"))?;
     }
@@ -84,15 +76,23 @@ fn compare_one(
     random: &mut Random,
     tally: &mut Tally,
 ) -> Result<(), String> {
-    let List { p, q, records } = list;
+    let List {
+        p,
+        q,
+        records,
+        marks,
+    } = list;
     let mut script = random.any_bytes(room);
     let mut lent = rubbish(random);
     let mut slow_script = script.clone();
-    let slow = records::write(p, q, records, &mut slow_script);
+    let slow = records::write(p, q, records, marks, &mut slow_script);
     let wanted = wanted(lent, slow);
     tally.met(slow.map(|_| list.count()));
+    if slow.is_ok() && !marks.is_empty() {
+        tally.met_outcome(Outcome::Kind(MARKS), list.mark_count());
+    }
 
-    let answer = door::write(p, q, records, &mut script, &mut lent);
+    let answer = door::write(p, q, records, marks, &mut script, &mut lent);
     same("the answer", Refusal::number_in(&slow), answer)?;
     same_numbers(wanted, lent)?;
     same_all("script", &slow_script, &script)?;
@@ -125,7 +125,7 @@ fn wanted(before: Writing, slow: Result<usize, Refusal>) -> Writing {
     }
 }
 
-/// "records to bytes to records": the other door reads the very list from the script written.
+/// "records to bytes to records": the other door reads the very lists from the script written.
 fn compare_undone(
     list: List,
     script: &[u8],
@@ -133,16 +133,19 @@ fn compare_undone(
     tally: &mut Tally,
 ) -> Result<(), String> {
     let mut got = random.any_numbers(list.records.len());
+    let mut got_marks = random.any_numbers(list.marks.len());
     let mut lent = read::rubbish(random);
     let wanted = Reading {
         p: list.p,
         q: list.q,
         count: list.count(),
+        mark_count: list.mark_count(),
         ..lent
     };
     tally.met_outcome(Outcome::Undone, list.count());
-    let answer = door::read_records(script, &mut got, &mut lent);
+    let answer = door::read_records(script, &mut got, &mut got_marks, &mut lent);
     same("the answer", 0, answer)?;
     read::same_numbers(wanted, lent)?;
-    same_all("records", list.records, &got)
+    same_all("records", list.records, &got)?;
+    same_all("marks", list.marks, &got_marks)
 }

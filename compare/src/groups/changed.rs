@@ -2,7 +2,7 @@
 
 use super::good;
 use crate::random::Random;
-use crate::slow::script::{DIRECT, END, LENGTHS, REVERSED};
+use crate::slow::script::{DIRECT, END, LENGTHS, MARK, REVERSED};
 
 pub fn cut_short(random: &mut Random) -> Vec<Vec<u8>> {
     let mut scripts = Vec::new();
@@ -63,5 +63,5 @@ pub fn changed_byte(random: &mut Random, byte: u8) -> u8 {
 /// A command byte, a byte that often stands in numbers, or any byte.
 pub fn telling_byte(random: &mut Random) -> u8 {
     let any = random.any_byte();
-    random.one_of(&[LENGTHS, DIRECT, REVERSED, END, 0, 1, 0xFF, any])
+    random.one_of(&[LENGTHS, DIRECT, REVERSED, MARK, END, 0, 1, 0xFF, any])
 }

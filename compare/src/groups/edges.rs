@@ -1,7 +1,7 @@
 //! Scripts of one or two commands whose bytes and numbers stand at every edge.
 
 use super::good::LONGEST;
-use crate::draft::Draft;
+use crate::draft::{Draft, BYTES_OF_LENGTHS};
 use crate::random::Random;
 use crate::slow::script::{DIRECT, REVERSED};
 
@@ -49,6 +49,34 @@ pub fn command_bytes(_: &mut Random) -> Vec<Vec<u8>> {
             scripts.push(start.clone().command(byte, &[]).without_end());
             scripts.push(start.clone().command(byte, &[]).end());
             scripts.push(start.command(byte, &[1, 2, 3]).end());
+        }
+    }
+    scripts
+}
+
+/// Each of the 256 bytes as a mark's side, with good and bad positions, before and behind a match.
+pub fn sides(_: &mut Random) -> Vec<Vec<u8>> {
+    let mut scripts = Vec::new();
+    for side in 0..=u8::MAX {
+        for position in [0, 5, 6, 7, 8, u32::MAX] {
+            let start = || Draft::lengths(5, 7);
+            scripts.push(start().mark(side, position).direct(0, 0, 5).end());
+            scripts.push(start().direct(0, 0, 5).mark(side, position).end());
+        }
+    }
+    scripts
+}
+
+pub fn marks_at_the_limits(_: &mut Random) -> Vec<Vec<u8>> {
+    let mut scripts = Vec::new();
+    for (p, q) in SOME_LENGTHS {
+        for position in telling_operands(p, q) {
+            for side in [0, 1, 2] {
+                let whole = Draft::lengths(p, q).mark(side, position).end();
+                for length in BYTES_OF_LENGTHS + 1..=whole.len() {
+                    scripts.push(whole[..length].to_vec());
+                }
+            }
         }
     }
     scripts

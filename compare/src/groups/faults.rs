@@ -2,15 +2,18 @@
 
 use super::good::{self, good_left, Beginning, LONGEST};
 use super::noise::telling_bytes;
-use crate::draft::{Draft, DraftMatch, BYTES_OF_A_MATCH, BYTES_OF_LENGTHS};
+use crate::draft::{
+    Draft, DraftMark, DraftMatch, BYTES_OF_A_MARK, BYTES_OF_A_MATCH, BYTES_OF_LENGTHS,
+};
 use crate::random::Random;
-use crate::slow::script::{DIRECT, END, LENGTHS, REVERSED};
+use crate::slow::script::{DIRECT, END, LENGTHS, MARK, REVERSED};
 
 const OPERAND_BYTES_OF_LENGTHS: usize = BYTES_OF_LENGTHS - 1;
 const OPERAND_BYTES_OF_A_MATCH: usize = BYTES_OF_A_MATCH - 1;
+const OPERAND_BYTES_OF_A_MARK: usize = BYTES_OF_A_MARK - 1;
 
 pub fn one_fault(random: &mut Random) -> Vec<Vec<u8>> {
-    let faults: [fn(&mut Random, Beginning) -> Vec<u8>; 9] = [
+    let faults: [fn(&mut Random, Beginning) -> Vec<u8>; 12] = [
         headless,
         length_out_of_range,
         unknown_command,
@@ -20,6 +23,9 @@ pub fn one_fault(random: &mut Random) -> Vec<Vec<u8>> {
         empty_match,
         beyond_a,
         beyond_b,
+        cut_short_mark,
+        no_such_side,
+        mark_beyond,
     ];
     let mut scripts = Vec::new();
     for _ in 0..15 {
@@ -32,7 +38,7 @@ pub fn one_fault(random: &mut Random) -> Vec<Vec<u8>> {
     scripts
 }
 
-/// Matches whose operands break two or three rules at once, whole and cut short.
+/// Matches and marks whose operands break two or three rules at once, whole and cut short.
 pub fn several_faults(random: &mut Random) -> Vec<Vec<u8>> {
     let mut scripts = Vec::new();
     for _ in 0..60 {
@@ -41,6 +47,15 @@ pub fn several_faults(random: &mut Random) -> Vec<Vec<u8>> {
         let m = match_of_several_faults(random, start.p, start.q);
         let whole = start.draft.matching(m).without_end();
         let missing = random.count_between(1, OPERAND_BYTES_OF_A_MATCH);
+        scripts.push(whole[..whole.len() - missing].to_vec());
+        scripts.push(whole);
+    }
+    for _ in 0..30 {
+        let matches = random.count_between(0, 5);
+        let start = good::beginning(random, matches);
+        let mark = mark_of_several_faults(random, start.p, start.q);
+        let whole = start.draft.marking(mark).without_end();
+        let missing = random.count_between(1, OPERAND_BYTES_OF_A_MARK);
         scripts.push(whole[..whole.len() - missing].to_vec());
         scripts.push(whole);
     }
@@ -62,7 +77,7 @@ pub fn tails(random: &mut Random) -> Vec<Vec<u8>> {
 
 fn headless(random: &mut Random, start: Beginning) -> Vec<u8> {
     let mut script = start.draft.end();
-    script[0] = random.one_of(&[DIRECT, REVERSED, END, LENGTHS - 1, LENGTHS + 1, 0]);
+    script[0] = random.one_of(&[DIRECT, REVERSED, MARK, END, LENGTHS - 1, LENGTHS + 2, 0]);
     script
 }
 
@@ -76,7 +91,7 @@ fn length_out_of_range(random: &mut Random, start: Beginning) -> Vec<u8> {
 
 fn unknown_command(random: &mut Random, start: Beginning) -> Vec<u8> {
     let byte = random.any_byte();
-    let known = [LENGTHS, DIRECT, REVERSED, END].contains(&byte);
+    let known = [LENGTHS, DIRECT, REVERSED, MARK, END].contains(&byte);
     let unknown = if known { 0 } else { byte };
     going_on(random, start.draft.command(unknown, &[]))
 }
@@ -120,6 +135,50 @@ fn beyond_a(random: &mut Random, start: Beginning) -> Vec<u8> {
 fn beyond_b(random: &mut Random, start: Beginning) -> Vec<u8> {
     let m = match_beyond_b(random, start.p, start.q);
     going_on(random, start.draft.matching(m))
+}
+
+fn cut_short_mark(random: &mut Random, start: Beginning) -> Vec<u8> {
+    let present = random.count_between(0, OPERAND_BYTES_OF_A_MARK - 1);
+    let operands = random.any_bytes(present);
+    start
+        .draft
+        .command(MARK, &[])
+        .bytes(&operands)
+        .without_end()
+}
+
+fn no_such_side(random: &mut Random, start: Beginning) -> Vec<u8> {
+    let good = good::good_mark(random, start.p, start.q);
+    let mark = DraftMark {
+        side: bad_side(random),
+        ..good
+    };
+    going_on(random, start.draft.marking(mark))
+}
+
+fn mark_beyond(random: &mut Random, start: Beginning) -> Vec<u8> {
+    let (side, letters, others) = random.one_of(&[(0, start.p, start.q), (1, start.q, start.p)]);
+    let position = too_far(random, letters, others);
+    going_on(random, start.draft.mark(side, position))
+}
+
+/// Of no side, and beyond both sequences.
+fn mark_of_several_faults(random: &mut Random, p: u32, q: u32) -> DraftMark {
+    DraftMark {
+        side: bad_side(random),
+        position: too_far(random, p.max(q), p.max(q)),
+    }
+}
+
+fn bad_side(random: &mut Random) -> u8 {
+    let any = random.between(2, 255) as u8;
+    random.one_of(&[2, 3, 0x41, 0x80, 0xFF, any])
+}
+
+/// A position beyond so many letters: by one, by far, or within the other sequence if that is longer.
+pub fn too_far(random: &mut Random, letters: u32, others: u32) -> u32 {
+    let any = random.between(letters + 1, u32::MAX);
+    random.one_of(&[letters + 1, any, others.max(letters + 1), 1 << 31, u32::MAX])
 }
 
 /// One of p and q is out of range, or both are.

@@ -1,10 +1,11 @@
 //! Scripts of many rows, most of them within the 3,000 of the program's table.
 
 use super::good::LONGEST;
+use super::marks;
 use super::patterned;
-use super::shapes::{cutter, match_up_to, script, staircase, zigzag};
+use super::shapes::{cutter, match_up_to, script, script_with, staircase, zigzag};
 use super::stretches::chain;
-use crate::draft::DraftMatch;
+use crate::draft::{DraftMark, DraftMatch};
 use crate::random::Random;
 use crate::slow::report::ROWS;
 use crate::slow::script::MOST_MATCHES;
@@ -51,6 +52,40 @@ pub fn around_the_columns(random: &mut Random) -> Vec<Vec<u8>> {
     };
     let twice = counts.into_iter().cycle().take(2 * counts.len());
     twice.map(&mut cut_by_the_last).collect()
+}
+
+/// The same counts of matches with nothing but a mark to cut them.
+pub fn columns_cut_by_a_mark(random: &mut Random) -> Vec<Vec<u8>> {
+    marks::into_the_first(random, uncut_columns)
+}
+
+fn uncut_columns(random: &mut Random) -> Vec<Vec<u8>> {
+    let counts = [31, 32, 33, 63, 64, 65, 255, 256, 257];
+    let mut uncut = |count: u32| {
+        let length = random.between(3, 12);
+        script(&staircase(random, count, length))
+    };
+    let twice = counts.into_iter().cycle().take(2 * counts.len());
+    twice.map(&mut uncut).collect()
+}
+
+/// 2,999 and 3,000 rows, and one more by a mark within the last match, on either side.
+pub fn one_row_by_a_mark(random: &mut Random) -> Vec<Vec<u8>> {
+    let mut scripts = Vec::new();
+    for rows in [ROWS - 1, ROWS] {
+        for side in [0, 1] {
+            let mut matches = blocks_of(random, rows - 1);
+            let behind = |left: fn(&DraftMatch) -> u32| {
+                let ends = matches.iter().map(|m| left(m) + m.length);
+                ends.max().expect("many matches") + 1
+            };
+            let (left_a, left_b) = (behind(|m| m.left_a), behind(|m| m.left_b));
+            matches.push(DraftMatch::direct(left_a, left_b, 5));
+            let position = random.between(1, 4) + if side == 0 { left_a } else { left_b };
+            scripts.push(script_with(&matches, &[DraftMark { side, position }]));
+        }
+    }
+    scripts
 }
 
 /// Matches and zigzags that stand apart, with just so many rows in all.

@@ -1,5 +1,6 @@
 //! Scripts whose cuts take many turns to find, with many matches or many cuts.
 
+use super::marks;
 use super::shapes::{cutter, match_up_to, script, scripts, staircase, zigzag};
 use crate::draft::DraftMatch;
 use crate::random::Random;
@@ -83,6 +84,23 @@ pub fn staircases(random: &mut Random) -> Vec<Vec<u8>> {
             let step = matches[random.count_between(0, steps as usize - 1)];
             let shift = if step.length > 5 { 1 } else { 0 };
             matches.push(shifted(step, shift, 0));
+        }
+        ordered(random, matches)
+    })
+}
+
+/// Staircases that nothing cuts but marks at one end, and now and then a match of one letter behind them.
+pub fn staircases_cut_by_marks(random: &mut Random) -> Vec<Vec<u8>> {
+    marks::into_the_first(random, uncut_staircases)
+}
+
+fn uncut_staircases(random: &mut Random) -> Vec<Vec<u8>> {
+    scripts(random, |random| {
+        let (steps, length) = (random.between(33, 120), random.between(2, 50));
+        let mut matches = staircase(random, steps, length);
+        let behind = (steps + 1) * length;
+        for n in 0..random.between(0, 20) {
+            matches.push(DraftMatch::direct(behind + 2 * n, behind + 2 * n, 1));
         }
         ordered(random, matches)
     })

@@ -7,8 +7,8 @@ use crate::draft::{Draft, DraftMatch};
 use crate::random::Random;
 use crate::slow::script::{LENGTHS, MOST_MATCHES};
 
-/// "up to 26,635 bytes, which decides the outcome of longer input too"
-const DECIDING_BYTES: usize = 26_635;
+/// 02, #106: as many bytes decide the outcome of longer input too.
+const DECIDING_BYTES: usize = 29_707;
 
 pub fn around_the_most_matches(random: &mut Random) -> Vec<Vec<u8>> {
     let mut scripts = Vec::new();
@@ -84,7 +84,7 @@ pub fn changed(random: &mut Random) -> Vec<Vec<u8>> {
 /// Long scripts, each also as the bytes that decide it.
 pub fn past_the_longest(random: &mut Random) -> Vec<Vec<u8>> {
     let mut scripts = Vec::new();
-    for extra in [1, 2, 3, 12, 13, 14, 1_000, 40_000] {
+    for extra in [1, 2, 3, 5, 6, 7, 12, 13, 14, 1_000, 40_000] {
         let ended = good::script(random, MOST_MATCHES);
         scripts.push([ended, random.any_bytes(extra)].concat());
         let unended = good::beginning(random, MOST_MATCHES).draft;

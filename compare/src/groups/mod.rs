@@ -9,6 +9,8 @@ mod large;
 mod long;
 mod many;
 mod many_stretches;
+mod mark_lists;
+mod marks;
 mod noise;
 pub mod patterned;
 mod records;
@@ -29,7 +31,13 @@ const fn group<Element>(
 
 pub const READING_ONCE: Groups<u8> = &[
     group("the lines of 01", edges::lines_of_01),
+    group("the lines of 106", marks::lines_of_106),
     group("every byte where a command is due", edges::command_bytes),
+    group("every byte as a mark's side", edges::sides),
+    group(
+        "marks at the limits, whole and cut short",
+        edges::marks_at_the_limits,
+    ),
     group(
         "lengths at the limits, whole and cut short",
         edges::lengths_at_the_limits,
@@ -43,7 +51,12 @@ pub const READING_ONCE: Groups<u8> = &[
         many::around_the_most_matches,
     ),
     group("one change in a script of 2,048 matches", many::changed),
-    group("scripts past 26,635 bytes", many::past_the_longest),
+    group(
+        "511 to 513 marks, whole, cut short and faulty",
+        marks::around_the_most,
+    ),
+    group("about 2,048 matches and 512 marks", marks::longest),
+    group("scripts past 29,707 bytes", many::past_the_longest),
 ];
 
 pub const READING_EACH_ROUND: Groups<u8> = &[
@@ -78,6 +91,16 @@ pub const LISTS_ONCE: Groups<u32> = &[
         records::around_the_most,
     ),
     group("up to 65,537 records", records::past_the_most),
+    group("the lines of 106, as lists", mark_lists::lines_of_106),
+    group("numbers of a mark at the limits", mark_lists::at_the_limits),
+    group(
+        "every list of up to a record and two marks in one letter, faulty ones too",
+        mark_lists::every_tiny_list,
+    ),
+    group(
+        "511 to 513 marks, good and with every fault, and too many records",
+        mark_lists::around_the_most,
+    ),
 ];
 
 pub const LISTS_EACH_ROUND: Groups<u32> = &[
@@ -95,6 +118,19 @@ pub const LISTS_EACH_ROUND: Groups<u32> = &[
         records::no_multiple_of_four,
     ),
     group("p or q out of range", records::lengths_out_of_range),
+    group("many good marks", mark_lists::many),
+    group(
+        "one fault at the first, a middle and the last mark",
+        mark_lists::one_fault,
+    ),
+    group(
+        "faulty records and faulty marks, several of each",
+        mark_lists::several_faulty,
+    ),
+    group(
+        "counts that are odd, or no multiple of four, or both",
+        mark_lists::odd_counts,
+    ),
     group("any numbers", records::noise),
 ];
 
@@ -102,11 +138,17 @@ pub const LONGEST: Groups<u8> = &[group("2,047 and 2,048 matches", many::longest
 
 pub const EDGES: Groups<u8> = &[
     group("the lines of 01", edges::lines_of_01),
+    group("the lines of 106", marks::lines_of_106),
     group(
         "2,047 to 2,049 matches, whole, cut short and faulty",
         many::around_the_most_matches,
     ),
-    group("scripts past 26,635 bytes", many::past_the_longest),
+    group(
+        "511 to 513 marks, whole, cut short and faulty",
+        marks::around_the_most,
+    ),
+    group("about 2,048 matches and 512 marks", marks::longest),
+    group("scripts past 29,707 bytes", many::past_the_longest),
 ];
 
 pub const EVERY_TINY_SCRIPT: Groups<u8> = &[
@@ -115,12 +157,24 @@ pub const EVERY_TINY_SCRIPT: Groups<u8> = &[
         "every script of three matches in 3 letters",
         tiny::every_triple,
     ),
+    group(
+        "every script of a match and up to two marks in 3 letters",
+        tiny::every_match_and_marks,
+    ),
+    group(
+        "every script of two matches and a mark in 3 letters",
+        tiny::every_pair_and_mark,
+    ),
 ];
 
 /// Scripts whose rows are few enough to try buffers of every length.
 pub const FEW_ROWS: Groups<u8> = &[
     group("the lines of 01", edges::lines_of_01),
+    group("the lines of 106", marks::lines_of_106),
     group("a few tiny scripts", tiny::a_few),
+    group("a few tiny scripts with marks", |random| {
+        marks::into(random, tiny::a_few)
+    }),
 ];
 
 pub const CHAINS_ONCE: Groups<u8> = &[group("the lines of 104", chains::lines_of_104)];
@@ -132,7 +186,29 @@ pub const CHAINS: Groups<u8> = &[
     group("15 to 60 matches", chains::many_pieces),
 ];
 
-pub const CHAINS_OF_FEW_ROWS: Groups<u8> = &[group("up to three matches", chains::a_few)];
+pub const CHAINS_WITH_MARKS: Groups<u8> = &[
+    group("direct pieces in few letters, with marks", |random| {
+        marks::into(random, chains::few_letters)
+    }),
+    group("equally long matches on a grid, with marks", |random| {
+        marks::into(random, chains::on_a_grid)
+    }),
+    group("15 to 60 matches, with marks", |random| {
+        marks::into(random, chains::many_pieces)
+    }),
+    group("overlaps, with marks", |random| {
+        marks::into(random, shapes::overlaps)
+    }),
+    group("few matches in many letters, with marks", marks::among_few),
+    group("many marks that no match spans", marks::unspanned),
+];
+
+pub const CHAINS_OF_FEW_ROWS: Groups<u8> = &[
+    group("up to three matches", chains::a_few),
+    group("up to three matches, with marks", |random| {
+        marks::into(random, chains::a_few)
+    }),
+];
 
 pub const LARGE: Groups<u8> = &[
     group("zigzags of up to 3,000 rows", large::zigzags),
@@ -145,6 +221,26 @@ pub const LARGE: Groups<u8> = &[
     group("many matches, few overlaps", large::few_overlaps),
     group("2,048 matches that share no letter", large::no_overlaps),
     group("more pieces than any table holds", large::too_many_pieces),
+];
+
+pub const LARGE_WITH_MARKS: Groups<u8> = &[
+    group(
+        "31 to 33, 63 to 65 and 255 to 257 matches, cut by a mark",
+        large::columns_cut_by_a_mark,
+    ),
+    group(
+        "3,000 rows and one more by a mark",
+        large::one_row_by_a_mark,
+    ),
+    group("1,000 to 3,001 rows in blocks, with marks", |random| {
+        marks::into(random, large::blocks)
+    }),
+    group("many matches, few overlaps, with marks", |random| {
+        marks::into(random, large::few_overlaps)
+    }),
+    group("2,048 matches that share no letter, with marks", |random| {
+        marks::into(random, large::no_overlaps)
+    }),
 ];
 
 pub const LONG_ONCE: Groups<u8> = &[
@@ -164,6 +260,26 @@ pub const LONG_EACH_ROUND: Groups<u8> = &[
     group("many cuts in a late turn", long::crowds),
 ];
 
+pub const LONG_ONCE_WITH_MARKS: Groups<u8> = &[
+    group("33 to 2,048 matches that overlap, with marks", |random| {
+        marks::into(random, long::overlapping)
+    }),
+    group(
+        "many cuts in a late turn, up to 2,048 matches, with marks",
+        |random| marks::into(random, long::large_crowds),
+    ),
+];
+
+pub const LONG_WITH_MARKS: Groups<u8> = &[
+    group("zigzags beside 25 matches and more, with marks", |random| {
+        marks::into(random, long::walkers)
+    }),
+    group(
+        "staircases that only marks cut",
+        long::staircases_cut_by_marks,
+    ),
+];
+
 pub const SHAPES: Groups<u8> = &[
     group("up to five matches in 5 letters", tiny::sampled),
     group("overlaps", shapes::overlaps),
@@ -173,6 +289,35 @@ pub const SHAPES: Groups<u8> = &[
     group("zigzags", shapes::zigzags),
     group("staircases", shapes::staircases),
     group("long matches and few cuts", shapes::long_matches),
+];
+
+pub const SHAPES_WITH_MARKS: Groups<u8> = &[
+    group("up to five matches in 5 letters, with marks", |random| {
+        marks::into(random, tiny::sampled)
+    }),
+    group("overlaps, with marks", |random| {
+        marks::into(random, shapes::overlaps)
+    }),
+    group("nested matches, with marks", |random| {
+        marks::into(random, shapes::nested)
+    }),
+    group("the same match several times, with marks", |random| {
+        marks::into(random, shapes::identical)
+    }),
+    group("palindromes, with marks", |random| {
+        marks::into(random, shapes::palindromes)
+    }),
+    group("zigzags, with marks", |random| {
+        marks::into(random, shapes::zigzags)
+    }),
+    group("staircases, with marks", |random| {
+        marks::into(random, shapes::staircases)
+    }),
+    group("long matches and few cuts, with marks", |random| {
+        marks::into(random, shapes::long_matches)
+    }),
+    group("few matches in many letters, with marks", marks::among_few),
+    group("many marks that no match spans", marks::unspanned),
 ];
 
 pub const FAULTS: Groups<u8> = &[

@@ -1,41 +1,46 @@
-//! Lists for the writer, good and faulty: p, q and behind them the numbers of the records.
+//! Lists for the writer, good and faulty, with and without marks.
 
 use super::edges::{telling_lengths, telling_operands, SOME_LENGTHS};
 use super::faults::{
     bad_lengths, match_beyond_a, match_beyond_b, match_of_no_letter, match_of_several_faults,
 };
-use super::good::{good_match, sequence_length, LONGEST};
+use super::good::{good_mark, good_match, sequence_length, LONGEST};
 use crate::draft::DraftMatch;
+use crate::list;
 use crate::random::Random;
-use crate::slow::records::NUMBERS_OF_A_RECORD;
+use crate::slow::records::{NUMBERS_OF_A_MARK, NUMBERS_OF_A_RECORD};
 use crate::slow::script::MOST_MATCHES;
 
-type Record = [u32; NUMBERS_OF_A_RECORD];
+pub type Record = [u32; NUMBERS_OF_A_RECORD];
+pub type MarkRecord = [u32; NUMBERS_OF_A_MARK];
 
 #[derive(Clone)]
-struct List {
-    p: u32,
-    q: u32,
-    records: Vec<Record>,
+pub struct List {
+    pub p: u32,
+    pub q: u32,
+    pub records: Vec<Record>,
+    pub marks: Vec<MarkRecord>,
 }
 
 impl List {
-    fn numbers(&self) -> Vec<u32> {
-        [&[self.p, self.q], self.records.as_flattened()].concat()
+    pub fn numbers(&self) -> Vec<u32> {
+        self.numbers_and(&[], &[])
     }
 
-    /// Behind the last record some numbers that form none.
-    fn numbers_and(&self, others: &[u32]) -> Vec<u32> {
-        [self.numbers().as_slice(), others].concat()
+    /// Behind the last record some numbers that form none, and behind the last mark.
+    pub fn numbers_and(&self, others: &[u32], other_of_marks: &[u32]) -> Vec<u32> {
+        let records = [self.records.as_flattened(), others].concat();
+        let marks = [self.marks.as_flattened(), other_of_marks].concat();
+        input(self.p, self.q, &records, &marks)
     }
 
-    fn with_record(&self, index: usize, record: Record) -> List {
+    pub fn with_record(&self, index: usize, record: Record) -> List {
         let mut list = self.clone();
         list.records[index] = record;
         list
     }
 
-    fn with_bad_lengths(&self, random: &mut Random) -> List {
+    pub fn with_bad_lengths(&self, random: &mut Random) -> List {
         let (p, q) = bad_lengths(random, self.p, self.q);
         List {
             p,
@@ -45,21 +50,46 @@ impl List {
     }
 }
 
+pub fn input(p: u32, q: u32, records: &[u32], marks: &[u32]) -> Vec<u32> {
+    let list = list::List {
+        p,
+        q,
+        records,
+        marks,
+    };
+    list.input()
+}
+
 fn record(m: DraftMatch) -> Record {
     [m.left_a, m.left_b, m.length, m.reversed.into()]
 }
 
-fn good_list(random: &mut Random, count: usize) -> List {
+/// Every other list has no mark.
+pub fn good_list(random: &mut Random, count: usize) -> List {
     let (p, q) = (sequence_length(random), sequence_length(random));
     let good_record = |_| record(good_match(random, p, q));
     let records = (0..count).map(good_record).collect();
-    List { p, q, records }
+    let few = random.count_between(1, 6);
+    let many = random.count_between(1, 40);
+    let marks = random.one_of(&[0, 0, few, many]);
+    let marks = (0..marks).map(|_| good_mark_record(random, p, q)).collect();
+    List {
+        p,
+        q,
+        records,
+        marks,
+    }
+}
+
+pub fn good_mark_record(random: &mut Random, p: u32, q: u32) -> MarkRecord {
+    let mark = good_mark(random, p, q);
+    [mark.side.into(), mark.position]
 }
 
 /// A record that cannot stand in a list with these p and q.
-type Fault = fn(&mut Random, u32, u32) -> Record;
+pub type Fault = fn(&mut Random, u32, u32) -> Record;
 
-const FAULTS: [Fault; 4] = [
+pub const FAULTS: [Fault; 4] = [
     |random, p, q| {
         let m = good_match(random, p, q);
         with_bad_direction(random, m)
@@ -78,10 +108,10 @@ fn with_bad_direction(random: &mut Random, m: DraftMatch) -> Record {
 
 /// The lines of the request that the list decides, and the empty list.
 pub fn lines_of_101(_: &mut Random) -> Vec<Vec<u32>> {
-    let of_ten = |numbers: &[u32]| [&[10, 10], numbers].concat();
+    let of_ten = |numbers: &[u32]| input(10, 10, numbers, &[]);
     vec![
         of_ten(&[0, 0, 6, 0, 2, 3, 5, 1]),
-        vec![0, 10, 1, 2, 3],
+        input(0, 10, &[1, 2, 3], &[]),
         of_ten(&[1, 2, 3]),
         of_ten(&[0, 0, 0, 2]),
         of_ten(&[0, 0, 6, 0, 1, 0, u32::MAX, 0]),
@@ -96,7 +126,7 @@ pub fn lengths_at_the_limits(_: &mut Random) -> Vec<Vec<u32>> {
     let mut lists = Vec::new();
     for p in telling_lengths() {
         for q in telling_lengths() {
-            lists.extend(behind.map(|numbers| [&[p, q], numbers].concat()));
+            lists.extend(behind.map(|numbers| input(p, q, numbers, &[])));
         }
     }
     lists
@@ -109,7 +139,8 @@ pub fn record_at_the_limits(_: &mut Random) -> Vec<Vec<u32>> {
         for &left_a in &values {
             for &left_b in &values {
                 for &length in &values {
-                    let directed = |direction| vec![p, q, left_a, left_b, length, direction];
+                    let directed =
+                        |direction| input(p, q, &[left_a, left_b, length, direction], &[]);
                     lists.extend([0, 1, 2, u32::MAX].map(directed));
                 }
             }
@@ -120,18 +151,17 @@ pub fn record_at_the_limits(_: &mut Random) -> Vec<Vec<u32>> {
 
 pub fn every_tiny_list(_: &mut Random) -> Vec<Vec<u32>> {
     let records = every_tiny_record();
-    let mut lists = vec![vec![1, 1]];
+    let mut lists = vec![input(1, 1, &[], &[])];
     for first in &records {
-        let one = [&[1, 1], first.as_slice()].concat();
-        let and_a_second = |second: &Record| [one.as_slice(), second].concat();
+        let and_a_second = |second: &Record| input(1, 1, &[*first, *second].concat(), &[]);
         lists.extend(records.iter().map(and_a_second));
-        lists.push(one);
+        lists.push(input(1, 1, first, &[]));
     }
     lists
 }
 
 /// Every record of the good numbers in one letter and the first bad ones.
-fn every_tiny_record() -> Vec<Record> {
+pub fn every_tiny_record() -> Vec<Record> {
     let mut records = Vec::new();
     for left_a in 0..=1 {
         for left_b in 0..=1 {
@@ -151,7 +181,7 @@ pub fn around_the_most(random: &mut Random) -> Vec<Vec<u32>> {
             let bad_lengths = good.with_bad_lengths(random);
             for list in [&good, &bad_lengths] {
                 lists.push(list.numbers());
-                lists.extend((1..=3).map(|others| list.numbers_and(&[0; 3][..others])));
+                lists.extend((1..=3).map(|others| list.numbers_and(&[0; 3][..others], &[])));
             }
             for fault in FAULTS {
                 lists.extend(faulty_at_three_places(random, &good, fault));
@@ -172,7 +202,7 @@ pub fn few(random: &mut Random) -> Vec<Vec<u32>> {
     (0..200).map(|_| few_records(random).numbers()).collect()
 }
 
-fn few_records(random: &mut Random) -> List {
+pub fn few_records(random: &mut Random) -> List {
     let count = random.count_between(0, 20);
     good_list(random, count)
 }
@@ -195,6 +225,7 @@ pub fn telling(random: &mut Random) -> Vec<Vec<u32>> {
             p: LONGEST,
             q: LONGEST,
             records: (0..count).map(|_| telling_record(random)).collect(),
+            marks: (0..count).map(|_| telling_mark(random)).collect(),
         };
         lists.push(list.numbers());
     }
@@ -211,6 +242,11 @@ fn telling_record(random: &mut Random) -> Record {
         random.one_of(&[left, left, last])
     });
     [left_a, left_b, length, random.between(0, 1)]
+}
+
+fn telling_mark(random: &mut Random) -> MarkRecord {
+    let position = random.one_of(&[0, 1, 255, 256, 65_535, 65_536, 16_777_216, LONGEST]);
+    [random.between(0, 1), position]
 }
 
 pub fn one_fault(random: &mut Random) -> Vec<Vec<u32>> {
@@ -255,7 +291,7 @@ pub fn several_faulty(random: &mut Random) -> Vec<Vec<u32>> {
 }
 
 /// Faults in place of up to four records.
-fn faulty_list(random: &mut Random) -> List {
+pub fn faulty_list(random: &mut Random) -> List {
     let count = random.count_between(2, 20);
     let mut list = good_list(random, count);
     for _ in 0..random.between(2, 4) {
@@ -275,7 +311,8 @@ pub fn no_multiple_of_four(random: &mut Random) -> Vec<Vec<u32>> {
             let bad = good.with_bad_lengths(random);
             let bad_and_faulty = faulty.with_bad_lengths(random);
             let others = telling_numbers(random, count);
-            lists.extend([good, faulty, bad, bad_and_faulty].map(|list| list.numbers_and(&others)));
+            let with_others = |list: List| list.numbers_and(&others, &[]);
+            lists.extend([good, faulty, bad, bad_and_faulty].map(with_others));
         }
     }
     lists
@@ -299,15 +336,16 @@ pub fn noise(random: &mut Random) -> Vec<Vec<u32>> {
             let any = [random.any_u32(), random.any_u32()];
             let good = [(); 2].map(|()| sequence_length(random));
             let lengths = random.one_of(&[any, good, good]);
-            let count = random.count_between(0, 40);
-            lists.push([lengths.as_slice(), &numbers_of(random, count)].concat());
+            let counts = [40, 10].map(|most| random.count_between(0, most));
+            let [records, marks] = counts.map(|count| numbers_of(random, count));
+            lists.push(input(lengths[0], lengths[1], &records, &marks));
         }
     }
     lists
 }
 
 /// Small numbers, which often are good in a record, and some others.
-fn telling_numbers(random: &mut Random, count: usize) -> Vec<u32> {
+pub fn telling_numbers(random: &mut Random, count: usize) -> Vec<u32> {
     let telling = |_| {
         let any = random.any_u32();
         random.one_of(&[0, 0, 1, 1, 2, 3, LONGEST, u32::MAX, any])

@@ -2,7 +2,7 @@
 //! out as they can be.
 
 use super::good::LONGEST;
-use crate::draft::{Draft, DraftMatch};
+use crate::draft::{Draft, DraftMark, DraftMatch};
 use crate::random::Random;
 
 const EACH: usize = 30;
@@ -181,13 +181,17 @@ pub fn scripts(
 
 /// Lengths that just hold the matches, and the matches.
 pub fn script(matches: &[DraftMatch]) -> Vec<u8> {
+    script_with(matches, &[])
+}
+
+/// The same with marks behind.
+pub fn script_with(matches: &[DraftMatch], marks: &[DraftMark]) -> Vec<u8> {
     let p = matches.iter().map(|m| m.left_a + m.length).max();
     let q = matches.iter().map(|m| m.left_b + m.length).max();
     let start = Draft::lengths(p.unwrap_or(1), q.unwrap_or(1));
-    matches
-        .iter()
-        .fold(start, |draft, &m| draft.matching(m))
-        .end()
+    let matched = matches.iter().fold(start, |draft, &m| draft.matching(m));
+    let marked = marks.iter().fold(matched, |draft, &m| draft.marking(m));
+    marked.end()
 }
 
 /// The same matches at the ends of the longest sequences.

@@ -1,7 +1,7 @@
 //! Scripts of a few letters: all of a kind, or some.
 
 use super::good;
-use crate::draft::{Draft, DraftMatch};
+use crate::draft::{Draft, DraftMark, DraftMatch};
 use crate::random::Random;
 
 pub fn every_pair(_: &mut Random) -> Vec<Vec<u8>> {
@@ -33,6 +33,54 @@ pub fn every_triple(_: &mut Random) -> Vec<Vec<u8>> {
         }
     }
     scripts
+}
+
+/// Every script of one match and up to two marks in 3 letters; the marks are by turns before, around and behind.
+pub fn every_match_and_marks(_: &mut Random) -> Vec<Vec<u8>> {
+    let marks = every_mark(3);
+    let mut scripts = Vec::new();
+    for &m in &every_match(3) {
+        for &first in &marks {
+            let start = || Draft::lengths(3, 3);
+            scripts.push(start().marking(first).matching(m).end());
+            scripts.push(start().matching(m).marking(first).end());
+            for (n, &second) in marks.iter().enumerate() {
+                let draft = match n % 3 {
+                    0 => start().marking(first).marking(second).matching(m),
+                    1 => start().marking(first).matching(m).marking(second),
+                    _ => start().matching(m).marking(first).marking(second),
+                };
+                scripts.push(draft.end());
+            }
+        }
+    }
+    scripts
+}
+
+/// Every script of two matches and a mark in 3 letters, which is by turns before, between and behind.
+pub fn every_pair_and_mark(_: &mut Random) -> Vec<Vec<u8>> {
+    let (matches, marks) = (every_match(3), every_mark(3));
+    let mut scripts = Vec::new();
+    for &first in &matches {
+        for (n, &second) in matches.iter().enumerate() {
+            for (k, &mark) in marks.iter().enumerate() {
+                let start = Draft::lengths(3, 3);
+                let draft = match (n + k) % 3 {
+                    0 => start.marking(mark).matching(first).matching(second),
+                    1 => start.matching(first).marking(mark).matching(second),
+                    _ => start.matching(first).matching(second).marking(mark),
+                };
+                scripts.push(draft.end());
+            }
+        }
+    }
+    scripts
+}
+
+/// Every mark on two sequences of so many letters.
+fn every_mark(letters: u32) -> Vec<DraftMark> {
+    let on = |side| (0..=letters).map(move |position| DraftMark { side, position });
+    on(0).chain(on(1)).collect()
 }
 
 /// Every match between two sequences of so many letters.

@@ -47,7 +47,7 @@ pub fn chain(bytes: &[u8], price: u32, lent: Buffers) -> Result<Chained, Refusal
     lent.scores.fill(0);
     let mut pieces = Vec::new();
     let least = |most| {
-        pieces = refinement::least(&script.matches, most)?;
+        pieces = refinement::least(&script.matches, &script.marks, most)?;
         Some(pieces.clone())
     };
     let rows = refine_admitted(least, lent.table, lent.work)?;

@@ -1,7 +1,7 @@
-//! 01, "Resolved refinement": the least one, from the cuts on both sides.
+//! 01, "Resolved refinement", with the marks of 02, #106: the least one, from the cuts on both sides.
 
 use super::carrying::Side;
-use super::script::Match;
+use super::script::{Mark, Match};
 use std::collections::BTreeSet;
 
 /// "A piece is a match number, a left-A, a left-B, a length of at least 1 and the match's
@@ -18,12 +18,13 @@ pub struct Piece {
 /// The least resolved refinement in the table's order, or none if it has more than `most` pieces.
 /// "begin with the ends of all matches. A new cut on A is carried over to B by every match that
 /// spans it, and each new cut on B is carried over to A in the same way, until neither side gains
-/// one."
+/// one." #106: "a resolved refinement has all spanned marks among its cuts, least and equal being judged
+/// among such refinements only", so these marks are among the first cuts too.
 ///
 /// The pieces are counted in the end, and on the way whenever the cuts have doubled: no cut is ever
 /// taken away, so once they make too many pieces, they make too many in the end.
-pub fn least(matches: &[Match], most: usize) -> Option<Vec<Piece>> {
-    let mut cuts = Cuts::ends_of(matches);
+pub fn least(matches: &[Match], marks: &[Mark], most: usize) -> Option<Vec<Piece>> {
+    let mut cuts = Cuts::ends_of(matches).with(&Cuts::spanned(marks, matches));
     let mut new = cuts.clone();
     let mut next_count = 0;
     loop {
@@ -58,6 +59,20 @@ impl Cuts {
             a: ends(Side::A).collect(),
             b: ends(Side::B).collect(),
         }
+    }
+
+    /// "A mark that some match spans must be a cut; others change nothing."
+    fn spanned(marks: &[Mark], matches: &[Match]) -> Cuts {
+        let mut cuts = Cuts::default();
+        for mark in marks {
+            if matches.iter().any(|m| mark.is_spanned_by(m)) {
+                match mark.side {
+                    Side::A => cuts.a.insert(mark.position),
+                    Side::B => cuts.b.insert(mark.position),
+                };
+            }
+        }
+        cuts
     }
 
     fn len(&self) -> usize {
@@ -122,6 +137,13 @@ impl Cuts {
             }
         }
         pieces
+    }
+}
+
+impl Mark {
+    /// On the mark's own side, both ends included.
+    pub fn is_spanned_by(&self, m: &Match) -> bool {
+        m.span(self.side).contains(&self.position)
     }
 }
 

@@ -24,6 +24,9 @@ pub enum Word {
     BufferTooShort = 16,
     PriceTooHigh = 17,
     ChainTooShort = 18,
+    TooManyMarks = 19,
+    NoSuchSide = 20,
+    MarkBeyond = 21,
 }
 
 /// "A refusal returns its number and a place."
@@ -43,7 +46,7 @@ impl Refusal {
         answer.as_ref().err().map_or(0, |refusal| refusal.number())
     }
 
-    /// One that is found at no command and at no record: its place is 0.
+    /// One that is found at no command, at no record and at no mark: its place is 0.
     pub fn of_the_call(word: Word) -> Refusal {
         Refusal { word, place: 0 }
     }

@@ -4,8 +4,8 @@ use super::refusal::Refusal;
 use super::script::{self, Script};
 use super::table::{refine, summary, Summary, NUMBERS_OF_A_ROW, WORK_OF_A_ROW};
 
-/// "The program reads standard input up to 26,635 bytes".
-pub const MOST_BYTES: usize = 26_635;
+/// 02, #106: "The program reads up to 29,707 bytes."
+pub const MOST_BYTES: usize = 29_707;
 /// ".. with a table of 3,000 rows."
 pub const ROWS: usize = 3_000;
 

@@ -1,5 +1,7 @@
-//! 01, "The script": from bytes to a script, or to the first fault's refusal.
+//! 01, "The script": from bytes to a script, or to the first fault's refusal. Its marks are those of 02, #106,
+//! "Marker positions as cuts".
 
+use super::carrying::Side;
 use super::refusal::{Refusal, Word};
 
 /// "4C, lengths: p, then q."
@@ -9,11 +11,15 @@ pub const DIRECT: u8 = 0x44;
 pub const REVERSED: u8 = 0x52;
 /// "45, end. No operand, nothing after it."
 pub const END: u8 = 0x45;
+/// "New command 4D, mark: one byte for the side (0 A, 1 B) and a position of four bytes"
+pub const MARK: u8 = 0x4D;
 
 /// "p and q are 1 to 1,000,000,000."
 pub const LONGEST_SEQUENCE: u64 = 1_000_000_000;
 /// "A script has 0 to 2,048 matches."
 pub const MOST_MATCHES: usize = 2_048;
+/// "0 to 512 marks, mixed with matches, without match numbers"
+pub const MOST_MARKS: usize = 512;
 
 /// An admitted script. Match number n of 01 is `matches[n - 1]`.
 #[derive(Clone, Debug, PartialEq, Eq)]
@@ -21,6 +27,8 @@ pub struct Script {
     pub p: u64,
     pub q: u64,
     pub matches: Vec<Match>,
+    /// In script order.
+    pub marks: Vec<Mark>,
 }
 
 #[derive(Clone, Copy, Debug, PartialEq, Eq)]
@@ -29,6 +37,12 @@ pub struct Match {
     pub left_b: u64,
     pub length: u64,
     pub reversed: bool,
+}
+
+#[derive(Clone, Copy, Debug, PartialEq, Eq)]
+pub struct Mark {
+    pub side: Side,
+    pub position: u64,
 }
 
 impl Script {
@@ -56,6 +70,7 @@ pub fn read(bytes: &[u8]) -> Result<Script, Refusal> {
             Some(LENGTHS) => return refused(Word::SecondLengths),
             Some(DIRECT) => read_match(&mut cursor, place, false, &mut script)?,
             Some(REVERSED) => read_match(&mut cursor, place, true, &mut script)?,
+            Some(MARK) => read_mark(&mut cursor, place, &mut script)?,
             Some(END) => break,
             Some(_) => return refused(Word::UnknownCommand),
         }
@@ -84,8 +99,12 @@ fn read_lengths(cursor: &mut Cursor) -> Result<Script, Refusal> {
             return Err(refused(Word::LengthOutOfRange));
         }
     }
-    let matches = Vec::new();
-    Ok(Script { p, q, matches })
+    Ok(Script {
+        p,
+        q,
+        matches: Vec::new(),
+        marks: Vec::new(),
+    })
 }
 
 /// The match whose command byte stands at `place` and was just read. "At a match: 6, 3, 7, 8, 9."
@@ -117,6 +136,26 @@ fn read_match(
         length,
         reversed,
     });
+    Ok(())
+}
+
+/// The mark whose command byte stands at `place` and was just read. "at a mark: 19, 3, 20, 21"
+fn read_mark(cursor: &mut Cursor, place: usize, script: &mut Script) -> Result<(), Refusal> {
+    let refused = |word| Refusal { word, place };
+    if script.marks.len() == MOST_MARKS {
+        return Err(refused(Word::TooManyMarks));
+    }
+    let side = cursor.next_byte().ok_or(refused(Word::CutShort))?;
+    let position = cursor.next_number().ok_or(refused(Word::CutShort))?;
+    let (side, letters) = match side {
+        0 => (Side::A, script.p),
+        1 => (Side::B, script.q),
+        _ => return Err(refused(Word::NoSuchSide)),
+    };
+    if position > letters {
+        return Err(refused(Word::MarkBeyond));
+    }
+    script.marks.push(Mark { side, position });
     Ok(())
 }
 

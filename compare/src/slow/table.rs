@@ -19,7 +19,7 @@ pub const CLASSES: usize = 30;
 /// The refining call: the count of rows. "Refining: the script, 11, 12."
 pub fn refine(bytes: &[u8], table: &mut [u32], work: &mut [u32]) -> Result<usize, Refusal> {
     let script = script::read(bytes)?;
-    let least = |capacity| refinement::least(&script.matches, capacity);
+    let least = |capacity| refinement::least(&script.matches, &script.marks, capacity);
     refine_admitted(least, table, work)
 }
 
