@@ -3,7 +3,8 @@
 # archive that `rt staticlib capi` writes. Its last line is 'bindings: N runs, 0 differences', and its exit status 0,
 # only if the header compiles without a warning, the declarations for Rust agree with it, every constant of the header
 # is provoked and is what it says, all tests of the wrapper pass, every table and every backbone that is printed is the
-# slow program's, lists and scripts turn into each other and back, and each wrong list is refused in its line.
+# slow program's, lists and scripts turn into each other and back, each wrong list is refused in its line, and markers
+# stand where they must.
 set -euo pipefail
 
 # What the caller's environment says must not change what is tested: only what the tools need to be found is kept.
@@ -23,9 +24,9 @@ wrapper=("${offline[@]}" --manifest-path bindings/rust/Cargo.toml --target-dir b
 
 # None of these may become fewer unseen: the header's constants, the wrapper's tests, the examples, those of them with a
 # backbone beside them.
-least_constants=27
-least_tests=62
-least_examples=22
+least_constants=33
+least_tests=79
+least_examples=26
 least_backbones=5
 
 runs=0
@@ -94,9 +95,11 @@ runs=$((runs + 2))
 echo 'bindings: the example programs'
 cc -std=c99 -O2 "${warnings[@]}" -Iinclude examples/c/print_table.c "$archive" -o "$scratch/in_c"
 cc -std=c99 -O2 "${warnings[@]}" -Iinclude examples/c/chain.c "$archive" -o "$scratch/chain_in_c"
-cargo build "${wrapper[@]}" --example print_table --example list --example chain
+cc -std=c99 -O2 "${warnings[@]}" -Iinclude examples/c/markers.c "$archive" -o "$scratch/markers_in_c"
+cargo build "${wrapper[@]}" --example print_table --example list --example chain --example markers
 cp bindings/rust/target/release/examples/print_table "$scratch/in_rust"
 cp bindings/rust/target/release/examples/chain "$scratch/chain_in_rust"
+cp bindings/rust/target/release/examples/markers "$scratch/markers_in_rust"
 cp bindings/rust/target/release/examples/list "$scratch/list"
 cargo build "${offline[@]}" --manifest-path compare/Cargo.toml --target-dir compare/target --bin slow
 
@@ -163,28 +166,50 @@ wrong() { # LINE WORDS TEXT
     refuses 1 "list: $scratch/wrong.tsv: line $1: $2" to-script "$scratch/wrong.tsv"
 }
 
-# The list of an admitted script, by its bytes.
-list_of() { # SCRIPT
+# The list of an admitted script, by its bytes: its lines in the order of the script.
+lines_of() { # SCRIPT
     od -An -v -tu1 -w1 "$1" | awk '
         function number(at) { return byte[at] + 256 * (byte[at + 1] + 256 * (byte[at + 2] + 256 * byte[at + 3])) }
         { byte[NR - 1] = $1 }
         END {
             printf "lengths\t%d\t%d\n", number(1), number(5)
-            for (at = 9; at < NR - 1; at += 13)
-                printf "%d\t%d\t%d\t%s\n", number(at + 1), number(at + 5), number(at + 9), byte[at] == 68 ? "+" : "-"
+            for (at = 9; at < NR - 1; at += byte[at] == 77 ? 6 : 13)
+                if (byte[at] == 77)
+                    printf "mark\t%s\t%d\n", byte[at + 1] == 0 ? "A" : "B", number(at + 2)
+                else
+                    printf "%d\t%d\t%d\t%s\n", number(at + 1), number(at + 5), number(at + 9),
+                        byte[at] == 68 ? "+" : "-"
         }'
+}
+
+# The same list with its marks behind its matches, as to-list writes it.
+marks_last() { # LIST
+    sed '/^mark/d' "$1"
+    sed -n '/^mark/p' "$1"
+}
+
+# A refusal that is found in a script's bytes.
+is_of_bytes() { # NUMBER
+    [ "$1" -le 10 ] || { [ "$1" -ge 19 ] && [ "$1" -le 21 ]; }
 }
 
 echo 'bindings: every example to its list and back'
 while read -r script; do
     read -r word number place < "${script%.script}.txt"
-    if [ "$word" = refused ] && [ "$number" -le 10 ]; then
+    if [ "$word" = refused ] && is_of_bytes "$number"; then
         refuses 1 "list: $script: refused as " to-list "$script"
         grep -qF " ($number) at byte $place: " "$scratch/said" || fail "list refuses $script otherwise"
-    else
-        list_of "$script" > "$scratch/there.tsv"
-        turns "$scratch/there.tsv" to-list "$script"
+        continue
+    fi
+    lines_of "$script" > "$scratch/there.tsv"
+    marks_last "$scratch/there.tsv" > "$scratch/ordered.tsv"
+    turns "$scratch/ordered.tsv" to-list "$script"
+    # Only a script that has its matches before its marks comes back byte for byte.
+    if cmp -s "$scratch/there.tsv" "$scratch/ordered.tsv"; then
         turns "$script" to-script "$scratch/there.tsv"
+    else
+        "$scratch/list" to-script "$scratch/there.tsv" > "$scratch/ordered.script"
+        turns "$scratch/ordered.tsv" to-list "$scratch/ordered.script"
     fi
 done < "$scratch/examples"
 
@@ -195,9 +220,16 @@ matches() { # COUNT
     done
 }
 put_list edges 'lengths\t1000000000\t1\n999999999\t0\t1\t-\n0\t0\t1\t+\n'
-put_list most "lengths\t9999\t9999\n$(matches 2048)\n"
+marks() { # COUNT
+    for ((left = 0; left < $1; left++)); do
+        printf 'mark\t%s\t%s\n' "$([ $((left % 2)) -eq 0 ] && echo A || echo B)" "$left"
+    done
+}
+put_list most "lengths\t9999\t9999\n$(matches 2048)\n$(marks 512)\n"
 put_list none 'lengths\t1\t1\n'
-for name in edges most none; do
+put_list marked 'lengths\t10\t20\n2\t3\t5\t-\nmark\tB\t20\nmark\tA\t0\nmark\tA\t10\nmark\tA\t10\n'
+put_list marks 'lengths\t10\t20\nmark\tB\t20\nmark\tA\t0\n'
+for name in edges most none marked marks; do
     "$scratch/list" to-script "$scratch/$name.tsv" > "$scratch/$name.script"
     turns "$scratch/$name.tsv" to-list "$scratch/$name.script"
 done
@@ -216,6 +248,21 @@ lengths\t10\t10\r\n0\t0\t6\t+\r\n2\t3\t5\t-\r\n
 \xef\xbb\xbflengths\t10\t10\n0\t0\t6\t+\n2\t3\t5\t-\n
 #\xe9\nlengths\t010\t10\n0\t00\t6\t+\n2\t3\t5\t-\n
 END
+
+echo 'bindings: marks between the matches of a list'
+while read -r text; do
+    put_list same "$text"
+    turns "$scratch/marked.script" to-script "$scratch/same.tsv"
+done << 'END'
+lengths\t10\t20\nmark\tB\t20\n2\t3\t5\t-\nmark\tA\t0\nmark\tA\t10\nmark\tA\t10\n
+lengths\t10\t20\nmark\tB\t20\r\n# mine\nmark\tA\t00\r\nmark\tA\t10\nmark\tA\t10\n2\t3\t5\t-
+END
+
+echo 'bindings: both programs over a script with marks, whole and cut short at every byte'
+for ((bytes = 0; bytes <= $(wc -c < "$scratch/marked.script"); bytes++)); do
+    head -c "$bytes" "$scratch/marked.script" > "$scratch/cut.script"
+    hold "$scratch/cut.script"
+done
 
 echo 'bindings: wrong lists'
 good='lengths\t10\t10\n0\t0\t6\t+\n'
@@ -245,6 +292,18 @@ wrong 5 'refused as beyond A (8) at record 2: ' "${good}\n#\n5\t3\t6\t-\n9\t9\t9
 wrong 3 'refused as beyond A (8) at record 2: ' "${good}1\t3\t4294967295\t-\n"
 wrong 4 'refused as beyond B (9) at record 3: ' "${good}2\t3\t5\t-\n0\t5\t6\t-\n"
 wrong 2051 'refused as too many matches (6): ' "# mine\nlengths\t9999\t9999\n$(matches 2050)\n"
+wrong 1 'the lengths are missing: begin the list with ' 'mark\tA\t1\n'
+wrong 3 'the count of fields is 2, not 3: write the word mark, ' "${good}mark\tA\n"
+wrong 3 'the count of fields is 1, not 3: write the word mark, ' "${good}mark A 1\n"
+wrong 3 'the count of fields is 4, not 3: write the word mark, ' "${good}mark\tA\t1\t\n"
+wrong 3 'the side, "a", is none: write A or B' "${good}mark\ta\t1\n"
+wrong 3 'the side, "0", is none: write A or B' "${good}mark\t0\t1\n"
+wrong 3 'the position, "-1", is no number: ' "${good}mark\tA\t-1\n"
+wrong 3 'the position, 4294967296, does not fit 32 bits: ' "${good}mark\tA\t4294967296\n"
+wrong 4 'refused as mark beyond (21) at mark 2: ' "${good}mark\tA\t10\nmark\tA\t11\n2\t3\t5\t-\n"
+wrong 3 'refused as mark beyond (21) at mark 1: ' "${good}mark\tB\t4294967295\n"
+wrong 4 'refused as beyond A (8) at record 2: ' "${good}mark\tA\t11\n6\t3\t5\t-\n"
+wrong 515 'refused as too many marks (19): ' "${good}$(marks 514)\n"
 put_list empty '\n# nothing\n'
 refuses 1 "list: $scratch/empty.tsv: the list is empty: begin it with " to-script "$scratch/empty.tsv"
 refuses 1 'list: standard input: line 1: the lengths are missing: ' to-script < examples/two-matches.script
@@ -332,6 +391,92 @@ for program in chain_in_c chain_in_rust; do
         fail "$program does not see that it cannot write"
     fi
     grep -q '^chain: standard output: No space left' "$scratch/said" || fail "$program does not say that it cannot write"
+    runs=$((runs + 1))
+done
+
+# Lays markers, written as for the programs, on a script by hand, and makes "$scratch/laid.script" of it.
+lay() { # SCRIPT [SIDE POSITION]..
+    {
+        "$scratch/list" to-list "$1"
+        [ $# -eq 1 ] || printf 'mark\t%s\t%s\n' "${@:2}"
+    } > "$scratch/laid.tsv"
+    "$scratch/list" to-script "$scratch/laid.tsv" > "$scratch/laid.script"
+}
+
+# The count of pieces that the slow program says.
+pieces_of() { # SCRIPT
+    compare/target/release/slow < "$1" | sed -nE '2s/.* pieces ([0-9]+) .*/\1/p'
+}
+
+# Where the matches carry markers to, from the list in "$scratch/laid.tsv".
+carried() { # [SIDE POSITION]..
+    while [ $# -gt 0 ]; do
+        awk -F '\t' -v side="$1" -v at="$2" '
+            $1 == "lengths" || $1 == "mark" { next }
+            {
+                number++
+                here = side == "A" ? $1 : $2
+                there = side == "A" ? $2 : $1
+                if (here <= at + 0 && at + 0 <= here + $3) {
+                    found = 1
+                    print side, at, "match", number, side == "A" ? "B" : "A",
+                        $4 == "+" ? there + (at - here) : there + $3 - (at - here)
+                }
+            }
+            END { if (!found) print side, at, "no match" }' "$scratch/laid.tsv"
+        shift 2
+    done
+}
+
+# Both programs for markers must count the slow program's rows and carry each marker as the list says.
+hold_markers() { # SCRIPT [SIDE POSITION]..
+    lay "$@"
+    { echo "rows $(pieces_of "$1") $(pieces_of "$scratch/laid.script")" && carried "${@:2}"; } > "$scratch/wanted"
+    for program in markers_in_c markers_in_rust; do
+        "$scratch/$program" "$@" > "$scratch/got" 2> "$scratch/said" && diff "$scratch/wanted" "$scratch/got" || {
+            cat "$scratch/said"
+            fail "$program $* differs"
+        }
+        runs=$((runs + 1))
+    done
+}
+
+echo 'bindings: markers on scripts, in C and in Rust'
+hold_markers examples/two-matches.script A 1 B 7 A 9
+printf '%s\n' 'rows 8 9' 'A 1 match 1 B 1' 'B 7 match 2 A 3' 'A 9 no match' | cmp - "$scratch/got"
+hold_markers examples/two-matches.script
+for ((position = 0; position <= 10; position++)); do
+    hold_markers examples/two-matches.script A "$position" B "$position"
+done
+hold_markers "$scratch/marked.script" B 4 A 3
+hold_markers examples/no-matches.script A 0 B 1
+hold_markers examples/real/human-orang.script A 1500 A 1500 B 16499 A 16569 B 5000
+hold_markers examples/real/pylori-e.script A 80000 B 81000 A 82000 B 83000
+
+echo 'bindings: wrong markers'
+for program in markers_in_c markers_in_rust; do
+    script=examples/two-matches.script
+    refused_by "$program" 1 "markers: $script: marker 2: refused " "$script" A 10 A 11 B 11
+    grep -q 'check its position, which is counted from 0, ' "$scratch/said" || fail "$program does not say what to do"
+    refused_by "$program" 1 "markers: $scratch/marked.script: marker 1: refused " "$scratch/marked.script" B 21
+    mapfile -t many < <(printf 'A\n1\n%.0s' {1..513})
+    refused_by "$program" 1 "markers: $script: refused " "$script" "${many[@]}"
+    grep -qE 'refused (with|as .*) \(?19\)?( at 0)?: ' "$scratch/said" || fail "$program does not say 19"
+    refused=examples/refused-8-beyond-a.script
+    refused_by "$program" 1 "markers: $refused: refused " "$refused" A 1
+    refused_by "$program" 1 "markers: $scratch/far.script: No such file" "$scratch/far.script" A 1
+    refused_by "$program" 1 "markers: $scratch: Is a directory" "$scratch" A 1
+    refused_by "$program" 2 'usage: markers SCRIPT '
+    refused_by "$program" 2 'usage: markers SCRIPT ' "$script" A
+    refused_by "$program" 2 'usage: markers SCRIPT ' "$script" C 1
+    for position in '' x 1x -1 +1 ' 1' 4294967296 18446744073709551616; do
+        refused_by "$program" 2 'usage: markers SCRIPT ' "$script" A "$position"
+    done
+    if "$scratch/$program" "$script" A 1 > /dev/full 2> "$scratch/said"; then
+        fail "$program does not see that it cannot write"
+    fi
+    grep -q '^markers: standard output: No space left' "$scratch/said" ||
+        fail "$program does not say that it cannot write"
     runs=$((runs + 1))
 done
 

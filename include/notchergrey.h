@@ -12,20 +12,26 @@
  *   call is lent. What a comment does not name is kept: on success `place` keeps its value, on a refusal everything but
  *   `place` does, with three exceptions: see notchergrey_refine, notchergrey_chain and notchergrey_report.
  * - `place` becomes the offset in the script of the command that is refused, the script's length if bytes ran out where
- *   a command was due, the first extra byte for NOTCHERGREY_TAIL, and 0 for the refusals from 11 on. notchergrey_write
- *   is lent no script to read: there it becomes the record that is refused, counted from 1, or 0 if none is at fault.
+ *   a command was due, the first extra byte for NOTCHERGREY_TAIL, and 0 for the refusals from 11 to 18.
+ *   notchergrey_write is lent no script to read: there it becomes the record that is refused, counted from 1, or the
+ *   mark, counted on from the matches, or 0 if none is at fault. With n matches in the list, a place above n is mark
+ *   place - n.
  * - A thread with a stack of 512 kB may call any of them, and one with 256 kB any but notchergrey_report. Measured on
  *   x86-64, whatever the input: notchergrey_report takes at most 275 kB, notchergrey_summary 170 kB, notchergrey_refine
- *   and notchergrey_chain 110 kB, the others next to nothing. With less the program ends with a segmentation fault: each
- *   page of the stack is touched in turn, so that the page that guards its end is met and nothing behind it is
+ *   and notchergrey_chain 110 kB, the others next to nothing. With less the program ends with a segmentation fault:
+ *   each page of the stack is touched in turn, so that the page that guards its end is met and nothing behind it is
  *   overwritten.
  *
- * A script is bytes, which notchergrey_write makes of a list of matches. Its numbers have four bytes, least byte first:
+ * A script is bytes, which notchergrey_write makes of a list of matches and marks. Its numbers have four bytes, least
+ * byte first:
  *   4C p q                   the letter counts of sequences A and B, 1 to 1,000,000,000 each; first command, once
  *   44 left-A left-B length  a direct match, from left-A on of A and from left-B on of B, counted from 0
  *   52 left-A left-B length  a reversed match
+ *   4D side position         a mark: the side is one byte, 0 for A and 1 for B; the position there lies between letters
+ *                            and is counted from 0
  *   45                       the end
- * Matches are numbered from 1 in the order of the script.
+ * Matches are numbered from 1 in the order of the script. Marks may stand between them in any order, and have no such
+ * number. A mark is where a marker must sit: at an end of pieces, never inside of one. See notchergrey_refine.
  */
 #ifndef NOTCHERGREY_H
 #define NOTCHERGREY_H
@@ -40,7 +46,7 @@ extern "C" {
 /* Why a script, a list or a call is refused. Reading goes from left to right, and the first fault counts. */
 enum notchergrey_refusal {
     NOTCHERGREY_HEADLESS = 1,             /* the script is empty, or its first byte isn't 4C */
-    NOTCHERGREY_UNKNOWN_COMMAND = 2,      /* a later command byte isn't 4C, 44, 52 or 45 */
+    NOTCHERGREY_UNKNOWN_COMMAND = 2,      /* a later command byte isn't 4C, 44, 52, 4D or 45 */
     NOTCHERGREY_CUT_SHORT = 3,            /* operands incomplete, or bytes run out before 45 */
     NOTCHERGREY_SECOND_LENGTHS = 4,       /* 4C again */
     NOTCHERGREY_LENGTH_OUT_OF_RANGE = 5,  /* p or q is 0 or above 1,000,000,000 */
@@ -53,10 +59,13 @@ enum notchergrey_refusal {
     NOTCHERGREY_TOO_MANY_PIECES = 12,     /* every resolved refinement has more pieces than the table has rows */
     NOTCHERGREY_NO_SUCH_MATCH = 13,       /* the match number is 0 or above the count of matches */
     NOTCHERGREY_OFF_THE_MATCH = 14,       /* the position is outside the match on its side */
-    NOTCHERGREY_MALFORMED_RECORDS = 15,   /* the numbers are no multiple of four, or a direction is above 1 */
-    NOTCHERGREY_BUFFER_TOO_SHORT = 16,    /* the script, the records or the text do not fit into their buffer */
+    NOTCHERGREY_MALFORMED_RECORDS = 15,   /* records_len is no multiple of 4, marks_len odd, or a direction above 1 */
+    NOTCHERGREY_BUFFER_TOO_SHORT = 16,    /* the script, the records, the marks or the text do not fit */
     NOTCHERGREY_PRICE_TOO_HIGH = 17,      /* the gap price is above 1,000 */
-    NOTCHERGREY_CHAIN_TOO_SHORT = 18      /* the chain or score buffer has no number for each row of the table */
+    NOTCHERGREY_CHAIN_TOO_SHORT = 18,     /* the chain or score buffer has no number for each row of the table */
+    NOTCHERGREY_TOO_MANY_MARKS = 19,      /* there is a mark 513 */
+    NOTCHERGREY_NO_SUCH_SIDE = 20,        /* the side of a mark is above 1 */
+    NOTCHERGREY_MARK_BEYOND = 21          /* the position of a mark is above p on A, or above q on B */
 };
 
 /* A row of a table: match number, left-A, left-B, length, direction (0 direct, 1 reversed). */
@@ -65,57 +74,70 @@ enum notchergrey_refusal {
 #define NOTCHERGREY_WORK_NUMBERS 4
 /* A match in a list: left-A, left-B, length, direction (0 direct, 1 reversed). */
 #define NOTCHERGREY_RECORD_NUMBERS 4
+/* A mark in a list: side (0 A, 1 B), position. */
+#define NOTCHERGREY_MARK_NUMBERS 2
 /* The classes of lengths that a summary counts. */
 #define NOTCHERGREY_CLASSES 30
-/* The bytes of a script without matches, and those that each match adds. */
+/* The bytes of a script without matches and marks, and those that each match and each mark adds. */
 #define NOTCHERGREY_SHORTEST_SCRIPT 10
 #define NOTCHERGREY_MATCH_BYTES 13
+#define NOTCHERGREY_MARK_BYTES 6
 /* No gap price is higher. */
 #define NOTCHERGREY_MOST_PRICE 1000
-/* No script and no list has more matches. */
+/* No script and no list has more matches, nor more marks. */
 #define NOTCHERGREY_MOST_MATCHES 2048
-/* No longer script is admitted, and the first 26,635 bytes of a longer one decide how it is refused. */
-#define NOTCHERGREY_LONGEST_SCRIPT 26634
+#define NOTCHERGREY_MOST_MARKS 512
+/* No longer script is admitted, and the first 29,707 bytes of a longer one decide how it is refused. */
+#define NOTCHERGREY_LONGEST_SCRIPT 29706
 
 /*
- * Reads a script. Returns 0 and sets p, q and the count of matches, or refuses with 1 to 10.
+ * Reads a script. Returns 0 and sets p, q, the count of matches and the count of marks, or refuses with 1 to 10 or 19
+ * to 21. Each function below that reads a script begins so: these are what is called the script's refusals.
  */
 uint32_t notchergrey_read(const uint8_t *script, size_t script_len, size_t *place, uint32_t *p, uint32_t *q,
-                          size_t *count);
+                          size_t *count, size_t *mark_count);
 
 /*
  * One match of a script, by its number from 1. Returns 0 and sets its left ends, its length and `reversed` (0 or 1), or
- * refuses with 1 to 10 or 13.
+ * refuses with the script's refusals or 13.
  */
 uint32_t notchergrey_match(const uint8_t *script, size_t script_len, uint32_t number, size_t *place, uint32_t *left_a,
                            uint32_t *left_b, uint32_t *length, uint32_t *reversed);
 
 /*
- * Writes the script of a list: p, q, and the matches as records of four numbers, which are left-A, left-B, length and
- * direction (0 direct, 1 reversed). Returns 0, writes the script to the start of its buffer and sets `length` to its
- * length: NOTCHERGREY_SHORTEST_SCRIPT bytes, and NOTCHERGREY_MATCH_BYTES for each record. The bytes behind it are kept.
- * Everything is judged before the first byte is written. Refuses, in this order, with 5; with 15 if records_len is no
- * multiple of four; with 6; then record by record with 15 for its direction, 7, 8 or 9; and last of all with 16 if the
- * buffer is too short. `place` becomes the record, counted from 1, where a record is at fault, and else 0.
+ * Writes the script of a list: p, q, the matches as records of four numbers, which are left-A, left-B, length and
+ * direction (0 direct, 1 reversed), and the marks with two numbers each, which are side (0 A, 1 B) and position. In the
+ * script the marks stand behind the matches. Returns 0, writes the script to the start of its buffer and sets `length`
+ * to its length: NOTCHERGREY_SHORTEST_SCRIPT bytes, NOTCHERGREY_MATCH_BYTES for each record and NOTCHERGREY_MARK_BYTES
+ * for each mark. The bytes behind it are kept. Everything is judged before the first byte is written. Refuses, in this
+ * order, with 5; with 15 if records_len is no multiple of four or marks_len is odd; with 6; with 19; then record by
+ * record with 15 for its direction, 7, 8 or 9; then mark by mark with 20 or 21; and last of all with 16 if the buffer
+ * is too short. `place` becomes the record, counted from 1, where a record is at fault, the count of records and the
+ * mark, counted from 1, together where a mark is, and else 0.
  */
-uint32_t notchergrey_write(uint32_t p, uint32_t q, const uint32_t *records, size_t records_len, uint8_t *script,
-                           size_t script_len, size_t *place, size_t *length);
+uint32_t notchergrey_write(uint32_t p, uint32_t q, const uint32_t *records, size_t records_len, const uint32_t *marks,
+                           size_t marks_len, uint8_t *script, size_t script_len, size_t *place, size_t *length);
 
 /*
- * Reads a script back into its list. Returns 0, sets p, q and the count of matches, and writes their records, 4 * count
- * numbers, to the start of the buffer; the numbers behind them are kept. Refuses with 1 to 10, or with 16 if the buffer
- * is too short; notchergrey_read tells the count beforehand. It undoes notchergrey_write and is undone by it: the
- * script of these records is this script, byte for byte, and a script that was written gives back the records that it
- * was written from.
+ * Reads a script back into its list. Returns 0, sets p, q, the count of matches and the count of marks, and writes the
+ * records of the matches, 4 * count numbers, and the marks, 2 * mark_count numbers, each to the start of its buffer, in
+ * the order of the script; the numbers behind them are kept. Refuses with the script's refusals, or with 16 if either
+ * buffer is too short; notchergrey_read tells the counts beforehand. It undoes notchergrey_write: a script that was
+ * written gives back the list that it was written from. It is undone by it where the script has all its matches before
+ * its marks: the script of such a list is this script, byte for byte. Where a mark stands before a match, the script
+ * that is written says the same with the marks behind.
  */
 uint32_t notchergrey_read_records(const uint8_t *script, size_t script_len, uint32_t *records, size_t records_len,
-                                  size_t *place, uint32_t *p, uint32_t *q, size_t *count);
+                                  uint32_t *marks, size_t marks_len, size_t *place, uint32_t *p, uint32_t *q,
+                                  size_t *count, size_t *mark_count);
 
 /*
  * Makes the piece table of a script. The table has room for table_len / 5 rows; work needs four numbers for each of
  * them. Returns 0, writes the rows to the table's start, by match number and then by left-A, and sets `rows` to their
- * count; the numbers behind them are kept, and all of work is zero. Refuses with 1 to 10, 11 or 12. On 12 all of work
- * is zero too, and the table is kept: lend a larger one.
+ * count; the numbers behind them are kept, and all of work is zero. A mark that some match spans on the mark's side,
+ * both ends of the match included, is an end of pieces, so that no piece has it inside: the table is the least of those
+ * that are so. A mark that no match spans there changes nothing, and neither does one that stands twice. Refuses with
+ * the script's refusals, 11 or 12. On 12 all of work is zero too, and the table is kept: lend a larger one.
  */
 uint32_t notchergrey_refine(const uint8_t *script, size_t script_len, uint32_t *table, size_t table_len,
                             uint32_t *work, size_t work_len, size_t *place, size_t *rows);
@@ -126,10 +148,10 @@ uint32_t notchergrey_refine(const uint8_t *script, size_t script_len, uint32_t *
  * sum of its lengths, less `price` times the letters skipped on A and on B between neighbours. No chain scores more;
  * among equals it is the one whose list of row numbers comes first. The table has room for table_len / 5 rows; work
  * needs four numbers for each of them, chain and scores one. Returns 0, leaves table and work as notchergrey_refine
- * does, writes the row numbers, from 1, to the start of chain, and sets `score`, `rows` to the count of the table's rows
- * and `length` to that of the chain's; the numbers behind the chain are kept, and all of scores is zero. With no direct
- * piece score and length are 0. Refuses with 1 to 10, 11, 17, 18 or 12, in this order. On 12 all of work and of scores
- * is zero, and the table and the chain are kept.
+ * does, writes the row numbers, from 1, to the start of chain, and sets `score`, `rows` to the count of the table's
+ * rows and `length` to that of the chain's; the numbers behind the chain are kept, and all of scores is zero. With no
+ * direct piece score and length are 0. Refuses with the script's refusals, 11, 17, 18 or 12, in this order. On 12 all
+ * of work and of scores is zero, and the table and the chain are kept.
  */
 uint32_t notchergrey_chain(const uint8_t *script, size_t script_len, uint32_t price, uint32_t *table, size_t table_len,
                            uint32_t *work, size_t work_len, uint32_t *chain, size_t chain_len, uint32_t *scores,
@@ -137,7 +159,7 @@ uint32_t notchergrey_chain(const uint8_t *script, size_t script_len, uint32_t pr
 
 /*
  * Carries a position of A, between letters and counted from 0, to B over one match, by its number from 1; both ends of
- * the match can be carried. Returns 0 and sets `carried`, or refuses with 1 to 10, 13 or 14.
+ * the match can be carried. Returns 0 and sets `carried`, or refuses with the script's refusals, 13 or 14.
  */
 uint32_t notchergrey_carry_from_a(const uint8_t *script, size_t script_len, uint32_t number, uint32_t position,
                                   size_t *place, uint32_t *carried);

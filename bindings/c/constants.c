@@ -14,10 +14,12 @@
 /* What a script is made of, in bytes, and its limits. Nothing here is taken from the header. */
 #define LENGTHS_BYTES 9
 #define MATCH_BYTES 13
+#define MARK_BYTES 6
 #define MOST_MATCHES 2048
+#define MOST_MARKS 512
 #define MOST_LETTERS UINT32_C(1000000000)
 
-static uint8_t script[LENGTHS_BYTES + (MOST_MATCHES + 1) * MATCH_BYTES + 1];
+static uint8_t script[LENGTHS_BYTES + (MOST_MATCHES + 1) * MATCH_BYTES + (MOST_MARKS + 1) * MARK_BYTES + 1];
 static size_t script_len;
 
 /* Room for the two matches of two_matches as records and as a script. */
@@ -26,6 +28,11 @@ static size_t script_len;
 #define WRITTEN_LEN (NOTCHERGREY_SHORTEST_SCRIPT + MATCHES * NOTCHERGREY_MATCH_BYTES)
 static uint32_t records[(MOST_MATCHES + 1) * NOTCHERGREY_RECORD_NUMBERS];
 static uint8_t written[sizeof script];
+
+/* Room for the two marks of two_marks. */
+#define MARKS 2
+#define MARKS_LEN (MARKS * NOTCHERGREY_MARK_NUMBERS)
+static uint32_t marks[(MOST_MARKS + 1) * NOTCHERGREY_MARK_NUMBERS];
 
 /* Room for the eight rows of two_matches. */
 #define ROWS 8
@@ -86,6 +93,25 @@ static void many_matches(int count)
         match('D', 0, 0, 1);
 }
 
+static void mark(uint8_t side, uint32_t position)
+{
+    put('M');
+    put(side);
+    put_number(position);
+}
+
+static void two_marks(void)
+{
+    mark(0, 1);
+    mark(1, 7);
+}
+
+static void many_marks(int count)
+{
+    for (int at = 0; at < count; at++)
+        mark(1, MOST_LETTERS);
+}
+
 static void record(size_t number, uint32_t left_a, uint32_t left_b, uint32_t length, uint32_t direction)
 {
     uint32_t *const first = &records[(number - 1) * NOTCHERGREY_RECORD_NUMBERS];
@@ -105,6 +131,25 @@ static void many_records(size_t count)
 {
     for (size_t number = 1; number <= count; number++)
         record(number, 0, 0, 1, 0);
+}
+
+static void listed_mark(size_t number, uint32_t side, uint32_t position)
+{
+    uint32_t *const first = &marks[(number - 1) * NOTCHERGREY_MARK_NUMBERS];
+    first[0] = side;
+    first[1] = position;
+}
+
+static void two_listed_marks(void)
+{
+    listed_mark(1, 0, 1);
+    listed_mark(2, 1, 7);
+}
+
+static void many_listed_marks(size_t count)
+{
+    for (size_t number = 1; number <= count; number++)
+        listed_mark(number, 1, MOST_LETTERS);
 }
 
 static void ensure(int holds, const char *name, const char *what)
@@ -128,9 +173,9 @@ static void ensure_refused(struct refusal wanted, uint32_t number, size_t place,
 
 static void refused_by_read(struct refusal wanted)
 {
-    size_t place = NOWHERE, count;
+    size_t place = NOWHERE, count, mark_count;
     uint32_t p, q;
-    const uint32_t number = notchergrey_read(script, script_len, &place, &p, &q, &count);
+    const uint32_t number = notchergrey_read(script, script_len, &place, &p, &q, &count, &mark_count);
     ensure_refused(wanted, number, place, "notchergrey_read");
 }
 
@@ -170,33 +215,35 @@ static void refused_by_carry(struct refusal wanted, uint32_t of, uint32_t positi
     ensure_refused(wanted, number, place, "notchergrey_carry_from_b");
 }
 
-static void refused_by_read_records(struct refusal wanted, size_t records_len)
+static void refused_by_read_records(struct refusal wanted, size_t records_len, size_t marks_len)
 {
-    size_t place = NOWHERE, count;
+    size_t place = NOWHERE, count, mark_count;
     uint32_t p, q;
-    const uint32_t number = notchergrey_read_records(script, script_len, records, records_len, &place, &p, &q,
-                                                     &count);
+    const uint32_t number = notchergrey_read_records(script, script_len, records, records_len, marks, marks_len, &place,
+                                                     &p, &q, &count, &mark_count);
     ensure_refused(wanted, number, place, "notchergrey_read_records");
 }
 
-static void refused_by_write(struct refusal wanted, uint32_t p, uint32_t q, size_t records_len, size_t written_len)
+static void refused_by_write(struct refusal wanted, uint32_t p, uint32_t q, size_t records_len, size_t marks_len,
+                             size_t written_len)
 {
     size_t place = NOWHERE, length;
-    const uint32_t number = notchergrey_write(p, q, records, records_len, written, written_len, &place, &length);
+    const uint32_t number = notchergrey_write(p, q, records, records_len, marks, marks_len, written, written_len,
+                                              &place, &length);
     ensure_refused(wanted, number, place, "notchergrey_write");
 }
 
-/* Two records of sequences of ten letters. */
-static void refused_records(struct refusal wanted)
+/* Two records and two marks of sequences of ten letters. */
+static void refused_list(struct refusal wanted)
 {
-    refused_by_write(wanted, 10, 10, RECORDS_LEN, WRITTEN_LEN);
+    refused_by_write(wanted, 10, 10, RECORDS_LEN, MARKS_LEN, sizeof written);
 }
 
 /* Every door that reads a script refuses this one alike. */
 static void refused_script(struct refusal wanted)
 {
     refused_by_read(wanted);
-    refused_by_read_records(wanted, RECORDS_LEN);
+    refused_by_read_records(wanted, RECORDS_LEN, MARKS_LEN);
     refused_by_match(wanted, 1);
     refused_by_refine(wanted, TABLE_LEN, WORK_LEN);
     refused_by_chain(wanted, 0, TABLE_LEN, WORK_LEN, ROWS, ROWS);
@@ -244,6 +291,20 @@ static void hold_refusals_of_scripts(void)
     put('E');
     put('E');
     refused_script(REFUSAL(NOTCHERGREY_TAIL, third + 1));
+
+    lengths(10, MOST_LETTERS);
+    many_marks(MOST_MARKS);
+    put('M');
+    refused_script(REFUSAL(NOTCHERGREY_TOO_MANY_MARKS, first + MOST_MARKS * MARK_BYTES));
+
+    two_matches();
+    mark(2, 0);
+    refused_script(REFUSAL(NOTCHERGREY_NO_SUCH_SIDE, third));
+
+    lengths(10, 20);
+    mark(1, 20);
+    mark(0, 11);
+    refused_script(REFUSAL(NOTCHERGREY_MARK_BEYOND, first + MARK_BYTES));
 }
 
 /* With the numbers that the two sizes say, neither more nor less. */
@@ -308,73 +369,108 @@ static void hold_refusals_of_carrying(void)
 static void hold_refusals_of_records(void)
 {
     two_records();
-    refused_by_write(REFUSAL(NOTCHERGREY_LENGTH_OUT_OF_RANGE, 0), 10, MOST_LETTERS + 1, RECORDS_LEN, WRITTEN_LEN);
-    refused_by_write(REFUSAL(NOTCHERGREY_MALFORMED_RECORDS, 0), 10, 10, RECORDS_LEN - 1, WRITTEN_LEN);
+    two_listed_marks();
+    refused_by_write(REFUSAL(NOTCHERGREY_LENGTH_OUT_OF_RANGE, 0), 10, MOST_LETTERS + 1, RECORDS_LEN, MARKS_LEN,
+                     WRITTEN_LEN);
+    refused_by_write(REFUSAL(NOTCHERGREY_MALFORMED_RECORDS, 0), 10, 10, RECORDS_LEN - 1, MARKS_LEN, WRITTEN_LEN);
+    refused_by_write(REFUSAL(NOTCHERGREY_MALFORMED_RECORDS, 0), 10, 10, RECORDS_LEN, MARKS_LEN - 1, WRITTEN_LEN);
 
     record(2, 2, 3, 5, 2);
-    refused_records(REFUSAL(NOTCHERGREY_MALFORMED_RECORDS, 2));
+    refused_list(REFUSAL(NOTCHERGREY_MALFORMED_RECORDS, 2));
     HELD(NOTCHERGREY_MALFORMED_RECORDS);
 
     record(2, 2, 3, 0, 1);
-    refused_records(REFUSAL(NOTCHERGREY_EMPTY_MATCH, 2));
+    refused_list(REFUSAL(NOTCHERGREY_EMPTY_MATCH, 2));
 
     record(2, 6, 3, 5, 1);
-    refused_records(REFUSAL(NOTCHERGREY_BEYOND_A, 2));
+    refused_list(REFUSAL(NOTCHERGREY_BEYOND_A, 2));
 
     record(2, 2, 6, 5, 1);
-    refused_records(REFUSAL(NOTCHERGREY_BEYOND_B, 2));
+    refused_list(REFUSAL(NOTCHERGREY_BEYOND_B, 2));
+
+    two_records();
+    listed_mark(2, 2, 7);
+    refused_list(REFUSAL(NOTCHERGREY_NO_SUCH_SIDE, MATCHES + 2));
+
+    listed_mark(2, 1, 11);
+    refused_list(REFUSAL(NOTCHERGREY_MARK_BEYOND, MATCHES + 2));
 }
 
-/* Writes these records, of the sequences of `script`, to just as many bytes as the sizes say: they are that script. */
-static void ensure_written(uint32_t letters, size_t matches, const char *name)
+/* Writes this list, of the sequences of `script`, to just as many bytes as the sizes say: they are that script. */
+static void ensure_written(uint32_t letters, size_t matches, size_t mark_count, const char *name)
 {
-    const size_t records_len = matches * NOTCHERGREY_RECORD_NUMBERS;
-    const size_t written_len = NOTCHERGREY_SHORTEST_SCRIPT + matches * NOTCHERGREY_MATCH_BYTES;
+    const size_t records_len = matches * NOTCHERGREY_RECORD_NUMBERS, marks_len = mark_count * NOTCHERGREY_MARK_NUMBERS;
+    const size_t written_len = NOTCHERGREY_SHORTEST_SCRIPT + matches * NOTCHERGREY_MATCH_BYTES +
+                               mark_count * NOTCHERGREY_MARK_BYTES;
     size_t place = NOWHERE, length = 0;
-    ensure(notchergrey_write(letters, letters, records, records_len, written, written_len, &place, &length) == 0 &&
+    ensure(notchergrey_write(letters, letters, records, records_len, marks, marks_len, written, written_len, &place,
+                             &length) == 0 &&
                length == written_len,
            name, "as many bytes as the script has");
     ensure(length == script_len && memcmp(written, script, length) == 0, name, "the bytes of the script");
-    refused_by_write(REFUSAL(NOTCHERGREY_BUFFER_TOO_SHORT, 0), letters, letters, records_len, written_len - 1);
+    refused_by_write(REFUSAL(NOTCHERGREY_BUFFER_TOO_SHORT, 0), letters, letters, records_len, marks_len,
+                     written_len - 1);
 }
 
 static void hold_writing(void)
 {
     lengths(10, 10);
     put('E');
-    ensure_written(10, 0, "NOTCHERGREY_SHORTEST_SCRIPT");
+    ensure_written(10, 0, 0, "NOTCHERGREY_SHORTEST_SCRIPT");
     HELD(NOTCHERGREY_SHORTEST_SCRIPT);
 
     two_matches();
     put('E');
     two_records();
-    ensure_written(10, MATCHES, "NOTCHERGREY_MATCH_BYTES");
+    ensure_written(10, MATCHES, 0, "NOTCHERGREY_MATCH_BYTES");
     HELD(NOTCHERGREY_MATCH_BYTES);
 
+    two_matches();
+    two_marks();
+    put('E');
+    two_listed_marks();
+    ensure_written(10, MATCHES, MARKS, "NOTCHERGREY_MARK_BYTES");
+    HELD(NOTCHERGREY_MARK_BYTES);
+
     many_matches(MOST_MATCHES);
+    many_marks(MOST_MARKS);
     put('E');
     many_records(MOST_MATCHES + 1);
+    many_listed_marks(MOST_MARKS + 1);
     ensure(NOTCHERGREY_MOST_MATCHES == MOST_MATCHES, "NOTCHERGREY_MOST_MATCHES", "2,048 matches");
-    ensure_written(MOST_LETTERS, NOTCHERGREY_MOST_MATCHES, "NOTCHERGREY_MOST_MATCHES");
-    refused_by_write(REFUSAL(NOTCHERGREY_TOO_MANY_MATCHES, 0), MOST_LETTERS, MOST_LETTERS,
-                     (NOTCHERGREY_MOST_MATCHES + 1) * NOTCHERGREY_RECORD_NUMBERS, sizeof written);
+    ensure(NOTCHERGREY_MOST_MARKS == MOST_MARKS, "NOTCHERGREY_MOST_MARKS", "512 marks");
+    ensure_written(MOST_LETTERS, NOTCHERGREY_MOST_MATCHES, NOTCHERGREY_MOST_MARKS, "NOTCHERGREY_MOST_MATCHES");
+    const size_t too_many_records = (NOTCHERGREY_MOST_MATCHES + 1) * NOTCHERGREY_RECORD_NUMBERS;
+    const size_t too_many_marks = (NOTCHERGREY_MOST_MARKS + 1) * NOTCHERGREY_MARK_NUMBERS;
+    refused_by_write(REFUSAL(NOTCHERGREY_TOO_MANY_MATCHES, 0), MOST_LETTERS, MOST_LETTERS, too_many_records,
+                     too_many_marks, sizeof written);
     HELD(NOTCHERGREY_MOST_MATCHES);
+    refused_by_write(REFUSAL(NOTCHERGREY_TOO_MANY_MARKS, 0), MOST_LETTERS, MOST_LETTERS, RECORDS_LEN, too_many_marks,
+                     sizeof written);
+    HELD(NOTCHERGREY_MOST_MARKS);
 }
 
-/* One number fewer than the records have, and then as many as they have. */
+/* One number fewer than the records have, one fewer than the marks have, and then as many as they have. */
 static void hold_reading_records(void)
 {
-    static const uint32_t wanted[] = {0, 0, 6, 0, 2, 3, 5, 1};
-    size_t place = NOWHERE, count = 0;
+    static const uint32_t wanted[] = {0, 0, 6, 0, 2, 3, 5, 1}, wanted_marks[] = {0, 1, 1, 7};
+    size_t place = NOWHERE, count = 0, mark_count = 0;
     uint32_t p, q;
     two_matches();
+    two_marks();
     put('E');
-    refused_by_read_records(REFUSAL(NOTCHERGREY_BUFFER_TOO_SHORT, 0), RECORDS_LEN - 1);
-    ensure(notchergrey_read_records(script, script_len, records, RECORDS_LEN, &place, &p, &q, &count) == 0 &&
+    refused_by_read_records(REFUSAL(NOTCHERGREY_BUFFER_TOO_SHORT, 0), RECORDS_LEN - 1, MARKS_LEN);
+    refused_by_read_records(REFUSAL(NOTCHERGREY_BUFFER_TOO_SHORT, 0), RECORDS_LEN, MARKS_LEN - 1);
+    ensure(notchergrey_read_records(script, script_len, records, RECORDS_LEN, marks, MARKS_LEN, &place, &p, &q, &count,
+                                    &mark_count) == 0 &&
                count == MATCHES && sizeof wanted == RECORDS_LEN * sizeof *records &&
                memcmp(records, wanted, sizeof wanted) == 0,
            "NOTCHERGREY_RECORD_NUMBERS", "two records");
     HELD(NOTCHERGREY_RECORD_NUMBERS);
+    ensure(mark_count == MARKS && sizeof wanted_marks == MARKS_LEN * sizeof *marks &&
+               memcmp(marks, wanted_marks, sizeof wanted_marks) == 0,
+           "NOTCHERGREY_MARK_NUMBERS", "two marks");
+    HELD(NOTCHERGREY_MARK_NUMBERS);
 }
 
 /* One byte fewer than the text has, and then as many as it has. */
@@ -424,15 +520,25 @@ static void hold_classes(void)
 /* It passes, no other script is longer, and a byte more is enough to see that one is. */
 static void hold_longest_script(void)
 {
-    size_t place = NOWHERE, count = 0;
+    size_t place = NOWHERE, count = 0, mark_count = 0;
     uint32_t p, q;
     many_matches(MOST_MATCHES);
+    many_marks(MOST_MARKS);
     put('E');
-    ensure(notchergrey_read(script, script_len, &place, &p, &q, &count) == 0 && count == MOST_MATCHES &&
-               script_len == NOTCHERGREY_LONGEST_SCRIPT,
-           "NOTCHERGREY_LONGEST_SCRIPT", "2,048 matches");
+    ensure(notchergrey_read(script, script_len, &place, &p, &q, &count, &mark_count) == 0 && count == MOST_MATCHES &&
+               mark_count == MOST_MARKS && script_len == NOTCHERGREY_LONGEST_SCRIPT,
+           "NOTCHERGREY_LONGEST_SCRIPT", "2,048 matches and 512 marks");
 
-    many_matches(MOST_MATCHES + 1);
+    many_matches(MOST_MATCHES);
+    many_marks(MOST_MARKS + 1);
+    put('E');
+    refused_by_read(REFUSAL(NOTCHERGREY_TOO_MANY_MARKS, NOTCHERGREY_LONGEST_SCRIPT - 1));
+    script_len = NOTCHERGREY_LONGEST_SCRIPT + 1;
+    refused_by_read(REFUSAL(NOTCHERGREY_TOO_MANY_MARKS, NOTCHERGREY_LONGEST_SCRIPT - 1));
+
+    many_matches(MOST_MATCHES);
+    many_marks(MOST_MARKS);
+    match('D', 0, 0, 1);
     put('E');
     refused_by_read(REFUSAL(NOTCHERGREY_TOO_MANY_MATCHES, NOTCHERGREY_LONGEST_SCRIPT - 1));
     script_len = NOTCHERGREY_LONGEST_SCRIPT + 1;

@@ -47,9 +47,9 @@ static void print_table(size_t matches, size_t rows)
 
 static void print_script(size_t script_len)
 {
-    size_t place, count, rows;
+    size_t place, count, mark_count, rows;
     uint32_t p, q;
-    uint32_t refused = notchergrey_read(script, script_len, &place, &p, &q, &count);
+    uint32_t refused = notchergrey_read(script, script_len, &place, &p, &q, &count, &mark_count);
     if (refused == 0)
         refused = notchergrey_refine(script, script_len, table, sizeof table / sizeof *table, work,
                                      sizeof work / sizeof *work, &place, &rows);

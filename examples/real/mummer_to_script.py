@@ -15,8 +15,9 @@ column before the numbers (-F, or several records in A) of which record of A. A 
 mummer's options -L, -F, -l, -n, -r and those for unique matches may be used; -s may not.
 
 Before a script is written, and in a check, each match must have the same letters in both files and must not go on at
-either end of it. --longest N keeps the N longest matches, in their order. An error is one line on standard error, with
-exit status 1, or 2 if the command is not understood.
+either end of it. A check passes over marks, which may have been laid on the script since. --longest N keeps the N
+longest matches, in their order. An error is one line on standard error, with exit status 1, or 2 if the command is not
+understood.
 """
 
 import argparse
@@ -29,7 +30,8 @@ from bisect import bisect_right
 from functools import cached_property
 from typing import NamedTuple
 
-LENGTHS, DIRECT, REVERSED, END = b"L", b"D", b"R", b"E"
+LENGTHS, DIRECT, REVERSED, MARK, END = b"L", b"D", b"R", b"M", b"E"
+LENGTHS_BYTES, MATCH_BYTES, MARK_BYTES = 9, 13, 6
 MOST_MATCHES, MOST_LETTERS = 2048, 1_000_000_000
 
 RECORD = re.compile(rb">(\S*)[^\n]*\n?([^>]*)")
@@ -260,13 +262,19 @@ def check(a, b, _):
 
 
 def matches_of_script(script, a, b):
-    if script[:9] != LENGTHS + struct.pack("<2I", len(a), len(b)) or script[-1:] != END or len(script) % 13 != 10:
+    if script[:LENGTHS_BYTES] != LENGTHS + struct.pack("<2I", len(a), len(b)) or script[-1:] != END:
         raise Failure("not a script of these two sequences: make one by convert")
-    for start in range(9, len(script) - 1, 13):
-        match = Match(*struct.unpack_from("<c3I", script, start))
-        if match.command not in (DIRECT, REVERSED):
+    start, end = LENGTHS_BYTES, len(script) - 1
+    while start < end:
+        command = script[start : start + 1]
+        if command not in (DIRECT, REVERSED, MARK):
             raise Failure(f"no match at byte {start} of the script: make it again by convert")
-        yield match
+        behind = start + (MARK_BYTES if command == MARK else MATCH_BYTES)
+        if behind > end:
+            raise Failure(f"the command at byte {start} of the script is cut short: make it again by convert")
+        if command != MARK:
+            yield Match(*struct.unpack_from("<c3I", script, start))
+        start = behind
 
 
 if __name__ == "__main__":

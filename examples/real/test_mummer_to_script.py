@@ -173,11 +173,16 @@ class Run:
         if got.returncode != 0 or got.stderr or got.stdout != script_of(files, wanted):
             self.differs(what, got)
             return
-        commands = [match[0] for match in wanted]
+        self.passes(f"{what}, checked", files, got.stdout, wanted)
+
+    def passes(self, what, files, script, matches):
+        """The check finds no fault in a script of these matches."""
+        self.write(files)
+        commands = [match[0] for match in matches]
         said = f"{commands.count('D')} direct and {commands.count('R')} reversed matches agree letter by letter"
-        checked = self.run(["check", "A.fasta", "B.fasta"], got.stdout)
+        checked = self.run(["check", "A.fasta", "B.fasta"], script)
         if checked.returncode != 0 or checked.stderr or checked.stdout.decode() != f"{said}; none could be longer\n":
-            self.differs(f"{what}, checked", checked)
+            self.differs(what, checked)
 
     def refuses(self, hint, files, matches, words=("convert", "A.fasta", "B.fasta"), status=1, **options):
         """One line on standard error with this hint, and nothing on standard output."""
@@ -271,6 +276,13 @@ def checks(run):
         run.refuses(hint, files, script, ("check", "A.fasta", "B.fasta"))
 
     good = script_of(ONE, IN_ONE)
+    marks = [struct.pack("<cBI", b"M", side, position) for side, position in ((0, 42), (1, 0x45), (1, 0x44524D45))]
+    for at in (9, 9 + 13, len(good) - 1):
+        for count in range(4):
+            laid = good[:at] + b"".join(marks[:count]) + good[at:]
+            run.passes(f"{count} marks at byte {at}", ONE, laid, IN_ONE)
+    refuses("the command at byte 35 of the script is cut short", ONE, good[:-1] + marks[0][:-1] + b"E")
+    refuses("the command at byte 22 of the script is cut short", ONE, good[:-2] + b"E")
     refuses("not a script of these two sequences", SEVERAL, good)
     refuses("not a script of these two sequences", ONE, good[:-1])
     refuses("not a script of these two sequences", ONE, b"")

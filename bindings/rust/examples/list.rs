@@ -1,15 +1,17 @@
-//! Turns a list of matches, kept as text, into a script, and a script back into its list. From the repository's root,
-//! after `rt staticlib capi`:
+//! Turns a list of matches and marks, kept as text, into a script, and a script back into its list. From the
+//! repository's root, after `rt staticlib capi`:
 //!
 //!     cargo run --manifest-path bindings/rust/Cargo.toml --example list -- to-list examples/two-matches.script >my.tsv
 //!     cargo run --manifest-path bindings/rust/Cargo.toml --example list -- to-script my.tsv >my.script
 //!
 //! The text says the letters of A and B in its first line, and one match in each line behind it: left-A, left-B,
-//! length, and `+` if it is direct or `-` if it is reversed. Between two fields stands a tab.
+//! length, and `+` if it is direct or `-` if it is reversed. A line that begins with the word `mark` is a mark instead:
+//! its side, `A` or `B`, and its position. Between two fields stands a tab.
 //!
 //! What is wrong is said on standard error, with the number of its line and what to do, and nothing is written then.
 
-use notchergrey::{read_matches, write, List, Match, Refusal, Word, MOST_MATCHES};
+use notchergrey::{read_list, write, List, Mark, Match, Refusal, Side, Word};
+use notchergrey::{MOST_MARKS, MOST_MATCHES};
 use std::env;
 use std::ffi::{OsStr, OsString};
 use std::fs::File;
@@ -19,22 +21,33 @@ use std::process::ExitCode;
 const USAGE: &str = "\
 usage: list to-script [LIST] >SCRIPT
        list to-list [SCRIPT] >LIST
-Turns a list of matches into a script, or a script into its list. Without a file it reads standard input.
+Turns a list of matches and marks into a script, or a script into its list. Without a file it reads standard input.
 A list is text with a tab between two fields. Its first line is 'lengths', the letters of A and the letters of B. Each
-line behind it is a match: left-A, left-B, length, and + if it is direct or - if it is reversed. Blank lines and lines
-that begin with # are passed over.
+line behind it is a match: left-A, left-B, length, and + if it is direct or - if it is reversed; or a mark, a position
+that must be a cut: 'mark', A or B, and the position. In the script the marks stand behind the matches. Blank lines and
+lines that begin with # are passed over.
 Exit status: 1 if the list or the script is wrong or cannot be read or written, 2 for a wrong call.";
 
 const LENGTHS: &str = "lengths";
+const MARK: &str = "mark";
 const LENGTHS_FIELDS: &str =
     "the word lengths, the letters of A and the letters of B, with a tab between two";
 const MATCH_FIELDS: &str =
     "left-A, left-B, length, and + if it is direct or - if it is reversed, with a tab between two";
+const MARK_FIELDS: &str =
+    "the word mark, A or B for its side, and its position, with a tab between two";
 const MOST_LETTERS: &str =
     "a genome has at most 1,000,000,000 letters; check the number, or split the genome";
 
 /// Makes one file of another, or says what is wrong with it.
 type Turn = fn(&[u8]) -> Result<Vec<u8>, String>;
+
+/// The line of the lengths, those of the matches and those of the marks, by their numbers.
+struct Lines {
+    lengths: usize,
+    matches: Vec<usize>,
+    marks: Vec<usize>,
+}
 
 fn main() -> ExitCode {
     let words: Vec<OsString> = env::args_os().skip(1).collect();
@@ -91,15 +104,23 @@ fn to_script(list: &[u8]) -> Result<Vec<u8>, String> {
         return Err(format!("the list is empty: begin it with {LENGTHS_FIELDS}"));
     };
     let [p, q] = lengths_in(line).map_err(in_line(lengths))?;
-    let (mut numbers, mut matches) = (Vec::new(), Vec::new());
+    let (mut matches, mut marks) = (Vec::new(), Vec::new());
+    let mut said = Lines {
+        lengths,
+        matches: Vec::new(),
+        marks: Vec::new(),
+    };
     for (number, line) in lines {
-        matches.push(match_in(line).map_err(in_line(number))?);
-        numbers.push(number);
+        if is_mark(line) {
+            marks.push(mark_in(line).map_err(in_line(number))?);
+            said.marks.push(number);
+        } else {
+            matches.push(match_in(line).map_err(in_line(number))?);
+            said.matches.push(number);
+        }
     }
-    write(p, q, &matches).map_err(|refusal| {
-        let number = refused_line(&refusal, lengths, &numbers);
-        in_line(number)(refusal.to_string())
-    })
+    write(p, q, &matches, &marks)
+        .map_err(|refusal| in_line(said.refused(&refusal))(refusal.to_string()))
 }
 
 /// The lines that say something, each with its number. A text from Windows may begin with a mark that is no letter.
@@ -114,12 +135,16 @@ fn in_line(number: usize) -> impl Fn(String) -> String {
     move |fault| format!("line {number}: {fault}")
 }
 
-/// The line that the library refuses, of the line of the lengths and those of the matches.
-fn refused_line(refusal: &Refusal, lengths: usize, matches: &[usize]) -> usize {
-    match refusal.record() {
-        Some(record) => matches[record - 1],
-        None if refusal.word() == Word::TooManyMatches => matches[MOST_MATCHES],
-        None => lengths,
+impl Lines {
+    /// The line that the library refuses.
+    fn refused(&self, refusal: &Refusal) -> usize {
+        match (refusal.record(), refusal.mark(), refusal.word()) {
+            (Some(record), ..) => self.matches[record - 1],
+            (_, Some(mark), _) => self.marks[mark - 1],
+            (.., Word::TooManyMatches) => self.matches[MOST_MATCHES],
+            (.., Word::TooManyMarks) => self.marks[MOST_MARKS],
+            _ => self.lengths,
+        }
     }
 }
 
@@ -149,8 +174,21 @@ fn match_in(line: &str) -> Result<Match, String> {
     })
 }
 
+fn mark_in(line: &str) -> Result<Mark, String> {
+    let [_, side, position] = fields(line, MARK_FIELDS)?;
+    Ok(Mark {
+        side: side_of(side)?,
+        position: number("the position", position)?,
+    })
+}
+
 fn is_lengths(line: &str) -> bool {
     line.split('\t').next() == Some(LENGTHS)
+}
+
+/// No field of a match is this word, so that a blank where a tab must stand is no reason to take it for one.
+fn is_mark(line: &str) -> bool {
+    line.split(['\t', ' ']).next() == Some(MARK)
 }
 
 fn fields<'a, const COUNT: usize>(line: &'a str, wanted: &str) -> Result<[&'a str; COUNT], String> {
@@ -184,12 +222,26 @@ fn is_reversed(sign: &str) -> Result<bool, String> {
     }
 }
 
+fn side_of(letter: &str) -> Result<Side, String> {
+    match letter {
+        "A" => Ok(Side::A),
+        "B" => Ok(Side::B),
+        _ => Err(format!("the side, {letter:?}, is none: write A or B")),
+    }
+}
+
 // ---- from a script to its list
 
 fn to_list(script: &[u8]) -> Result<Vec<u8>, String> {
-    let List { p, q, matches } = read_matches(script).map_err(|refusal| refusal.to_string())?;
-    let lines: String = matches.iter().map(match_line).collect();
-    Ok(format!("{LENGTHS}\t{p}\t{q}\n{lines}").into_bytes())
+    let List {
+        p,
+        q,
+        matches,
+        marks,
+    } = read_list(script).map_err(|refusal| refusal.to_string())?;
+    let matches: String = matches.iter().map(match_line).collect();
+    let marks: String = marks.iter().map(mark_line).collect();
+    Ok(format!("{LENGTHS}\t{p}\t{q}\n{matches}{marks}").into_bytes())
 }
 
 fn match_line(found: &Match) -> String {
@@ -198,4 +250,12 @@ fn match_line(found: &Match) -> String {
         "{}\t{}\t{}\t{sign}\n",
         found.left_a, found.left_b, found.length
     )
+}
+
+fn mark_line(mark: &Mark) -> String {
+    let side = match mark.side {
+        Side::A => 'A',
+        Side::B => 'B',
+    };
+    format!("{MARK}\t{side}\t{}\n", mark.position)
 }

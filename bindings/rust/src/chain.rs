@@ -49,7 +49,7 @@ pub struct Chained<'a> {
 ///
 /// let direct = |left_a, left_b, length| Match { left_a, left_b, length, reversed: false };
 /// let matches = [direct(0, 0, 2), direct(20, 20, 2), direct(4, 10, 3), direct(10, 4, 3)];
-/// let script = notchergrey::write(40, 40, &matches)?;
+/// let script = notchergrey::write(40, 40, &matches, &[])?;
 ///
 /// let best = backbone(&script, 0)?;
 /// assert_eq!((best.score(), best.chain()), (7, &[1, 3, 2][..]));

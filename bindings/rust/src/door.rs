@@ -1,8 +1,9 @@
 //! The doors of the archive, as safe functions: the only module with `unsafe`. `include/notchergrey.h` says what each
 //! door needs and does.
 
+use crate::list::RECORD_NUMBERS;
 use crate::refusal::Refusal;
-use crate::script::Side;
+use crate::script::{Script, Side};
 use crate::table::CLASSES;
 use notchergrey_sys::{
     notchergrey_carry_from_a, notchergrey_carry_from_b, notchergrey_chain, notchergrey_match,
@@ -14,9 +15,9 @@ use notchergrey_sys::{
 // as one number or one array. All come from borrows that last through the call; those that are written to are unique,
 // so that none overlaps with another. A door keeps no pointer, and writes to nothing but what it is lent.
 
-/// p, q and the count of matches.
-pub fn read(script: &[u8]) -> Result<(u32, u32, usize), Refusal> {
-    let (mut place, mut p, mut q, mut count) = (0, 0, 0, 0);
+/// p, q and the counts of matches and of marks.
+pub fn read(script: &[u8]) -> Result<Script, Refusal> {
+    let (mut place, mut p, mut q, mut matches, mut marks) = (0, 0, 0, 0, 0);
     let number = unsafe {
         notchergrey_read(
             script.as_ptr(),
@@ -24,11 +25,17 @@ pub fn read(script: &[u8]) -> Result<(u32, u32, usize), Refusal> {
             &mut place,
             &mut p,
             &mut q,
-            &mut count,
+            &mut matches,
+            &mut marks,
         )
     };
     Refusal::of_script_unless_zero(number, place)?;
-    Ok((p, q, count))
+    Ok(Script {
+        p,
+        q,
+        matches,
+        marks,
+    })
 }
 
 /// Left-A, left-B, length and direction.
@@ -52,7 +59,13 @@ pub fn find_match(script: &[u8], number: u32) -> Result<(u32, u32, u32, u32), Re
 }
 
 /// The script's length.
-pub fn write(p: u32, q: u32, records: &[u32], script: &mut [u8]) -> Result<usize, Refusal> {
+pub fn write(
+    p: u32,
+    q: u32,
+    records: &[u32],
+    marks: &[u32],
+    script: &mut [u8],
+) -> Result<usize, Refusal> {
     let (mut place, mut length) = (0, 0);
     let number = unsafe {
         notchergrey_write(
@@ -60,33 +73,47 @@ pub fn write(p: u32, q: u32, records: &[u32], script: &mut [u8]) -> Result<usize
             q,
             records.as_ptr(),
             records.len(),
+            marks.as_ptr(),
+            marks.len(),
             script.as_mut_ptr(),
             script.len(),
             &mut place,
             &mut length,
         )
     };
-    Refusal::of_list_unless_zero(number, place)?;
+    Refusal::of_list_unless_zero(number, place, records.len() / RECORD_NUMBERS)?;
     Ok(length)
 }
 
-/// p, q and the count of matches.
-pub fn read_records(script: &[u8], records: &mut [u32]) -> Result<(u32, u32, usize), Refusal> {
-    let (mut place, mut p, mut q, mut count) = (0, 0, 0, 0);
+/// p, q and the counts of matches and of marks.
+pub fn read_records(
+    script: &[u8],
+    records: &mut [u32],
+    marks: &mut [u32],
+) -> Result<Script, Refusal> {
+    let (mut place, mut p, mut q, mut match_count, mut mark_count) = (0, 0, 0, 0, 0);
     let number = unsafe {
         notchergrey_read_records(
             script.as_ptr(),
             script.len(),
             records.as_mut_ptr(),
             records.len(),
+            marks.as_mut_ptr(),
+            marks.len(),
             &mut place,
             &mut p,
             &mut q,
-            &mut count,
+            &mut match_count,
+            &mut mark_count,
         )
     };
     Refusal::of_script_unless_zero(number, place)?;
-    Ok((p, q, count))
+    Ok(Script {
+        p,
+        q,
+        matches: match_count,
+        marks: mark_count,
+    })
 }
 
 /// The count of rows.

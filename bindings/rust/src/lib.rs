@@ -4,7 +4,7 @@
 //! reversed. Where matches overlap, the table cuts them into pieces so that no end of a piece lies inside another, and
 //! into no more pieces than that takes.
 //!
-//! Matches go in as a script: bytes, which [`write()`] makes of a list of matches and [`read_matches`] turns back into
+//! Matches go in as a script: bytes, which [`write()`] makes of a list of matches and [`read_list`] turns back into
 //! one. Positions lie between letters and are counted from 0.
 //!
 //! ```
@@ -14,7 +14,7 @@
 //!     Match { left_a: 0, left_b: 0, length: 6, reversed: false },
 //!     Match { left_a: 2, left_b: 3, length: 5, reversed: true },
 //! ];
-//! let script = notchergrey::write(10, 10, &matches)?;
+//! let script = notchergrey::write(10, 10, &matches, &[])?;
 //!
 //! let table = notchergrey::refine(&script)?;
 //! assert_eq!(table.len(), 8);
@@ -26,9 +26,24 @@
 //! # Ok::<(), notchergrey::Error>(())
 //! ```
 //!
+//! A list may have marks beside its matches. A [`Mark`] is a position that must be a cut, such as that of a breeder's
+//! marker, which may not sit inside a piece: the table is the least one that has every mark which a match spans among
+//! its cuts.
+//!
+//! ```
+//! use notchergrey::{Mark, Match, Side};
+//!
+//! let matches = [Match { left_a: 0, left_b: 3, length: 6, reversed: false }];
+//! let marks = [Mark { side: Side::A, position: 2 }, Mark { side: Side::A, position: 8 }];
+//! let table = notchergrey::refine(&notchergrey::write(10, 10, &matches, &marks)?)?;
+//! let lefts: Vec<(u32, u32)> = table.rows().map(|row| (row.left_a, row.left_b)).collect();
+//! assert_eq!(lefts, [(0, 3), (2, 5)]);
+//! # Ok::<(), notchergrey::Error>(())
+//! ```
+//!
 //! In a script a command is one byte, and its operands are numbers of four bytes, least byte first. `L` (4C) gives the
 //! letter counts of A and B, `D` (44) a direct match and `R` (52) a reversed one, each with left-A, left-B and length,
-//! and `E` (45) is the end.
+//! `M` (4D) a mark with its side, a single byte, and its position, and `E` (45) is the end.
 //!
 //! [`backbone`] finds the best run of direct pieces that are in the same order on both genomes.
 //!
@@ -63,11 +78,13 @@ mod word;
 
 pub use chain::{backbone, backbone_within, chain_into, Backbone, Chained, MOST_PRICE};
 pub use error::Error;
-pub use list::{read_matches, read_records_into, write, write_into, List, RECORD_NUMBERS};
+pub use list::{read_list, read_records_into, write, write_into, List};
+pub use list::{MARK_NUMBERS, RECORD_NUMBERS};
 pub use refining::{refine, refine_into, refine_within, WORK_NUMBERS};
 pub use refusal::Refusal;
 pub use report::report;
-pub use script::{carry, find_match, read, Match, Script, Side};
-pub use script::{LONGEST_SCRIPT, MATCH_BYTES, MOST_MATCHES, SHORTEST_SCRIPT};
+pub use script::{carry, find_match, read, Mark, Match, Script, Side};
+pub use script::{LONGEST_SCRIPT, MARK_BYTES, MATCH_BYTES, SHORTEST_SCRIPT};
+pub use script::{MOST_MARKS, MOST_MATCHES};
 pub use table::{rows, rows_of, summary, Row, Rows, Summary, Table, CLASSES, ROW_NUMBERS};
 pub use word::Word;

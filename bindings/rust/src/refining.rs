@@ -13,7 +13,8 @@ pub const WORK_NUMBERS: usize = 4;
 /// The bytes that a row of room takes while a table is made: its numbers, and those of work.
 pub(crate) const ROW_BYTES: usize = (ROW_NUMBERS + WORK_NUMBERS) * size_of::<u32>();
 
-/// The piece table of a script, however many rows it has.
+/// The piece table of a script, however many rows it has. Every mark that a match spans is a cut in it; see
+/// [`Mark`](crate::Mark).
 ///
 /// It makes room for 3,000 rows, and for twice as many as before as long as they are too few. This ends: a piece has at
 /// least one letter, so that no table has more rows than all matches together have letters, and it never makes room for

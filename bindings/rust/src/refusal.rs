@@ -4,7 +4,7 @@ use crate::word::Word;
 use std::error::Error;
 use std::fmt;
 
-/// Why a script, a list of matches or a call is refused.
+/// Why a script, a list of matches and marks or a call is refused.
 ///
 /// Its text says the word, the number and the place, and what to do about it:
 ///
@@ -29,6 +29,8 @@ enum Place {
     Byte(usize),
     /// In this record of the list, counted from 1.
     Record(usize),
+    /// In this mark of the list, counted from 1, behind so many matches.
+    Mark { number: usize, matches: usize },
     /// In the call.
     Call,
 }
@@ -45,11 +47,17 @@ impl Refusal {
         })
     }
 
-    /// What the answer of the door that writes a script says: 0 is no refusal.
-    pub(crate) fn of_list_unless_zero(number: u32, place: usize) -> Result<(), Refusal> {
-        Refusal::unless_zero(number, |_| match place {
-            0 => Place::Call,
-            record => Place::Record(record),
+    /// What the answer of the door that writes a script says of a list with so many matches: 0 is no refusal. The door
+    /// counts marks on from the matches.
+    pub(crate) fn of_list_unless_zero(
+        number: u32,
+        place: usize,
+        matches: usize,
+    ) -> Result<(), Refusal> {
+        Refusal::unless_zero(number, |_| match place.checked_sub(matches) {
+            _ if place == 0 => Place::Call,
+            None | Some(0) => Place::Record(place),
+            Some(number) => Place::Mark { number, matches },
         })
     }
 
@@ -57,7 +65,7 @@ impl Refusal {
         if number == 0 {
             return Ok(());
         }
-        let word = Word::of_number(number).expect("the library refuses by the numbers 1 to 18");
+        let word = Word::of_number(number).expect("the library refuses by the numbers 1 to 21");
         let place = place_of(word);
         Err(Refusal { word, place })
     }
@@ -67,26 +75,45 @@ impl Refusal {
         self.word
     }
 
-    /// The number of the word, 1 to 18.
+    /// The number of the word, 1 to 21.
     pub fn number(&self) -> u32 {
         self.word.number()
     }
 
     /// Where it is wrong. In a script: the offset of the command refused; the script's length if bytes ran out where a
-    /// command was due; the first extra byte of a tail. In a list that is to become a script: the record, counted from
-    /// 1. It is 0 where neither a byte nor a record is at fault.
+    /// command was due; the first extra byte of a tail. In a list that is to become a script: the match, counted from
+    /// 1, or the mark, counted on from the matches, so that the first mark behind two matches is 3;
+    /// [`record`](Refusal::record) and [`mark`](Refusal::mark) tell the two apart. It is 0 where nothing of these is at
+    /// fault.
     pub fn place(&self) -> usize {
         match self.place {
             Place::Byte(place) | Place::Record(place) => place,
+            Place::Mark { number, matches } => matches + number,
             Place::Call => 0,
         }
     }
 
-    /// The record at fault, counted from 1, if a list is refused for one of its records.
+    /// The match at fault, counted from 1, if a list is refused for one of its matches.
     pub fn record(&self) -> Option<usize> {
         match self.place {
             Place::Record(record) => Some(record),
-            Place::Byte(_) | Place::Call => None,
+            Place::Byte(_) | Place::Mark { .. } | Place::Call => None,
+        }
+    }
+
+    /// The mark at fault, counted from 1 among the marks, if a list is refused for one of them.
+    ///
+    /// ```
+    /// use notchergrey::{Mark, Side};
+    ///
+    /// let marks = [10, 11].map(|position| Mark { side: Side::A, position });
+    /// let refusal = notchergrey::write(10, 20, &[], &marks).unwrap_err();
+    /// assert_eq!((refusal.number(), refusal.mark()), (21, Some(2)));
+    /// ```
+    pub fn mark(&self) -> Option<usize> {
+        match self.place {
+            Place::Mark { number, .. } => Some(number),
+            Place::Byte(_) | Place::Record(_) | Place::Call => None,
         }
     }
 }
@@ -104,6 +131,7 @@ impl fmt::Display for Place {
         match self {
             Place::Byte(offset) => write!(f, " at byte {offset}"),
             Place::Record(number) => write!(f, " at record {number}"),
+            Place::Mark { number, .. } => write!(f, " at mark {number}"),
             Place::Call => Ok(()),
         }
     }

@@ -14,8 +14,8 @@ pub(crate) fn with_growing_room<T>(
     most_rows: usize,
     call: impl Fn(usize) -> Result<T, Error>,
 ) -> Result<T, Error> {
-    let matches = read(script)?.matches;
-    let most_rows = most_rows.min(letters(script, matches));
+    read(script)?;
+    let most_rows = most_rows.min(letters(script));
     let mut room = FIRST_ROWS.min(most_rows);
     loop {
         match call(room) {

@@ -3,23 +3,33 @@
 use crate::door;
 use crate::refusal::Refusal;
 
-/// No longer script is admitted, and the first 26,635 bytes of a longer one decide how it is refused: whoever reads a
+/// No longer script is admitted, and the first 29,707 bytes of a longer one decide how it is refused: whoever reads a
 /// script from a file needs no more of it.
-pub const LONGEST_SCRIPT: usize = 26_634;
+pub const LONGEST_SCRIPT: usize = 29_706;
 
-/// The bytes of a script without matches. Each match adds [`MATCH_BYTES`].
+/// The bytes of a script without matches and marks. Each match adds [`MATCH_BYTES`], each mark [`MARK_BYTES`].
 pub const SHORTEST_SCRIPT: usize = 10;
 
 /// The bytes of a match in a script. Its last operand is its length.
 pub const MATCH_BYTES: usize = 13;
 
+/// The bytes of a mark in a script.
+pub const MARK_BYTES: usize = 6;
+
 /// No script and no list has more matches.
 pub const MOST_MATCHES: usize = 2_048;
+
+/// No script and no list has more marks.
+pub const MOST_MARKS: usize = 512;
 
 /// The bytes of the lengths, which come first.
 const LENGTHS_BYTES: usize = 9;
 
-/// What a script says beside its matches.
+/// The commands that are no match, behind the lengths.
+const MARK: u8 = b'M';
+const END: u8 = b'E';
+
+/// What a script says beside its matches and marks.
 #[derive(Clone, Copy, Debug, PartialEq, Eq, Hash)]
 pub struct Script {
     /// The letter count of sequence A.
@@ -28,6 +38,8 @@ pub struct Script {
     pub q: u32,
     /// The count of matches. They are numbered from 1.
     pub matches: usize,
+    /// The count of marks.
+    pub marks: usize,
 }
 
 /// A match: `length` letters from `left_a` on of A belong to as many from `left_b` on of B.
@@ -52,21 +64,32 @@ pub enum Side {
     B,
 }
 
+/// A position that must be a cut, as that of a breeder's marker: no piece may have it inside.
+///
+/// It is a cut wherever some match spans it on its side, both ends of the match included, and is carried on like any
+/// other cut. Where no match does, it changes nothing. Marks may repeat.
+#[derive(Clone, Copy, Debug, PartialEq, Eq, Hash)]
+pub struct Mark {
+    /// The sequence that it is on.
+    pub side: Side,
+    /// The position between letters, counted from 0.
+    pub position: u32,
+}
+
 /// Reads a script.
 ///
 /// ```
-/// let script = b"L\x0a\0\0\0\x09\0\0\0D\0\0\0\0\x01\0\0\0\x06\0\0\0E";
+/// let script = b"L\x0a\0\0\0\x09\0\0\0D\0\0\0\0\x01\0\0\0\x06\0\0\0M\0\x03\0\0\0E";
 /// let read = notchergrey::read(script)?;
-/// assert_eq!((read.p, read.q, read.matches), (10, 9, 1));
+/// assert_eq!((read.p, read.q, read.matches, read.marks), (10, 9, 1, 1));
 /// # Ok::<(), notchergrey::Refusal>(())
 /// ```
 ///
 /// # Errors
 ///
-/// The refusals 1 to 10, of which the first from the left counts.
+/// The refusals 1 to 10 and 19 to 21, of which the first from the left counts.
 pub fn read(script: &[u8]) -> Result<Script, Refusal> {
-    let (p, q, matches) = door::read(script)?;
-    Ok(Script { p, q, matches })
+    door::read(script)
 }
 
 /// One match of a script, by its number from 1.
@@ -111,12 +134,19 @@ pub fn carry(script: &[u8], number: u32, side: Side, position: u32) -> Result<u3
     door::carry(script, number, side, position)
 }
 
-/// The letters of all matches together, of a script that is admitted and has so many.
-pub(crate) fn letters(script: &[u8], matches: usize) -> usize {
-    let commands = script[LENGTHS_BYTES..].chunks_exact(MATCH_BYTES);
-    let lengths = commands.take(matches).map(|command| {
-        let last = command.last_chunk().expect("a match has 13 bytes");
-        u32::from_le_bytes(*last) as usize
-    });
-    lengths.fold(0, usize::saturating_add)
+/// The letters of all matches together, of a script that is admitted. Marks may stand between the matches.
+pub(crate) fn letters(script: &[u8]) -> usize {
+    let mut rest = &script[LENGTHS_BYTES..];
+    let mut letters: usize = 0;
+    while rest[0] != END {
+        if rest[0] == MARK {
+            rest = &rest[MARK_BYTES..];
+            continue;
+        }
+        let (found, behind) = rest.split_at(MATCH_BYTES);
+        let length = found.last_chunk().expect("a match has 13 bytes");
+        letters = letters.saturating_add(u32::from_le_bytes(*length) as usize);
+        rest = behind;
+    }
+    letters
 }

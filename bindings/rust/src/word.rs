@@ -44,10 +44,11 @@ words! {
     Headless = 1, "headless":
         "the script is empty or its first byte isn't 4C",
         "hand over the whole script, which begins with the lengths of A and B";
-    /// A later command byte isn't 4C, 44, 52 or 45.
+    /// A later command byte isn't 4C, 44, 52, 4D or 45.
     UnknownCommand = 2, "unknown command":
         "no command has this byte",
-        "check that the command before it has all its operands, four bytes each, and no more";
+        "check that the command before it has all its operands, one byte for the side of a mark and four for \
+         every other, and no more";
     /// Operands are incomplete, or bytes run out before 45.
     CutShort = 3, "cut short":
         "the bytes run out before the end command, 45",
@@ -88,7 +89,7 @@ words! {
     /// Every resolved refinement has more pieces than the table has rows.
     TooManyPieces = 12, "too many pieces":
         "every table of this script has more rows than there is room for",
-        "make room for more rows, or leave out matches that overlap many others";
+        "make room for more rows, or leave out marks, or matches that overlap many others";
     /// The match number is 0 or above the count of matches.
     NoSuchMatch = 13, "no such match":
         "the script has no match of this number",
@@ -97,14 +98,17 @@ words! {
     OffTheMatch = 14, "off the match":
         "the match does not span this position on this side",
         "give a position from its left end there to its right end, both included";
-    /// The numbers of the records are no multiple of four, or a direction is above 1.
+    /// The numbers of the matches are no multiple of four, those of the marks are odd, or a direction is above 1.
     MalformedRecords = 15, "malformed records":
-        "the numbers are no multiple of four, or a direction is neither 0 nor 1",
-        "give four numbers for each match: left-A, left-B, length, and 0 if it is direct or 1 if it is reversed";
+        "the numbers of the matches are no multiple of four, those of the marks are odd, or a direction is neither 0 \
+         nor 1",
+        "give four numbers for each match, which are left-A, left-B, length, and 0 if it is direct or 1 if it is \
+         reversed, and two for each mark, side and position";
     /// A lent buffer is too short for what is to be written to it.
     BufferTooShort = 16, "buffer too short":
-        "the script or the records do not fit into the lent buffer",
-        "lend 10 bytes and 13 more for each match to a script, and four numbers for each match to records";
+        "the script, the records or the marks do not fit into the lent buffer",
+        "lend 10 bytes, 13 more for each match and 6 more for each mark to a script, four numbers for each match to \
+         records, and two for each mark to marks";
     /// The gap price is above 1,000.
     PriceTooHigh = 17, "price too high":
         "the gap price is above 1,000",
@@ -113,10 +117,23 @@ words! {
     ChainTooShort = 18, "chain too short":
         "the chain or score buffer has no number for each row that the table has room for",
         "lend one number for each row to either, and a table of at most 4,294,967,295 rows";
+    /// There is a mark 513.
+    TooManyMarks = 19, "too many marks":
+        "there are more than 512 marks",
+        "leave out those that no match spans and those that stand twice, which change nothing, or write a script for \
+         each group of matches that overlaps with no other group, with the marks that it spans";
+    /// The side of a mark is above 1.
+    NoSuchSide = 20, "no such side":
+        "the side of this mark is neither 0 nor 1",
+        "give 0 for a position of A and 1 for a position of B";
+    /// The position of a mark is above p on A, or above q on B.
+    MarkBeyond = 21, "mark beyond":
+        "this mark lies behind the last letter of its side",
+        "check its position, which is counted from 0, its side, and the length of that sequence";
 }
 
 impl Word {
-    /// The number that the specification gives it, 1 to 18.
+    /// The number that the specification gives it, 1 to 21.
     pub fn number(self) -> u32 {
         self as u32
     }
@@ -131,7 +148,8 @@ impl Word {
 
     /// The refusals that are found in a script's bytes, and so at a place.
     pub(crate) fn is_of_scripts(self) -> bool {
-        self.number() <= Word::Tail.number()
+        let of_marks = [Word::TooManyMarks, Word::NoSuchSide, Word::MarkBeyond];
+        self.number() <= Word::Tail.number() || of_marks.contains(&self)
     }
 }
 

@@ -7,7 +7,7 @@ use notchergrey::{Match, MOST_PRICE, ROW_NUMBERS, WORK_NUMBERS};
 use scripts::{direct, reversed, run_of_the_specification, script, zigzag, EXAMPLES, LONG};
 
 fn script_of(letters: u32, matches: &[Match]) -> Vec<u8> {
-    notchergrey::write(letters, letters, matches).unwrap()
+    notchergrey::write(letters, letters, matches, &[]).unwrap()
 }
 
 /// The letters of A and of B, the matches, the gap price, the score and the chain.

@@ -3,7 +3,7 @@
 mod scripts;
 
 use notchergrey::{carry, read, refine, refine_into, refine_within, report, rows_of, Error};
-use notchergrey::{read_matches, read_records_into, summary, write, write_into, List, Match};
+use notchergrey::{read_list, read_records_into, summary, write, write_into, List, Match};
 use notchergrey::{Row, Script, Side, Word, CLASSES, ROW_NUMBERS, WORK_NUMBERS};
 use scripts::{direct, many_matches, records, reversed, run_of_the_specification, script};
 use scripts::{zigzag, EXAMPLES, LONG};
@@ -40,6 +40,7 @@ fn no_match_gives_no_row() {
         p: LONG,
         q: 1,
         matches: 0,
+        marks: 0,
     };
     assert_eq!(read(&script), Ok(read_script));
     let table = refine(&script).unwrap();
@@ -101,7 +102,7 @@ fn a_refined_table_covers_what_its_matches_cover() {
         letters.collect::<HashSet<u32>>().len() as u64
     };
     for script in EXAMPLES {
-        let matches = read_matches(script).unwrap().matches;
+        let matches = read_list(script).unwrap().matches;
         let on_a = matches.iter().map(|one| (one.left_a, one.length)).collect();
         let on_b = matches.iter().map(|one| (one.left_b, one.length)).collect();
         let table = refine(script).unwrap();
@@ -152,15 +153,17 @@ fn a_script_goes_to_its_list_and_back() {
     let edges = script(LONG, 1, &[(b'R', [LONG - 1, 0, 1]), (b'D', [0, 0, 1])]);
     let made = [edges, many_matches(2_048)];
     for script in made.iter().map(Vec::as_slice).chain(EXAMPLES) {
-        let list = read_matches(script).unwrap();
-        assert_eq!(write(list.p, list.q, &list.matches).unwrap(), script);
+        let list = read_list(script).unwrap();
+        assert_eq!(write(list.p, list.q, &list.matches, &[]).unwrap(), script);
         let mut numbers = vec![7; 4 * list.matches.len() + 3];
-        let Script { p, q, matches } = read_records_into(script, &mut numbers).unwrap();
+        let found = read_records_into(script, &mut numbers, &mut []).unwrap();
+        let Script { p, q, matches, .. } = found;
         assert_eq!((p, q, matches), (list.p, list.q, list.matches.len()));
+        assert_eq!((found.marks, list.marks.len()), (0, 0));
         let (read, behind) = numbers.split_at(4 * matches);
         assert_eq!((read, behind), (&records(&list.matches)[..], &[7; 3][..]));
         let mut bytes = vec![7; script.len() + 3];
-        assert_eq!(write_into(p, q, read, &mut bytes), Ok(script.len()));
+        assert_eq!(write_into(p, q, read, &[], &mut bytes), Ok(script.len()));
         assert_eq!(bytes, [script, &[7; 3]].concat());
     }
 }
@@ -173,21 +176,22 @@ fn a_list_goes_to_its_script_and_back() {
     };
     let edges = vec![reversed(0, 0, LONG), direct(LONG - 1, LONG - 1, 1)];
     for matches in [vec![], edges, many(1), many(17), many(1_024)] {
-        let script = write(LONG, LONG, &matches).unwrap();
+        let script = write(LONG, LONG, &matches, &[]).unwrap();
         let list = List {
             p: LONG,
             q: LONG,
             matches,
+            marks: vec![],
         };
-        assert_eq!(read_matches(&script), Ok(list));
+        assert_eq!(read_list(&script), Ok(list));
     }
 }
 
 #[test]
 fn a_list_becomes_the_script_of_its_bytes() {
     let matches = [direct(0, 0, 6), reversed(2, 3, 5)];
-    assert_eq!(write(10, 10, &matches), Ok(run_of_the_specification()));
-    assert_eq!(write(1, LONG, &[]), Ok(script(1, LONG, &[])));
+    assert_eq!(write(10, 10, &matches, &[]), Ok(run_of_the_specification()));
+    assert_eq!(write(1, LONG, &[], &[]), Ok(script(1, LONG, &[])));
 }
 
 #[test]
@@ -205,7 +209,7 @@ fn the_first_fault_of_a_list_counts() {
         (Word::BufferTooShort, 0, 10, &[0, 0, 6, 0, 9, 9, 1, 1]),
     ];
     for (word, place, q, numbers) in faults {
-        let refusal = write_into(10, q, numbers, &mut []).unwrap_err();
+        let refusal = write_into(10, q, numbers, &[], &mut []).unwrap_err();
         assert_eq!((refusal.word(), refusal.place()), (word, place));
     }
 }
@@ -215,14 +219,14 @@ fn a_refused_list_keeps_the_lent_buffer() {
     let good = [0, 0, 6, 0];
     let mut script = [7; 35];
     for last in [[2, 3, 5, 2], [2, 3, 0, 1], [6, 3, 5, 1], [2, 6, 5, 1], good] {
-        let refusal = write_into(10, 10, &[good, last].concat(), &mut script).unwrap_err();
+        let refusal = write_into(10, 10, &[good, last].concat(), &[], &mut script).unwrap_err();
         let wanted = if last == good { None } else { Some(2) };
         assert_eq!(refusal.record(), wanted);
         assert_eq!(script, [7; 35]);
     }
-    assert!(write_into(0, 10, &good, &mut script).is_err());
-    assert!(write_into(10, 10, &good[1..], &mut script).is_err());
-    assert!(write_into(10, 10, &[1; 4 * 2_049], &mut script).is_err());
+    assert!(write_into(0, 10, &good, &[], &mut script).is_err());
+    assert!(write_into(10, 10, &good[1..], &[], &mut script).is_err());
+    assert!(write_into(10, 10, &[1; 4 * 2_049], &[], &mut script).is_err());
     assert_eq!(script, [7; 35]);
 }
 
@@ -231,9 +235,9 @@ fn a_refused_script_keeps_the_lent_records() {
     let script = run_of_the_specification();
     let mut numbers = [7; 8];
     for refused in [&script[..35], &[&script[..], b"E"].concat()] {
-        assert!(read_records_into(refused, &mut numbers).is_err());
+        assert!(read_records_into(refused, &mut numbers, &mut []).is_err());
     }
-    let refusal = read_records_into(&script, &mut numbers[..7]).unwrap_err();
+    let refusal = read_records_into(&script, &mut numbers[..7], &mut []).unwrap_err();
     assert_eq!(refusal.word(), Word::BufferTooShort);
     assert_eq!(numbers, [7; 8]);
 }

@@ -3,13 +3,13 @@
 
 mod scripts;
 
-use notchergrey::WORK_NUMBERS;
-use notchergrey::{backbone, backbone_within, chain_into, read_matches, read_records_into, write};
+use notchergrey::{backbone, backbone_within, chain_into, read_list, read_records_into, write};
 use notchergrey::{carry, find_match, read, refine, refine_into, refine_within, summary, Refusal};
-use notchergrey::{write_into, Error, Match, Side, Word, CLASSES, RECORD_NUMBERS, ROW_NUMBERS};
-use notchergrey::{LONGEST_SCRIPT, MATCH_BYTES, MOST_MATCHES, MOST_PRICE, SHORTEST_SCRIPT};
-use scripts::{command, direct, many_matches, records, reversed, run_of_the_specification};
-use scripts::{script, LONG};
+use notchergrey::{write_into, Error, Mark, Match, Side, Word, CLASSES, RECORD_NUMBERS};
+use notchergrey::{LONGEST_SCRIPT, MARK_BYTES, MATCH_BYTES, MOST_MATCHES, SHORTEST_SCRIPT};
+use notchergrey::{MARK_NUMBERS, MOST_MARKS, MOST_PRICE, ROW_NUMBERS, WORK_NUMBERS};
+use scripts::{command, direct, followed_by, longest, many_matches, mark_command, numbers};
+use scripts::{on_a, on_b, records, reversed, run_of_the_specification, script, LONG};
 
 /// The rows of the specification's run, and the numbers of table and work that they take.
 const ROWS: usize = 8;
@@ -42,15 +42,16 @@ fn refused_chaining(script: &[u8], price: u32, lengths: [usize; 4]) -> Refusal {
     .unwrap_err()
 }
 
-fn refused_reading(script: &[u8], records_len: usize) -> Refusal {
-    read_records_into(script, &mut vec![0; records_len]).unwrap_err()
+fn refused_reading(script: &[u8], records_len: usize, marks_len: usize) -> Refusal {
+    let (mut records, mut marks) = (vec![0; records_len], vec![0; marks_len]);
+    read_records_into(script, &mut records, &mut marks).unwrap_err()
 }
 
 /// What every call that reads the script says, which is the same.
 fn refused_script(script: &[u8]) -> Refusal {
     let refusal = read(script).unwrap_err();
-    assert_eq!(read_matches(script), Err(refusal));
-    assert_eq!(refused_reading(script, RECORDS_LEN), refusal);
+    assert_eq!(read_list(script), Err(refusal));
+    assert_eq!(refused_reading(script, RECORDS_LEN, 0), refusal);
     assert_eq!(find_match(script, 1), Err(refusal));
     assert_eq!(refused_refining(script, TABLE_LEN, WORK_LEN), refusal);
     assert_eq!(refine(script), Err(Error::Refused(refusal)));
@@ -73,17 +74,15 @@ fn no_such_match(script: &[u8], number: u32) -> Refusal {
     refusal
 }
 
-fn refused_writing(p: u32, q: u32, records: &[u32], script_len: usize) -> Refusal {
-    write_into(p, q, records, &mut vec![0; script_len]).unwrap_err()
+fn refused_writing(p: u32, q: u32, records: &[u32], marks: &[u32], script_len: usize) -> Refusal {
+    write_into(p, q, records, marks, &mut vec![0; script_len]).unwrap_err()
 }
 
 /// What both calls that write a script say of the list, which is the same.
-fn refused_list(p: u32, q: u32, matches: &[Match]) -> Refusal {
-    let refusal = write(p, q, matches).unwrap_err();
-    assert_eq!(
-        refused_writing(p, q, &records(matches), SCRIPT_LEN),
-        refusal
-    );
+fn refused_list(p: u32, q: u32, matches: &[Match], marks: &[Mark]) -> Refusal {
+    let refusal = write(p, q, matches, marks).unwrap_err();
+    let again = refused_writing(p, q, &records(matches), &numbers(marks), SCRIPT_LEN);
+    assert_eq!(again, refusal);
     refusal
 }
 
@@ -95,15 +94,25 @@ fn list_of_the_specification() -> [Match; MATCHES] {
 fn refused_direction(direction: u32) -> Refusal {
     let mut records = records(&list_of_the_specification());
     records[RECORDS_LEN - 1] = direction;
-    refused_writing(10, 10, &records, SCRIPT_LEN)
+    refused_writing(10, 10, &records, &[], SCRIPT_LEN)
+}
+
+/// The refusal of a mark whose side is this number, behind the matches and a good mark.
+fn refused_side(side: u32) -> Refusal {
+    let records = records(&list_of_the_specification());
+    refused_writing(10, 10, &records, &[1, 10, side, 10], SCRIPT_LEN)
 }
 
 /// What every call says that is lent too little.
 fn too_short() -> Refusal {
     let records = records(&list_of_the_specification());
-    let refusal = refused_writing(10, 10, &records, SCRIPT_LEN - 1);
-    let script = run_of_the_specification();
-    assert_eq!(refused_reading(&script, RECORDS_LEN - 1), refusal);
+    let refusal = refused_writing(10, 10, &records, &[], SCRIPT_LEN - 1);
+    let with_a_mark = refused_writing(10, 10, &records, &[0, 1], SCRIPT_LEN + MARK_BYTES - 1);
+    assert_eq!(with_a_mark, refusal);
+    let script = followed_by(&run_of_the_specification(), &[mark_command(0, 1)]);
+    let (records_len, marks_len) = (RECORDS_LEN - 1, MARK_NUMBERS - 1);
+    assert_eq!(refused_reading(&script, records_len, MARK_NUMBERS), refusal);
+    assert_eq!(refused_reading(&script, RECORDS_LEN, marks_len), refusal);
     refusal
 }
 
@@ -180,26 +189,63 @@ fn provoked() -> Vec<(Word, usize, Refusal)> {
         (Word::BufferTooShort, 0, too_short()),
         (Word::PriceTooHigh, 0, high_price),
         (Word::ChainTooShort, 0, chain_too_short(&good)),
+        (
+            Word::TooManyMarks,
+            at + 512 * 6,
+            with(&[mark_command(0, 10).repeat(512), vec![b'M']].concat()),
+        ),
+        (Word::NoSuchSide, at, with(&mark_command(2, 0))),
+        (Word::MarkBeyond, at, with(&mark_command(0, 11))),
     ]
 }
 
-/// Each word that a list can meet, with the record that it has, if any, and a refusal that it must be.
-fn provoked_by_lists() -> Vec<(Word, Option<usize>, Refusal)> {
+/// What of a list is at fault.
+#[derive(Clone, Copy)]
+enum Fault {
+    Nothing,
+    Record(usize),
+    Mark(usize),
+}
+
+/// Each word that a list of two or three matches can meet, with its fault and a refusal that it must be.
+fn provoked_by_lists() -> Vec<(Word, Fault, Refusal)> {
+    use Fault::{Nothing, Record};
     let [good, other] = list_of_the_specification();
-    let second = |wrong: Match| refused_list(10, 10, &[good, wrong, other]);
-    let odd = refused_writing(10, 10, &[0; RECORDS_LEN + 1], SCRIPT_LEN);
+    let second = |wrong: Match| refused_list(10, 10, &[good, wrong, other], &[on_a(99)]);
+    let second_mark = |wrong: Mark| refused_list(10, 20, &[good, other], &[on_a(10), wrong]);
+    let odd = |records, marks| refused_writing(10, 10, &vec![0; records], &vec![0; marks], 99);
     let many = vec![direct(0, 0, 1); MOST_MATCHES + 1];
+    let many_marks = vec![on_a(0); MOST_MARKS + 1];
+    let lengths = |p, q| refused_list(p, q, &[], &[]);
     vec![
-        (Word::LengthOutOfRange, None, refused_list(0, 1, &[])),
-        (Word::LengthOutOfRange, None, refused_list(1, LONG + 1, &[])),
-        (Word::TooManyMatches, None, refused_list(LONG, LONG, &many)),
-        (Word::EmptyMatch, Some(2), second(direct(0, 0, 0))),
-        (Word::BeyondA, Some(2), second(direct(1, 0, u32::MAX))),
-        (Word::BeyondB, Some(2), second(reversed(0, 1, 10))),
-        (Word::MalformedRecords, None, odd),
-        (Word::MalformedRecords, Some(2), refused_direction(2)),
-        (Word::MalformedRecords, Some(2), refused_direction(u32::MAX)),
-        (Word::BufferTooShort, None, too_short()),
+        (Word::LengthOutOfRange, Nothing, lengths(0, 1)),
+        (Word::LengthOutOfRange, Nothing, lengths(1, LONG + 1)),
+        (
+            Word::TooManyMatches,
+            Nothing,
+            refused_list(LONG, LONG, &many, &many_marks),
+        ),
+        (
+            Word::TooManyMarks,
+            Nothing,
+            refused_list(1, 1, &[good], &many_marks),
+        ),
+        (Word::EmptyMatch, Record(2), second(direct(0, 0, 0))),
+        (Word::BeyondA, Record(2), second(direct(1, 0, u32::MAX))),
+        (Word::BeyondB, Record(2), second(reversed(0, 1, 10))),
+        (Word::MarkBeyond, Fault::Mark(2), second_mark(on_a(11))),
+        (Word::MarkBeyond, Fault::Mark(2), second_mark(on_b(21))),
+        (Word::NoSuchSide, Fault::Mark(2), refused_side(2)),
+        (Word::NoSuchSide, Fault::Mark(2), refused_side(u32::MAX)),
+        (Word::MalformedRecords, Nothing, odd(RECORDS_LEN + 1, 0)),
+        (Word::MalformedRecords, Nothing, odd(RECORDS_LEN, 3)),
+        (Word::MalformedRecords, Record(2), refused_direction(2)),
+        (
+            Word::MalformedRecords,
+            Record(2),
+            refused_direction(u32::MAX),
+        ),
+        (Word::BufferTooShort, Nothing, too_short()),
     ]
 }
 
@@ -207,7 +253,7 @@ fn provoked_by_lists() -> Vec<(Word, Option<usize>, Refusal)> {
 fn every_word_is_provoked() {
     let words: Vec<Word> = provoked().iter().map(|&(word, ..)| word).collect();
     assert_eq!(words, Word::ALL);
-    assert_eq!(words.len(), 18);
+    assert_eq!(words.len(), 21);
 }
 
 #[test]
@@ -217,6 +263,7 @@ fn every_refusal_has_its_word_number_and_place() {
         assert_eq!(refusal.number(), number);
         let of_records = word == Word::MalformedRecords;
         assert_eq!(refusal.record(), of_records.then_some(place));
+        assert_eq!(refusal.mark(), None);
     }
 }
 
@@ -229,7 +276,7 @@ fn every_refusal_says_its_word_number_and_place() {
         let text = Error::from(refusal).to_string();
         assert_eq!(text, refusal.to_string());
         let at = match number {
-            1..=10 => format!(" at byte {place}"),
+            1..=10 | 19..=21 => format!(" at byte {place}"),
             15 => format!(" at record {place}"),
             _ => String::new(),
         };
@@ -239,11 +286,18 @@ fn every_refusal_says_its_word_number_and_place() {
 }
 
 #[test]
-fn every_refusal_of_a_list_has_and_says_its_record() {
-    for (word, record, refusal) in provoked_by_lists() {
-        assert_eq!((refusal.word(), refusal.record()), (word, record));
-        assert_eq!(refusal.place(), record.unwrap_or(0));
-        let at = record.map_or(String::new(), |record| format!(" at record {record}"));
+fn every_refusal_of_a_list_has_and_says_its_record_or_mark() {
+    for (word, fault, refusal) in provoked_by_lists() {
+        let (record, mark, place, at) = match fault {
+            Fault::Nothing => (None, None, 0, String::new()),
+            Fault::Record(number) => (Some(number), None, number, format!(" at record {number}")),
+            Fault::Mark(number) => {
+                let place = MATCHES + number;
+                (None, Some(number), place, format!(" at mark {number}"))
+            }
+        };
+        assert_eq!((refusal.word(), refusal.place()), (word, place));
+        assert_eq!((refusal.record(), refusal.mark()), (record, mark));
         let start = format!("refused as {word} ({}){at}: ", word.number());
         let text = refusal.to_string();
         assert!(text.starts_with(&start), "{text}");
@@ -278,32 +332,39 @@ fn four_buffers_and_the_highest_price_are_just_enough() {
 #[test]
 fn script_and_records_are_just_enough() {
     let list = list_of_the_specification();
-    for count in 0..=MATCHES {
-        let given = records(&list[..count]);
-        let mut script = vec![0; SHORTEST_SCRIPT + count * MATCH_BYTES];
-        assert_eq!(write_into(10, 10, &given, &mut script), Ok(script.len()));
-        let refusal = refused_writing(10, 10, &given, script.len() - 1);
+    let given_marks = numbers(&[on_b(10), on_a(0), on_a(0)]);
+    for (matches, marks) in (0..=MATCHES).flat_map(|count| [(count, 0), (count, 3)]) {
+        let given = (records(&list[..matches]), &given_marks[..2 * marks]);
+        let mut script = vec![0; SHORTEST_SCRIPT + matches * MATCH_BYTES + marks * MARK_BYTES];
+        let length = write_into(10, 10, &given.0, given.1, &mut script);
+        assert_eq!(length, Ok(script.len()));
+        let refusal = refused_writing(10, 10, &given.0, given.1, script.len() - 1);
         assert_eq!(refusal.word(), Word::BufferTooShort);
-        let mut numbers = vec![0; count * RECORD_NUMBERS];
-        assert_eq!(
-            read_records_into(&script, &mut numbers).unwrap().matches,
-            count
+        let mut found = (
+            vec![0; matches * RECORD_NUMBERS],
+            vec![0; marks * MARK_NUMBERS],
         );
-        assert_eq!(numbers, given);
+        let read = read_records_into(&script, &mut found.0, &mut found.1).unwrap();
+        assert_eq!((read.matches, read.marks), (matches, marks));
+        assert_eq!((found.0, &found.1[..]), given);
     }
 }
 
 #[test]
 fn no_longer_list_is_admitted() {
-    let longest = vec![direct(0, 0, 1); MOST_MATCHES];
-    let script = write(LONG, LONG, &longest).unwrap();
-    assert_eq!(script, many_matches(MOST_MATCHES));
+    let most = vec![direct(0, 0, 1); MOST_MATCHES];
+    let most_marks = vec![on_b(LONG); MOST_MARKS];
+    let script = write(LONG, LONG, &most, &most_marks).unwrap();
+    assert_eq!(script, longest());
     assert_eq!(script.len(), LONGEST_SCRIPT);
     for more in [1, 2, 1_000_000] {
         let longer = vec![direct(0, 0, 1); MOST_MATCHES + more];
-        let refusal = write(LONG, LONG, &longer).unwrap_err();
+        let longer_marks = vec![on_b(LONG); MOST_MARKS + more];
+        let refusal = write(LONG, LONG, &longer, &longer_marks).unwrap_err();
         assert_eq!(refusal.word(), Word::TooManyMatches);
-        let refusal = write(LONG, 0, &longer).unwrap_err();
+        let refusal = write(LONG, LONG, &most, &longer_marks).unwrap_err();
+        assert_eq!((refusal.word(), refusal.place()), (Word::TooManyMarks, 0));
+        let refusal = write(LONG, 0, &longer, &longer_marks).unwrap_err();
         assert_eq!(refusal.word(), Word::LengthOutOfRange);
     }
 }
@@ -318,11 +379,22 @@ fn the_last_class_ends_the_classes() {
 
 #[test]
 fn no_longer_script_is_admitted() {
-    let longest = many_matches(MOST_MATCHES);
+    let longest = longest();
     assert_eq!(longest.len(), LONGEST_SCRIPT);
-    assert_eq!(read(&longest).unwrap().matches, MOST_MATCHES);
-    let longer = many_matches(MOST_MATCHES + 1);
-    let refusal = read(&longer).unwrap_err();
-    assert_eq!(refusal.word(), Word::TooManyMatches);
-    assert_eq!(read(&longer[..LONGEST_SCRIPT + 1]), Err(refusal));
+    let found = read(&longest).unwrap();
+    assert_eq!((found.matches, found.marks), (MOST_MATCHES, MOST_MARKS));
+    let one_match = command(b'D', &[0, 0, 1]);
+    let one_mark = mark_command(0, 0);
+    for (more, word) in [
+        (one_match, Word::TooManyMatches),
+        (one_mark, Word::TooManyMarks),
+    ] {
+        let longer = followed_by(&longest, &[more]);
+        let refusal = read(&longer).unwrap_err();
+        assert_eq!(
+            (refusal.word(), refusal.place()),
+            (word, LONGEST_SCRIPT - 1)
+        );
+        assert_eq!(read(&longer[..LONGEST_SCRIPT + 1]), Err(refusal));
+    }
 }

@@ -5,7 +5,7 @@ mod scripts;
 
 use notchergrey::{backbone, backbone_within, find_match, read, refine, refine_within};
 use notchergrey::{Error, Refusal, Word};
-use scripts::{script, zigzag, LONG};
+use scripts::{command, mark_command, script, zigzag, LONG};
 use std::alloc::{GlobalAlloc, Layout, System};
 use std::cell::Cell;
 use std::ptr;
@@ -171,10 +171,22 @@ fn no_more_room_than_the_matches_have_letters() {
     let many: Vec<_> = (1..=70).map(|length| (b'D', [length, 0, length])).collect();
     let many = script(LONG, LONG, &many);
     let none = script(LONG, LONG, &[]);
+    // Marks that look like a match, like the end, and like other marks, between two matches.
+    let marks = [0x0000_0044, 0x2545_4545, 0x354d_4d4d].map(|at| mark_command(1, at));
+    let mixed = [
+        command(b'L', &[LONG, LONG]),
+        marks.concat(),
+        command(b'D', &[0, 0, 70]),
+        marks.concat(),
+        command(b'R', &[500, 500, 7]),
+        mark_command(0, 3),
+        b"E".to_vec(),
+    ];
     for script in [
         none,
         one_letter,
         many,
+        mixed.concat(),
         zigzag(1_499),
         zigzag(1_600),
         zigzag(3_001),

@@ -14,6 +14,7 @@ extern "C" {
         p: *mut u32,
         q: *mut u32,
         count: *mut usize,
+        mark_count: *mut usize,
     ) -> u32;
 
     pub fn notchergrey_match(
@@ -32,6 +33,8 @@ extern "C" {
         q: u32,
         records: *const u32,
         records_len: usize,
+        marks: *const u32,
+        marks_len: usize,
         script: *mut u8,
         script_len: usize,
         place: *mut usize,
@@ -43,10 +46,13 @@ extern "C" {
         script_len: usize,
         records: *mut u32,
         records_len: usize,
+        marks: *mut u32,
+        marks_len: usize,
         place: *mut usize,
         p: *mut u32,
         q: *mut u32,
         count: *mut usize,
+        mark_count: *mut usize,
     ) -> u32;
 
     pub fn notchergrey_refine(

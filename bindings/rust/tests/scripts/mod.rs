@@ -2,13 +2,24 @@
 
 #![allow(dead_code)] // no test needs all of them
 
-use notchergrey::Match;
+use notchergrey::{Mark, Match, Side};
 
 pub const LONG: u32 = 1_000_000_000;
 
 pub fn command(letter: u8, operands: &[u32]) -> Vec<u8> {
     let numbers = operands.iter().flat_map(|number| number.to_le_bytes());
     std::iter::once(letter).chain(numbers).collect()
+}
+
+/// A mark, with any byte for its side.
+pub fn mark_command(side: u8, position: u32) -> Vec<u8> {
+    [&[b'M', side][..], &position.to_le_bytes()].concat()
+}
+
+/// An admitted script with these commands behind its own.
+pub fn followed_by(script: &[u8], commands: &[Vec<u8>]) -> Vec<u8> {
+    let (end, before) = script.split_last().unwrap();
+    [before, &commands.concat(), &[*end]].concat()
 }
 
 /// Lengths, matches by their letter and operands, end.
@@ -52,10 +63,36 @@ pub fn reversed(left_a: u32, left_b: u32, length: u32) -> Match {
     }
 }
 
+pub fn on_a(position: u32) -> Mark {
+    Mark {
+        side: Side::A,
+        position,
+    }
+}
+
+pub fn on_b(position: u32) -> Mark {
+    Mark {
+        side: Side::B,
+        position,
+    }
+}
+
+/// As many matches and marks as a script may have, with the marks behind.
+pub fn longest() -> Vec<u8> {
+    let marks = vec![mark_command(1, LONG); 512];
+    followed_by(&many_matches(2_048), &marks)
+}
+
 /// Four numbers for each match.
 pub fn records(matches: &[Match]) -> Vec<u32> {
     let record = |one: &Match| [one.left_a, one.left_b, one.length, one.reversed as u32];
     matches.iter().flat_map(record).collect()
+}
+
+/// Two numbers for each mark.
+pub fn numbers(marks: &[Mark]) -> Vec<u32> {
+    let numbers = |mark: &Mark| [(mark.side == Side::B) as u32, mark.position];
+    marks.iter().flat_map(numbers).collect()
 }
 
 /// Scripts that others made, admitted by the reader.
