@@ -1,10 +1,9 @@
 -- What the walk that fills the columns keeps, and what they hold at its end.
---     admits-reach     behind the lengths of an admitted script
 --     Filled, as-long  the columns hold what the commands said, and are as long as they were
 --     Filling          good commands alone were passed, of a script that is admitted, and the columns are filled so
 --     filling-start, filling-taken, filling-kept     at the start, and behind one more match or mark
 --     filling-ends     at the end the columns hold what the reading leaves
---     never-refused    a script that was admitted is not refused on the second walk
+--     filling-refused  a script that was admitted is not refused on the second walk
 --     kept-columns     behind a refusal
 --     columns-contract the contract of the call, with the demands that follow
 -- Assumes nothing.
@@ -12,11 +11,9 @@ use Prim.Native.Nat.{ℕ, _+_}
 use mathlib.Core.Path.{_≡_, refl, sym, ap, _∙_}
 use mathlib.Core.Bool.{Bool}
 use mathlib.Core.List.{List, [], _∷_, _++_}
-use native.Mathlib.Omega.{arith}
 use lib.ListN.{length, drop, set}
 use Rattle.script.specs.Commands.{lengthsWidth, matchWidth, markWidth, commandOf}
 use Rattle.script.specs.Steps.{stepOf}
-use Rattle.script.specs.Outcomes.{Reach, opened, taken, marked}
 use Rattle.script.specs.Reading.{refused, readScript, verdictOf}
 use Rattle.script.specs.Columns.{columnOf, ColumnsRead, MarksRead}
 use Rattle.script.specs.Demands.{verdictAnswer, ReadingDemand, ColumnsDemand, MarksDemand}
@@ -25,30 +22,12 @@ use Rattle.script.specs.declared.command.Mark.{Mark}
 use Rattle.script.specs.declared.refusal.Refusal.{Refusal}
 use Rattle.script.specs.declared.step.Step.{Step}
 use Rattle.script.specs.declared.Verdict.{Verdict}
-use Rattle.script.proofs.Admitted.{Ended, holds-admitted, reading-refused, admitted-ended}
+use Rattle.script.proofs.Admitted.{reading-refused}
 use Rattle.script.proofs.Columns.{column-length, column-next, columns-demand, marks-demand}
 use Rattle.script.proofs.Demands.{reading-demand}
-use Rattle.reader.specs.Walking.{Admits, MatchPut, MarkPut}
-use Rattle.reader.proofs.Progress.{Progress, progress-start, step-refused, step-finished, step-taken, step-kept}
-
--- ---- where the walk begins
-
-first-reach : {s : List ℕ} {p q at : ℕ} {ms : List Match} {ks : List Mark} → Reach s p q at ms ks
-    → Reach s p q lengthsWidth [] []
-first-reach (opened l a b) = opened l a b
-first-reach (taken r _ _ _) = first-reach r
-first-reach (marked r _ _ _) = first-reach r
-
-ended-reach : {s ls : List ℕ} {ms : List Match} {ks : List Mark} {p q : ℕ} → Ended s ls ms ks → ls ≡ p ∷ q ∷ []
-    → Reach s p q lengthsWidth [] []
-ended-reach {p = p} {q = q} end e =
-    let lengths = end .lengths in
-    let ep : p ≡ end .p = cc in
-    let eq : q ≡ end .q = cc in
-    rw (ep, eq) (first-reach (end .reach))
-
-pub admits-reach : {s : List ℕ} {p q : ℕ} → Admits s p q → Reach s p q lengthsWidth [] []
-admits-reach {s} a = ended-reach (admitted-ended (holds-admitted s (a .told) refl .read)) refl
+use Rattle.reader.specs.Walking.{Admits, nextOf, MatchPut, MarkPut}
+use Rattle.reader.proofs.Progress.{Progress, progress-start, step-finished, step-taken, step-kept}
+use Rattle.reader.proofs.Walks.{admits-reach, never-refused, next-is}
 
 -- ---- the walk
 
@@ -91,14 +70,14 @@ one-more : {X Y : Type 0} (field : X → Y) (column : List Y) (xs : List X) {n :
     → next ≡ columnOf (xs ++ x ∷ []) field column
 one-more field column xs x counted is put = put ∙ rw (is, ← counted) (sym (column-next xs field column x))
 
-pub record Filling (s : List ℕ) (p q : ℕ) (a b d : List ℕ) (r : List Bool) (z x : List ℕ) (a′ b′ d′ : List ℕ)
+pub record Filling (s : List ℕ) (a b d : List ℕ) (r : List Bool) (z x : List ℕ) (a′ b′ d′ : List ℕ)
     (r′ : List Bool) (z′ x′ : List ℕ) (count marks at : ℕ) : Type 0 where
-  pub admits : Admits s p q
-  pub progress : Progress s p q count marks at
+  pub admits : Admits s
+  pub progress : Progress s (admits .p) (admits .q) count marks at
   pub filled : Filled (progress .matches) (progress .points) a b d r z x a′ b′ d′ r′ z′ x′
 
-module _ {s : List ℕ} {p q : ℕ} {a b d : List ℕ} {r : List Bool} {z x : List ℕ} where
-  pub filling-start : Admits s p q → Filling s p q a b d r z x a b d r z x 0 0 lengthsWidth
+module _ {s : List ℕ} {a b d : List ℕ} {r : List Bool} {z x : List ℕ} where
+  pub filling-start : Admits s → Filling s a b d r z x a b d r z x 0 0 lengthsWidth
   unfolding columnOf
   filling-start admits =
       record {
@@ -109,11 +88,15 @@ module _ {s : List ℕ} {p q : ℕ} {a b d : List ℕ} {r : List Bool} {z x : Li
       }
 
   module _ {a′ b′ d′ : List ℕ} {r′ : List Bool} {z′ x′ : List ℕ} {count marks at : ℕ}
-      (h : Filling s p q a b d r z x a′ b′ d′ r′ z′ x′ count marks at) {t : Step}
-      (et : t ≡ stepOf p q count marks at (commandOf (drop at s))) where
+      (h : Filling s a b d r z x a′ b′ d′ r′ z′ x′ count marks at) {t : Step}
+      (en : t ≡ nextOf s at) where
+    -- the byte tells the step
+    et : t ≡ stepOf (h .admits .p) (h .admits .q) count marks at (commandOf (drop at s))
+    et = next-is (h .admits) (h .progress) en
+
     pub filling-taken : {m : Match} {a″ b″ d″ : List ℕ} {r″ : List Bool} → t ≡ Step.Take m
         → MatchPut m count a′ b′ d′ r′ a″ b″ d″ r″
-        → Filling s p q a b d r z x a″ b″ d″ r″ z′ x′ (count + 1) marks (at + matchWidth)
+        → Filling s a b d r z x a″ b″ d″ r″ z′ x′ (count + 1) marks (at + matchWidth)
     unfolding step-taken
     filling-taken {m} e put =
         let f = h .filled in
@@ -134,7 +117,7 @@ module _ {s : List ℕ} {p q : ℕ} {a b d : List ℕ} {r : List Bool} {z x : Li
         }
 
     pub filling-kept : {k : Mark} {z″ x″ : List ℕ} → t ≡ Step.Keep k → MarkPut k marks z′ x′ z″ x″
-        → Filling s p q a b d r z x a′ b′ d′ r′ z″ x″ count (marks + 1) (at + markWidth)
+        → Filling s a b d r z x a′ b′ d′ r′ z″ x″ count (marks + 1) (at + markWidth)
     unfolding step-kept
     filling-kept {k} e put =
         let f = h .filled in
@@ -167,11 +150,8 @@ module _ {s : List ℕ} {p q : ℕ} {a b d : List ℕ} {r : List Bool} {z x : Li
           record { side = rw read (f .side); position = rw read (f .position) },
         )
 
-    pub never-refused : {f : Refusal} → t ≡ Step.Refuse f → ⊥
-    never-refused e =
-        let read = holds-admitted s (h .admits .told) refl .read in
-        let both = sym (step-refused (h .progress) et e) ∙ read in
-        let z : _≡_ {A = ℕ} 0 1 = cc in omega arith
+    pub filling-refused : {f : Refusal} → t ≡ Step.Refuse f → ⊥
+    filling-refused {f} e = never-refused (h .admits) (h .progress) f (sym et ∙ e)
 
 -- ---- the call
 

@@ -1,3 +1,4 @@
 pub mod Progress
+pub mod Walks
 pub mod Finds
 pub mod Filled

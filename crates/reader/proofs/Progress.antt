@@ -1,11 +1,11 @@
 -- What a walk over the commands keeps: the commands passed are good, and as many matches and marks as are counted.
---     rest-drop           a part of a slice from an offset to the end is the remainder
---     next-reach, next-mark     what a step takes leads one good command further
+--     further             what a step takes leads one good command further
 --     opens-script, refuses-script     what the two calls on the first command bring
 --     Progress            what holds between two commands
 --     progress-start      behind the lengths
 --     inside, small       the offset of the next command
---     step-refused, step-finished, step-taken, step-kept     what the step at the offset brings
+--     stepped             the two calls on a command compute the step at its offset
+--     step-refused, step-finished, step-taken, step-kept     what this step brings
 -- Assumes nothing.
 use Prim.Native.Nat.{ℕ, _+_, _-_, _≤_, _<_}
 use mathlib.Core.Path.{_≡_, refl, sym, ap, subst, _∙_}
@@ -29,7 +29,7 @@ use Rattle.script.proofs.Seen.{Seen, seen}
 use Rattle.script.proofs.Outcome.{reach-place, reach-inside, reach-ends, opening-at}
 use Rattle.script.proofs.Judged.{Weighed, Judged, judged, Measured, Pointed, pointed, Roomy, roomy, Opens, opens}
 
-pub rest-drop : (s : List ℕ) (at : ℕ) → take (length s - at) (drop at s) ≡ drop at s
+rest-drop : (s : List ℕ) (at : ℕ) → take (length s - at) (drop at s) ≡ drop at s
 rest-drop s at = take-all (length s - at) (drop at s) (omega (arith, length-drop at s))
 
 -- ---- the commands passed
@@ -128,6 +128,12 @@ module _ (s : List ℕ) {c : Command} {o : Opening} (ec : c ≡ commandOf s) (eo
   refuses-script e = opening-at s (seen s 0) (opening-is e)
 
 -- ---- between two commands
+
+pub stepped : (s : List ℕ) (p q count marks at : ℕ) {c : Command} {t : Step}
+    → c ≡ commandOf (take (length s - at) (drop at s)) → t ≡ stepOf p q count marks at c
+    → t ≡ stepOf p q count marks at (commandOf (drop at s))
+stepped s p q count marks at ec et =
+    et ∙ ap (stepOf p q count marks at) (ec ∙ ap commandOf (rest-drop s at))
 
 pub record Progress (s : List ℕ) (p q count marks at : ℕ) : Type 0 where
   pub matches : List Match

@@ -1,6 +1,6 @@
 // The matches and the marks of a script, a lent column for each field.
 use crate::read;
-use crate::step_at;
+use crate::walk::next_at;
 use script::Verdict;
 use script::command::LENGTHS_WIDTH;
 use script::command::MARK_WIDTH;
@@ -73,8 +73,6 @@ fn put_mark(found: Mark, k: usize, sides: &mut [u8], positions: &mut [u32])
 // The six columns of an admitted script, filled command by command.
 fn fill_columns(
     script: &[u8],
-    p: u32,
-    q: u32,
     left_a: &mut [u32],
     left_b: &mut [u32],
     lengths: &mut [u32],
@@ -82,7 +80,7 @@ fn fill_columns(
     sides: &mut [u8],
     positions: &mut [u32],
 )
-    requires { ⌜ Admits (now script) p q ⌝ }
+    requires { ⌜ Admits (now script) ⌝ }
     ensures columns { λ _. ⌜
         ColumnsRead (now (script .entry))
         (now («left_a» .entry)) (now («left_b» .entry)) (now (lengths .entry)) (now (reversed .entry))
@@ -95,7 +93,7 @@ fn fill_columns(
     let mut marks: usize = 0;
     let mut at: usize = LENGTHS_WIDTH;
     loop {
-        match step_at(script, p, q, count, marks, at) {
+        match next_at(script, at) {
             Step::Refuse(_) => return,
             Step::Finish => return,
             Step::Take(found) => {
@@ -145,22 +143,12 @@ pub fn read_columns(
     match verdict {
         Verdict::Refused(_) => verdict,
         Verdict::Admitted {
-            p,
-            q,
+            p: _,
+            q: _,
             count: _,
             marks: _,
         } => {
-            fill_columns(
-                script,
-                p,
-                q,
-                left_a,
-                left_b,
-                lengths,
-                reversed,
-                sides,
-                positions,
-            );
+            fill_columns(script, left_a, left_b, lengths, reversed, sides, positions);
             verdict
         }
     }

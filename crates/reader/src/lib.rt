@@ -2,6 +2,7 @@
 // script.
 pub mod columns;
 pub mod find;
+pub mod walk;
 
 use commands::read_command;
 use judging::judge;
@@ -14,22 +15,10 @@ use script::step::Opening;
 use script::step::Step;
 ghost use mathlib.Core.Path.{_≡_};
 ghost use mathlib.Core.List.{[]};
-ghost use Prim.Native.Nat.{_≤_, _<_};
-ghost use lib.ListN.{length, drop};
-ghost use Rattle.script.specs.Commands.{lengthsWidth, commandOf};
-ghost use Rattle.script.specs.Steps.{stepOf};
+ghost use Rattle.script.specs.Commands.{lengthsWidth};
 ghost use Rattle.script.specs.Reading.{readScript, verdictOf};
 ghost use Rattle.script.specs.Outcomes.{Reach};
 ghost use Rattle.script.specs.Demands.{verdictAnswer, ReadingDemand};
-
-// What the command at the offset `at` does, with so many matches and marks before it.
-pub fn step_at(script: &[u8], p: u32, q: u32, count: usize, marks: usize, at: usize) -> Step
-    requires { ⌜ at ≤ length (now script) ⌝ }
-    requires { ⌜ at < 4294967296 ⌝ }
-    ensures { λ r. ⌜ r ≡ stepOf p q count marks at (commandOf (drop at (now (script .entry)))) ⌝ }
-{
-    judge(read_command(&script[at..]), p, q, count, marks, at)
-}
 
 // The commands behind the lengths, one after the other.
 fn read_commands(script: &[u8], p: u32, q: u32) -> Verdict
@@ -40,7 +29,7 @@ fn read_commands(script: &[u8], p: u32, q: u32) -> Verdict
     let mut marks: usize = 0;
     let mut at: usize = LENGTHS_WIDTH;
     loop {
-        match step_at(script, p, q, count, marks, at) {
+        match judge(read_command(&script[at..]), p, q, count, marks, at) {
             Step::Refuse(refusal) => return Verdict::Refused(refusal),
             Step::Finish => return Verdict::Admitted { p, q, count, marks },
             Step::Take(_) => {

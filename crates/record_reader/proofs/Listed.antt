@@ -4,7 +4,7 @@
 --     Listing           what the walk keeps
 --     listing-start, listing-taken, listing-kept, listing-ends     at the start, a match or a mark later, at the end
 --     record-room, mark-room     where the next one is put, there is room for it
---     never-refused     a script that was admitted is not refused on the second walk
+--     listing-refused   a script that was admitted is not refused on the second walk
 --     lists-room        what the verdict counts is what is read
 --     unread-listed, short-listed, whole-listed     the contract of the call, by its answer
 -- Assumes nothing.
@@ -28,9 +28,9 @@ use Rattle.script.specs.declared.step.Step.{Step}
 use Rattle.script.specs.declared.Verdict.{Verdict}
 use Rattle.script.proofs.Outcome.{reach-read}
 use Rattle.script.proofs.Admitted.{holds-admitted, reading-refused}
-use Rattle.reader.specs.Walking.{Admits}
-use Rattle.reader.proofs.Progress.{Progress, progress-start, step-refused, step-finished, step-taken, step-kept}
-use Rattle.reader.proofs.Filled.{admits-reach}
+use Rattle.reader.specs.Walking.{Admits, nextOf}
+use Rattle.reader.proofs.Progress.{Progress, progress-start, step-finished, step-taken, step-kept}
+use Rattle.reader.proofs.Walks.{admits-reach, never-refused, next-is}
 use Rattle.records.specs.Records.{recordWidth, numbersOf, listOf, markNumbers, pointNumbers, pointList}
 use Rattle.records.specs.Storing.{Stored}
 use Rattle.records.specs.Listing.{Listing as Outcome, listingOf}
@@ -79,28 +79,29 @@ reads-more (suc n) p q at ms ks s {ls} {all} {points} e =
     go more (Step.Keep k) e =
         omega (arith, more (at + markWidth) ms (ks ++ k ∷ []) (drop markWidth s) e, length-append ks (k ∷ []))
 
-pub progress-few : {s : List ℕ} {p q count marked at : ℕ} → Admits s p q → Progress s p q count marked at
+pub progress-few : {s : List ℕ} {count marked at : ℕ} (admits : Admits s)
+    → Progress s (admits .p) (admits .q) count marked at
     → (count ≤ length (matchesRead (readScript s))) × (marked ≤ length (marksRead (readScript s)))
-progress-few {s} {p} {q} {at = at} admits progress =
+progress-few {s} {at = at} admits progress =
     let read = holds-admitted s (admits .told) refl .read in
     let n = progress .counted in
     let k = progress .counted-marks in
     rw read (omega (
       arith,
-      reads-more _ p q at (progress .matches) (progress .points) _ (sym (reach-read (progress .reach)) ∙ read),
+      reads-more _ (admits .p) (admits .q) at (progress .matches) (progress .points) _
+          (sym (reach-read (progress .reach)) ∙ read),
     ))
 
 -- ---- the walk
 
-pub record Listing (s : List ℕ) (p q : ℕ) (before before-marks out points : List ℕ) (count marked at : ℕ)
-    : Type 0 where
-  pub admits : Admits s p q
-  pub progress : Progress s p q count marked at
+pub record Listing (s before before-marks out points : List ℕ) (count marked at : ℕ) : Type 0 where
+  pub admits : Admits s
+  pub progress : Progress s (admits .p) (admits .q) count marked at
   pub stored : Stored before 0 (listOf (progress .matches)) out
   pub stored-marks : Stored before-marks 0 (pointList (progress .points)) points
 
-module _ {s : List ℕ} {p q : ℕ} {before before-marks : List ℕ} where
-  pub listing-start : Admits s p q → Listing s p q before before-marks before before-marks 0 0 lengthsWidth
+module _ {s before before-marks : List ℕ} where
+  pub listing-start : Admits s → Listing s before before-marks before before-marks 0 0 lengthsWidth
   unfolding flatMap
   listing-start admits =
       record {
@@ -111,8 +112,12 @@ module _ {s : List ℕ} {p q : ℕ} {before before-marks : List ℕ} where
       }
 
   module _ {out points : List ℕ} {count marked at : ℕ}
-      (h : Listing s p q before before-marks out points count marked at) {t : Step}
-      (et : t ≡ stepOf p q count marked at (commandOf (drop at s))) where
+      (h : Listing s before before-marks out points count marked at) {t : Step}
+      (en : t ≡ nextOf s at) where
+    -- the byte tells the step
+    et : t ≡ stepOf (h .admits .p) (h .admits .q) count marked at (commandOf (drop at s))
+    et = next-is (h .admits) (h .progress) en
+
     pub record-room : {m : Match} → t ≡ Step.Take m
         → recordWidth * length (matchesRead (readScript s)) ≤ length before
         → recordWidth * count + recordWidth ≤ length out
@@ -126,7 +131,7 @@ module _ {s : List ℕ} {p q : ℕ} {before before-marks : List ℕ} where
 
     pub listing-taken : {m : Match} {out′ : List ℕ} → t ≡ Step.Take m
         → Stored out (recordWidth * count) (numbersOf m) out′
-        → Listing s p q before before-marks out′ points (count + 1) marked (at + matchWidth)
+        → Listing s before before-marks out′ points (count + 1) marked (at + matchWidth)
     unfolding step-taken
     listing-taken {m} e put =
         let ms = h .progress .matches in
@@ -140,7 +145,7 @@ module _ {s : List ℕ} {p q : ℕ} {before before-marks : List ℕ} where
 
     pub listing-kept : {k : Mark} {points′ : List ℕ} → t ≡ Step.Keep k
         → Stored points (markNumbers * marked) (pointNumbers k) points′
-        → Listing s p q before before-marks out points′ count (marked + 1) (at + markWidth)
+        → Listing s before before-marks out points′ count (marked + 1) (at + markWidth)
     unfolding step-kept
     listing-kept {k} e put =
         let ks = h .progress .points in
@@ -159,11 +164,8 @@ module _ {s : List ℕ} {p q : ℕ} {before before-marks : List ℕ} where
         × Stored before-marks 0 (pointList (marksRead (readScript s))) points
     listing-ends e = rw (step-finished (h .progress) et e) (h .stored, h .stored-marks)
 
-    pub never-refused : {f : Refusal} → t ≡ Step.Refuse f → ⊥
-    never-refused e =
-        let read = holds-admitted s (h .admits .told) refl .read in
-        let both = sym (step-refused (h .progress) et e) ∙ read in
-        let z : _≡_ {A = ℕ} 0 1 = cc in omega arith
+    pub listing-refused : {f : Refusal} → t ≡ Step.Refuse f → ⊥
+    listing-refused {f} e = never-refused (h .admits) (h .progress) f (sym et ∙ e)
 
 -- ---- the call
 
@@ -208,14 +210,14 @@ module _ (s : List ℕ) (bytes : Bytes s) (out points : List ℕ) where
 
     module _ {p q count marked : ℕ} (v : told ≡ Verdict.Admitted p q count marked) where
       pub lists-room : recordWidth * count ≤ length out → markNumbers * marked ≤ length points
-          → Admits s p q
+          → Admits s
           × ((recordWidth * length (matchesRead (readScript s)) ≤ length out)
           × (markNumbers * length (marksRead (readScript s)) ≤ length points))
       lists-room room room-marks =
           let held = holds-admitted s reads v in
           let n = held .counted in
           let k = held .counted-marks in
-          (record { count = count; marks = marked; told = sym v ∙ reads }, rw (held .read) (omega arith))
+          (record { p = p; q = q; count = count; marks = marked; told = sym v ∙ reads }, rw (held .read) (omega arith))
 
       pub short-listed : (length out < recordWidth * count) ⊎ (length points < markNumbers * marked)
           → Contract (Listed.Refused BufferTooShort) out points

@@ -2,7 +2,7 @@
 // buffers.
 use commands::bit;
 use reader::read;
-use reader::step_at;
+use reader::walk::next_at;
 use records::Listed;
 use records::MARK_NUMBERS;
 use records::RECORD_WIDTH;
@@ -48,8 +48,8 @@ fn put_mark(marks: &mut [u32], k: usize, found: Mark)
 }
 
 // Puts the records and the marks of an admitted script, command by command.
-fn put_lists(script: &[u8], p: u32, q: u32, out: &mut [u32], marks: &mut [u32])
-    requires { ⌜ Admits (now script) p q ⌝ }
+fn put_lists(script: &[u8], out: &mut [u32], marks: &mut [u32])
+    requires { ⌜ Admits (now script) ⌝ }
     requires { ⌜ recordWidth * length (matchesRead (readScript (now script))) ≤ length (now out) ⌝ }
     requires { ⌜ markNumbers * length (marksRead (readScript (now script))) ≤ length (now marks) ⌝ }
     ensures records { λ _. ⌜
@@ -61,7 +61,7 @@ fn put_lists(script: &[u8], p: u32, q: u32, out: &mut [u32], marks: &mut [u32])
     let mut marked: usize = 0;
     let mut at: usize = LENGTHS_WIDTH;
     loop {
-        match step_at(script, p, q, count, marked, at) {
+        match next_at(script, at) {
             Step::Refuse(_) => return,
             Step::Finish => return,
             Step::Take(found) => {
@@ -104,7 +104,7 @@ pub fn read_records(script: &[u8], out: &mut [u32], marks: &mut [u32]) -> Listed
             if marks.len() < MARK_NUMBERS * marked {
                 return Listed::Refused(Refusal::BufferTooShort);
             }
-            put_lists(script, p, q, out, marks);
+            put_lists(script, out, marks);
             Listed::Records {
                 p,
                 q,

@@ -6,6 +6,7 @@ pub mod Outcome
 pub mod Prefix
 pub mod Admitted
 pub mod Found
+pub mod Places
 pub mod Stores
 pub mod Columns
 pub mod Demands

@@ -5,59 +5,60 @@ use lib.ListN.{length}
 use native.Mathlib.Omega.{arith}
 use borrow.Author.Needs.{needs}
 use Rattle.reader.proofs.Progress.{inside, small}
+use Rattle.reader.proofs.Walks.{next-asks}
 use Rattle.record_reader.proofs.Listed.{Listing, listing-start, listing-taken, listing-kept, listing-ends}
-use Rattle.record_reader.proofs.Listed.{record-room, mark-room, never-refused}
+use Rattle.record_reader.proofs.Listed.{record-room, mark-room, listing-refused}
 use Rattle.record_reader.proofs.put_lists.Statement.{statement}
 use Rattle.record_reader.proofs.put_lists.Tie as tie
 
 abbrev Inv-loop : tie.InvT-loop
-Inv-loop script p q out₀ marks₀ count₀ marked₀ at₀ out marks count marked at =
-    Listing script p q out₀ marks₀ out marks count marked at
+Inv-loop script out₀ marks₀ count₀ marked₀ at₀ out marks count marked at =
+    Listing script out₀ marks₀ out marks count marked at
 
 abbrev μ-loop : tie.MeasureT-loop
-μ-loop script p q out₀ marks₀ count₀ marked₀ at₀ out marks count marked at = length script - at
+μ-loop script out₀ marks₀ count₀ marked₀ at₀ out marks count marked at = length script - at
 
 loop-holds : tie.Need-loop-holds Inv-loop μ-loop
 loop-holds c = listing-start (search needs)
 
-step-at-requires : tie.Need-step-at-requires Inv-loop μ-loop
-step-at-requires c κs = (inside (c .loop .inv .progress), small (c .loop .inv .progress) .1 .1)
+next-at-requires : tie.Need-next-at-requires Inv-loop μ-loop
+next-at-requires c κs = next-asks (c .loop .inv .admits) (c .loop .inv .progress)
 
 enum-told : tie.Need-enum-told Inv-loop μ-loop
 enum-told c = search needs
 
 same-length : tie.Need-same-length Inv-loop μ-loop
 same-length c =
-    let step : tie.After-step-at Inv-loop μ-loop = search in
+    let step : tie.After-next-at Inv-loop μ-loop = search in
     step .before .loop .inv .stored .as-long
 
 same-length-2 : tie.Need-same-length-2 Inv-loop μ-loop
 same-length-2 c =
-    let step : tie.After-step-at Inv-loop μ-loop = search in
+    let step : tie.After-next-at Inv-loop μ-loop = search in
     step .before .loop .inv .stored-marks .as-long
 
 returns : tie.Need-returns Inv-loop μ-loop
 returns c =
-    let step : tie.After-step-at Inv-loop μ-loop = search in
-    absurd (never-refused (step .before .loop .inv) (step .step-at .ensures) (c .enum-told .given .1))
+    let step : tie.After-next-at Inv-loop μ-loop = search in
+    absurd (listing-refused (step .before .loop .inv) (step .next-at .ensures) (c .enum-told .given .1))
 
 enum-told-2 : tie.Need-enum-told-2 Inv-loop μ-loop
 enum-told-2 c = search needs
 
 same-length-3 : tie.Need-same-length-3 Inv-loop μ-loop
 same-length-3 c =
-    let step : tie.After-step-at Inv-loop μ-loop = search in
+    let step : tie.After-next-at Inv-loop μ-loop = search in
     step .before .loop .inv .stored .as-long
 
 same-length-4 : tie.Need-same-length-4 Inv-loop μ-loop
 same-length-4 c =
-    let step : tie.After-step-at Inv-loop μ-loop = search in
+    let step : tie.After-next-at Inv-loop μ-loop = search in
     step .before .loop .inv .stored-marks .as-long
 
 returns-2 : tie.Need-returns-2 Inv-loop μ-loop
 returns-2 c =
-    let step : tie.After-step-at Inv-loop μ-loop = search in
-    listing-ends (step .before .loop .inv) (step .step-at .ensures) (c .enum-told2 .given .1)
+    let step : tie.After-next-at Inv-loop μ-loop = search in
+    listing-ends (step .before .loop .inv) (step .next-at .ensures) (c .enum-told2 .given .1)
 
 enum-known-found : tie.Need-enum-known-found Inv-loop μ-loop
 enum-known-found c = search needs
@@ -65,16 +66,16 @@ enum-known-found c = search needs
 put-record-requires : tie.Need-put-record-requires Inv-loop μ-loop
 put-record-requires c κs =
     let start : tie.Start Inv-loop μ-loop = search in
-    let step : tie.After-step-at Inv-loop μ-loop = search in
+    let step : tie.After-next-at Inv-loop μ-loop = search in
     let told : tie.After-found Inv-loop μ-loop = search in
-    record-room (step .before .loop .inv) (step .step-at .ensures) (told .found .given .1) (start .pre .1 .0)
+    record-room (step .before .loop .inv) (step .next-at .ensures) (told .found .given .1) (start .pre .1 .0)
 
 loop-again : tie.Need-loop-again Inv-loop μ-loop
 loop-again c =
-    let step : tie.After-step-at Inv-loop μ-loop = search in
+    let step : tie.After-next-at Inv-loop μ-loop = search in
     let told : tie.After-found Inv-loop μ-loop = search in
     let put : tie.After-put-record Inv-loop μ-loop = search in
-    listing-taken (step .before .loop .inv) (step .step-at .ensures) (told .found .given .1) (put .put-record .ensures)
+    listing-taken (step .before .loop .inv) (step .next-at .ensures) (told .found .given .1) (put .put-record .ensures)
 
 add-count : tie.Need-add-count Inv-loop μ-loop
 add-count c = omega (arith, small (loop-again c .progress))
@@ -91,16 +92,16 @@ enum-known-found-2 c = search needs
 put-mark-requires : tie.Need-put-mark-requires Inv-loop μ-loop
 put-mark-requires c κs =
     let start : tie.Start Inv-loop μ-loop = search in
-    let step : tie.After-step-at Inv-loop μ-loop = search in
+    let step : tie.After-next-at Inv-loop μ-loop = search in
     let told : tie.After-found2 Inv-loop μ-loop = search in
-    mark-room (step .before .loop .inv) (step .step-at .ensures) (told .found2 .given .1) (start .pre .1 .1)
+    mark-room (step .before .loop .inv) (step .next-at .ensures) (told .found2 .given .1) (start .pre .1 .1)
 
 loop-again-2 : tie.Need-loop-again-2 Inv-loop μ-loop
 loop-again-2 c =
-    let step : tie.After-step-at Inv-loop μ-loop = search in
+    let step : tie.After-next-at Inv-loop μ-loop = search in
     let told : tie.After-found2 Inv-loop μ-loop = search in
     let put : tie.After-put-mark Inv-loop μ-loop = search in
-    listing-kept (step .before .loop .inv) (step .step-at .ensures) (told .found2 .given .1) (put .put-mark .ensures)
+    listing-kept (step .before .loop .inv) (step .next-at .ensures) (told .found2 .given .1) (put .put-mark .ensures)
 
 add-marked : tie.Need-add-marked Inv-loop μ-loop
 add-marked c = omega (arith, small (loop-again-2 c .progress))
@@ -118,7 +119,7 @@ put-lists-spec =
     Inv-loop
     μ-loop
     loop-holds
-    step-at-requires
+    next-at-requires
     enum-told
     same-length
     same-length-2

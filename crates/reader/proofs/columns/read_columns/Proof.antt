@@ -12,14 +12,14 @@ read-requires c κs = search needs
 enum-told : tie.Need-enum-told
 enum-told c = search needs
 
-enum-known-verdict : tie.Need-enum-known-verdict
-enum-known-verdict c = search needs
+enum-told-2 : tie.Need-enum-told-2
+enum-told-2 c = search needs
 
 fill-columns-requires : tie.Need-fill-columns-requires
 fill-columns-requires c κs =
     let read : tie.After-read = search in
-    let told : tie.After-verdict = search in
-    record { count = _; marks = _; told = sym (told .verdict .given .1) ∙ read .read .ensures .0 }
+    let told : tie.After-enum-told2 = search in
+    record { p = _; q = _; count = _; marks = _; told = sym (told .enum-told2 .given .1) ∙ read .read .ensures .0 }
 
 returns : tie.Need-returns
 returns c =
@@ -47,9 +47,8 @@ same-length-6 c = search needs
 returns-2 : tie.Need-returns-2
 returns-2 c =
     let read : tie.After-read = search in
-    let told : tie.After-verdict = search in
     let filled : tie.After-fill-columns = search in
-    columns-contract _ (sym (told .verdict .given .1) ∙ read .read .ensures .0) (filled .fill-columns .ensures)
+    columns-contract _ (read .read .ensures .0) (filled .fill-columns .ensures)
 
 pub read-columns-spec : {M : Type 1} → statement M
 read-columns-spec =
@@ -57,7 +56,7 @@ read-columns-spec =
     (tie.spec
     read-requires
     enum-told
-    enum-known-verdict
+    enum-told-2
     fill-columns-requires
     returns
     same-length
