@@ -4,10 +4,11 @@ use bench::{chain, reader, records, refiner, summary};
 use std::env;
 use std::process::ExitCode;
 
-const PARTS: [(&str, fn()); 5] = [
+const PARTS: [(&str, fn()); 6] = [
     ("reader", reader::run),
     ("records", records::run),
     ("refiner", refiner::run),
+    ("marks", refiner::marks::run),
     ("summary", summary::run),
     ("chain", chain::run),
 ];

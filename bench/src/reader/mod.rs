@@ -21,7 +21,7 @@ pub fn run() {
         check(case);
         report_reading(case);
     }
-    println!("Rattle: notchergrey_read. Rust: plain Rust in one pass that keeps no match.");
+    println!("Rattle: notchergrey_read. Rust: plain Rust in one pass that keeps nothing.");
     println!("lent: plain Rust in one pass into arrays of its caller, which is more to do.");
     println!(
         "\n{:<36} {:>10} {:>10} {:>6} {:>10} {:>10} {:>6}",
@@ -65,31 +65,33 @@ fn report_reading(case: &Case<Vec<u8>>) {
 }
 
 fn report_one(case: &Case<Vec<u8>>) {
+    let number = case.matches as u32;
+    let with_left_end = |script: &Vec<u8>| (script.clone(), left_end(script, number));
+    let inputs: Vec<(Vec<u8>, u32)> = case.inputs.iter().map(with_left_end).collect();
     let timing = Timing {
         calls: case.calls,
-        inputs: &case.inputs,
+        inputs: &inputs,
     };
-    let number = case.matches as u32;
     let mut found = NO_MATCH;
     let mut carried = NOT_CARRIED;
     let [rattle, plain, rattle_carry, plain_carry] = timing.medians([
-        &mut |script| {
+        &mut |(script, _)| {
             black_box(door::one_match(script, number, &mut found));
         },
-        &mut |script| {
+        &mut |(script, _)| {
             _ = black_box(plain::find(script, number));
         },
-        &mut |script| {
+        &mut |(script, left_end)| {
             black_box(door::carry(
                 script,
                 number,
                 Side::A,
-                left_end(script),
+                *left_end,
                 &mut carried,
             ));
         },
-        &mut |script| {
-            _ = black_box(plain::carry_from_a(script, number, left_end(script)));
+        &mut |(script, left_end)| {
+            _ = black_box(plain::carry_from_a(script, number, *left_end));
         },
     ]);
     println!(
@@ -104,12 +106,9 @@ fn report_one(case: &Case<Vec<u8>>) {
     );
 }
 
-/// The left end on A of a script's last match, which stands before the end; 0 if there is none.
-fn left_end(script: &[u8]) -> u32 {
-    let Some(from) = script.len().checked_sub(13).filter(|&from| from > 9) else {
-        return 0;
-    };
-    u32::from_le_bytes(script[from..from + 4].try_into().expect("four bytes"))
+/// The left end on A of the match of this number; 0 if there is none.
+fn left_end(script: &[u8], number: u32) -> u32 {
+    plain::find(script, number).map_or(0, |found| found.left_a)
 }
 
 const NO_MATCH: OneMatch = OneMatch {
@@ -130,7 +129,19 @@ pub const NO_NUMBERS: Reading = Reading {
     p: 0,
     q: 0,
     count: 0,
+    mark_count: 0,
 };
+
+/// What the doors write for an admitted script.
+pub fn numbers_of(admitted: Admitted) -> Reading {
+    Reading {
+        place: 0,
+        p: admitted.p,
+        q: admitted.q,
+        count: admitted.count,
+        mark_count: admitted.mark_count,
+    }
+}
 
 /// Readers that disagree are not worth timing.
 fn check(case: &Case<Vec<u8>>) {
@@ -138,15 +149,7 @@ fn check(case: &Case<Vec<u8>>) {
         let mut numbers = NO_NUMBERS;
         let number = door::read(script, &mut numbers);
         let (wanted_number, wanted) = match plain::judge(script) {
-            Ok(Admitted { p, q, count }) => (
-                0,
-                Reading {
-                    p,
-                    q,
-                    count,
-                    place: 0,
-                },
-            ),
+            Ok(admitted) => (0, numbers_of(admitted)),
             Err(refusal) => {
                 let place = refusal.place;
                 (
@@ -170,7 +173,8 @@ fn check_one(case: &Case<Vec<u8>>) {
         let mut found = NO_MATCH;
         let answer = door::one_match(script, number, &mut found);
         let mut carried = NOT_CARRIED;
-        let carry_answer = door::carry(script, number, Side::A, left_end(script), &mut carried);
+        let left_end = left_end(script, number);
+        let carry_answer = door::carry(script, number, Side::A, left_end, &mut carried);
         match plain::find(script, number) {
             Ok(m) => {
                 assert_eq!(answer, 0, "{}", case.name);
@@ -185,7 +189,7 @@ fn check_one(case: &Case<Vec<u8>>) {
                 case.name
             ),
         }
-        match plain::carry_from_a(script, number, left_end(script)) {
+        match plain::carry_from_a(script, number, left_end) {
             Ok(to) => assert_eq!((carry_answer, carried.carried), (0, to), "{}", case.name),
             Err(refusal) => assert_eq!(
                 (carry_answer, carried.place),
@@ -197,7 +201,7 @@ fn check_one(case: &Case<Vec<u8>>) {
     }
 }
 
-/// The plain reader's columns against the slow program's matches.
+/// The plain reader's columns against the slow program's matches and marks.
 fn check_matches(case: &Case<Vec<u8>>, bytes: &[u8]) {
     let Ok(slow) = script::read(bytes) else {
         return;
@@ -210,5 +214,20 @@ fn check_matches(case: &Case<Vec<u8>>, bytes: &[u8]) {
         let wanted = [m.left_a, m.left_b, m.length];
         assert_eq!(got.map(u64::from), wanted, "{}", case.name);
         assert_eq!(columns.reversed[i], m.reversed, "{}", case.name);
+    }
+    assert_eq!(admitted.mark_count, slow.marks.len(), "{}", case.name);
+    for (i, mark) in slow.marks.iter().enumerate() {
+        let side = if columns.side[i] == 0 {
+            Side::A
+        } else {
+            Side::B
+        };
+        assert_eq!(side, mark.side, "{}", case.name);
+        assert_eq!(
+            u64::from(columns.position[i]),
+            mark.position,
+            "{}",
+            case.name
+        );
     }
 }

@@ -4,19 +4,19 @@ mod cases;
 mod plain;
 
 use crate::reader::cases::Case;
-use crate::reader::plain::Admitted;
-use crate::reader::NO_NUMBERS;
+use crate::reader::{numbers_of, NO_NUMBERS};
 use crate::timing::Timing;
 use cases::List;
 use compare::door::{self, Reading, Writing};
 use compare::slow::refusal::{Refusal, Word};
-use compare::slow::script::{self, MOST_MATCHES};
+use compare::slow::script::{self, MOST_MARKS, MOST_MATCHES};
 use plain::script_bytes;
 use std::hint::black_box;
 
 /// Room for every script, and for every list.
-const MOST_BYTES: usize = script_bytes(MOST_MATCHES);
+const MOST_BYTES: usize = script_bytes(MOST_MATCHES, MOST_MARKS);
 const MOST_NUMBERS: usize = 4 * MOST_MATCHES;
+const MOST_NUMBERS_OF_MARKS: usize = 2 * MOST_MARKS;
 
 pub fn run() {
     println!(
@@ -28,7 +28,7 @@ pub fn run() {
         report(&case);
     }
     println!("write: notchergrey_write. read: notchergrey_read_records.");
-    println!("Rust: plain Rust that judges in one pass and fills the lent buffer in another.");
+    println!("Rust: plain Rust that judges in one pass and fills the lent buffers in another.");
 }
 
 fn report(case: &Case<List>) {
@@ -40,22 +40,36 @@ fn report(case: &Case<List>) {
     let mut script_of_plain = script.clone();
     let mut records = vec![0; MOST_NUMBERS];
     let mut records_of_plain = records.clone();
+    let mut marks = vec![0; MOST_NUMBERS_OF_MARKS];
+    let mut marks_of_plain = marks.clone();
     let mut written = NOT_WRITTEN;
     let mut numbers = NO_NUMBERS;
     let [rattle_write, plain_write, rattle_read, plain_read] = timing.medians([
         &mut |list| {
-            let &List { p, q, .. } = list;
-            black_box(door::write(p, q, &list.records, &mut script, &mut written));
+            let List { p, q, records, .. } = list;
+            let answer = door::write(*p, *q, records, &list.marks, &mut script, &mut written);
+            black_box(answer);
         },
         &mut |list| {
-            let &List { p, q, .. } = list;
-            _ = black_box(plain::write(p, q, &list.records, &mut script_of_plain));
+            let List { p, q, records, .. } = list;
+            _ = black_box(plain::write(
+                *p,
+                *q,
+                records,
+                &list.marks,
+                &mut script_of_plain,
+            ));
         },
         &mut |list| {
-            black_box(door::read_records(&list.script, &mut records, &mut numbers));
+            let answer = door::read_records(&list.script, &mut records, &mut marks, &mut numbers);
+            black_box(answer);
         },
         &mut |list| {
-            _ = black_box(plain::read(&list.script, &mut records_of_plain));
+            _ = black_box(plain::read(
+                &list.script,
+                &mut records_of_plain,
+                &mut marks_of_plain,
+            ));
         },
     ]);
     println!(
@@ -83,20 +97,32 @@ fn check(case: &Case<List>) {
         for room in [bytes - 1, bytes, MOST_BYTES] {
             check_writing(&case.name, list, room);
         }
-        let numbers = list.records.len();
-        for room in [numbers.saturating_sub(1), numbers, MOST_NUMBERS] {
-            check_reading(&case.name, list, room);
+        let (numbers, of_marks) = (list.records.len(), list.marks.len());
+        for rooms in [
+            (numbers.saturating_sub(1), of_marks),
+            (numbers, of_marks.saturating_sub(1)),
+            (numbers, of_marks),
+            (MOST_NUMBERS, MOST_NUMBERS_OF_MARKS),
+        ] {
+            check_reading(&case.name, list, rooms);
         }
     }
 }
 
 fn check_writing(name: &str, list: &List, room: usize) {
-    let &List { p, q, .. } = list;
+    let List {
+        p,
+        q,
+        records,
+        marks,
+        ..
+    } = list;
+    let (&p, &q) = (p, q);
     let mut script = vec![7; room];
     let mut script_of_plain = script.clone();
     let mut written = NOT_WRITTEN;
-    let answer = door::write(p, q, &list.records, &mut script, &mut written);
-    let (plain_answer, wanted) = match plain::write(p, q, &list.records, &mut script_of_plain) {
+    let answer = door::write(p, q, records, marks, &mut script, &mut written);
+    let (plain_answer, wanted) = match plain::write(p, q, records, marks, &mut script_of_plain) {
         Ok(length) => (0, Writing { place: 0, length }),
         Err(refusal) => {
             let place = refusal.place;
@@ -112,21 +138,16 @@ fn check_writing(name: &str, list: &List, room: usize) {
     }
 }
 
-fn check_reading(name: &str, list: &List, room: usize) {
+fn check_reading(name: &str, list: &List, (room, room_of_marks): (usize, usize)) {
     let mut records = vec![7; room];
+    let mut marks = vec![7; room_of_marks];
     let mut records_of_plain = records.clone();
+    let mut marks_of_plain = marks.clone();
     let mut numbers = NO_NUMBERS;
-    let answer = door::read_records(&list.script, &mut records, &mut numbers);
-    let (plain_answer, wanted) = match plain::read(&list.script, &mut records_of_plain) {
-        Ok(Admitted { p, q, count }) => (
-            0,
-            Reading {
-                place: 0,
-                p,
-                q,
-                count,
-            },
-        ),
+    let answer = door::read_records(&list.script, &mut records, &mut marks, &mut numbers);
+    let read = plain::read(&list.script, &mut records_of_plain, &mut marks_of_plain);
+    let (plain_answer, wanted) = match read {
+        Ok(admitted) => (0, numbers_of(admitted)),
         Err(refusal) => (
             refusal.number(),
             Reading {
@@ -137,10 +158,12 @@ fn check_reading(name: &str, list: &List, room: usize) {
     };
     assert_eq!((answer, numbers), (plain_answer, wanted), "{name}");
     assert!(records == records_of_plain, "{name}: two lists");
-    let fits = room >= list.records.len();
+    assert!(marks == marks_of_plain, "{name}: two lists of marks");
+    let fits = room >= list.records.len() && room_of_marks >= list.marks.len();
     assert_eq!(answer, wanted_answer(list, fits), "{name}");
     if answer == 0 {
         assert!(records.starts_with(&list.records), "{name}: not the list");
+        assert!(marks.starts_with(&list.marks), "{name}: not the marks");
     }
 }
 

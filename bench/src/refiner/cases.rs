@@ -79,15 +79,8 @@ fn case(name: impl Into<String>, matches: &[DraftMatch], capacity: usize) -> Cas
     }
 }
 
-/// Matches that lie anywhere, as long as they may be for a table of 3,000 rows.
 fn some_case(random: &mut Random, count: usize) -> Case {
-    let scripts = (0..8).map(|_| {
-        let lengths = (0..32).map(|halvings| LONGEST >> halvings);
-        let mut drawn = lengths.map(|longest| some_script(random, count, longest));
-        drawn
-            .find(|script| fits_the_table(script))
-            .expect("matches of a letter fit")
-    });
+    let scripts = (0..8).map(|_| script(&some_matches(random, count)));
     Case {
         name: format!("{count} matches"),
         scripts: scripts.collect(),
@@ -95,14 +88,23 @@ fn some_case(random: &mut Random, count: usize) -> Case {
     }
 }
 
-fn some_script(random: &mut Random, count: usize, longest: u32) -> Vec<u8> {
-    let any_match = |_| match_up_to(random, LONGEST, longest);
-    script(&(0..count).map(any_match).collect::<Vec<_>>())
+/// Matches that lie anywhere, as long as they may be for a table of 3,000 rows.
+pub fn some_matches(random: &mut Random, count: usize) -> Vec<DraftMatch> {
+    let lengths = (0..32).map(|halvings| LONGEST >> halvings);
+    let mut drawn = lengths.map(|longest| matches_up_to(random, count, longest));
+    drawn
+        .find(|matches| fit_the_table(matches))
+        .expect("matches of a letter fit")
 }
 
-fn fits_the_table(script: &[u8]) -> bool {
+fn matches_up_to(random: &mut Random, count: usize, longest: u32) -> Vec<DraftMatch> {
+    let any_match = |_| match_up_to(random, LONGEST, longest);
+    (0..count).map(any_match).collect()
+}
+
+fn fit_the_table(matches: &[DraftMatch]) -> bool {
     let mut table = vec![0; ROWS * NUMBERS_OF_A_ROW];
-    refine(script, &mut table).is_ok()
+    refine(&script(matches), &mut table).is_ok()
 }
 
 fn staircase_cases(random: &mut Random) -> [Case; 2] {

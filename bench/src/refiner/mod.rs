@@ -1,6 +1,7 @@
 //! The proved refining beside plain Rust.
 
 pub mod cases;
+pub mod marks;
 mod plain;
 #[cfg(feature = "seqan")]
 mod seqan;
@@ -128,7 +129,8 @@ impl Lent {
 
 /// Refiners that disagree are not worth timing. Gives the mean of the scripts' rows, or a refusal.
 fn checked_rows(case: &Case) -> String {
-    let answers = case.scripts.iter().map(|script| check(case, script));
+    let check = |script: &Vec<u8>| check(&case.name, case.capacity, script);
+    let answers = case.scripts.iter().map(check);
     let all: Result<Vec<usize>, Refusal> = answers.collect();
     match all {
         Ok(rows) => (rows.iter().sum::<usize>() / rows.len()).to_string(),
@@ -136,26 +138,32 @@ fn checked_rows(case: &Case) -> String {
     }
 }
 
-fn check(case: &Case, script: &[u8]) -> Result<usize, Refusal> {
-    let mut lent = Lent::to(case.capacity);
+fn check(name: &str, capacity: usize, script: &[u8]) -> Result<usize, Refusal> {
+    let mut lent = Lent::to(capacity);
     let mut wanted = lent.table.clone();
     let answer = TREE(script, &mut wanted);
     for rival in [HASH, SORTED] {
         let mut table = vec![0; wanted.len()];
-        assert_eq!(rival(script, &mut table), answer, "{}", case.name);
-        assert!(table == wanted, "{}: two tables of plain Rust", case.name);
+        assert_eq!(rival(script, &mut table), answer, "{name}");
+        assert!(table == wanted, "{name}: two tables of plain Rust");
     }
-    if case.capacity <= ROWS {
-        let mut slow = Lent::to(case.capacity);
+    if capacity <= ROWS {
+        let mut slow = Lent::to(capacity);
         let slow_answer = table::refine(script, &mut slow.table, &mut slow.work);
-        assert_eq!(slow_answer, answer, "{}", case.name);
-        assert!(slow.table == wanted, "{}: not the least table", case.name);
+        assert_eq!(slow_answer, answer, "{name}");
+        assert!(slow.table == wanted, "{name}: not the least table");
     }
     let number = lent.refine(script);
-    assert_eq!(number, Refusal::number_in(&answer), "{}", case.name);
-    assert!(lent.table == wanted, "{}: not the proved table", case.name);
+    assert_eq!(number, Refusal::number_in(&answer), "{name}");
+    assert!(lent.table == wanted, "{name}: not the proved table");
     if let Ok(rows) = answer {
-        assert_eq!(lent.numbers.rows, rows, "{}", case.name);
+        assert_eq!(lent.numbers.rows, rows, "{name}");
     }
     answer
+}
+
+/// Of a script that has no more than 1,000,000 rows.
+fn rows_of(script: &[u8]) -> usize {
+    let mut table = vec![0; 1_000_000 * NUMBERS_OF_A_ROW];
+    SORTED(script, &mut table).expect("no refusal")
 }

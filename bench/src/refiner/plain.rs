@@ -1,7 +1,7 @@
 //! A good plain Rust refiner: matches sorted by their left ends, a set of cuts for each side, and a
-//! list of the cuts that are still to be carried.
+//! list of the cuts that are still to be carried. Marks that a match spans are among the first.
 
-use crate::reader::plain::read_with;
+use crate::reader::plain::{read_with, Found, Mark};
 use compare::draft::BYTES_OF_A_MATCH;
 use compare::slow::refusal::{Refusal, Word};
 use compare::slow::script::MOST_MATCHES;
@@ -94,42 +94,44 @@ impl Match {
 /// call: plain Rust has no use for a work buffer.
 #[inline(never)]
 pub fn refine<C: Cuts>(script: &[u8], table: &mut [u32]) -> Result<usize, Refusal> {
-    refine_with(script, table, |matches, most_hits| {
-        Some(closed_cuts::<C>(matches, most_hits)?.rising())
+    refine_with(script, table, |matches, marks, most_hits| {
+        Some(closed_cuts::<C>(matches, marks, most_hits)?.rising())
     })
 }
 
-/// Refines with what finds the cuts on A, rising. It is given the matches and the most hits that a
-/// side may have, and gives none if there are more. A hit is a cut in a match, its ends among them:
+/// Refines with what finds the cuts on A, rising. It is given the matches, the marks and the most hits
+/// that a side may have, and gives none if there are more. A hit is a cut in a match, its ends among them:
 /// each match has one more of them than it has pieces.
 #[inline(always)]
 pub fn refine_with(
     script: &[u8],
     table: &mut [u32],
-    cuts_on_a: impl FnOnce(&[Match], usize) -> Option<Vec<u32>>,
+    cuts_on_a: impl FnOnce(&[Match], &[Mark], usize) -> Option<Vec<u32>>,
 ) -> Result<usize, Refusal> {
     let capacity = table.len() / NUMBERS_OF_A_ROW;
-    let matches = read_matches(script)?;
-    let cuts = cuts_on_a(&matches, capacity + matches.len())
+    let (matches, marks) = read_commands(script)?;
+    let cuts = cuts_on_a(&matches, &marks, capacity + matches.len())
         .ok_or(Refusal::of_the_call(Word::TooManyPieces))?;
     Ok(write_rows(&matches, &cuts, table))
 }
 
-fn read_matches(script: &[u8]) -> Result<Vec<Match>, Refusal> {
+fn read_commands(script: &[u8]) -> Result<(Vec<Match>, Vec<Mark>), Refusal> {
     let count = script.len() / BYTES_OF_A_MATCH;
     let mut matches = Vec::with_capacity(count.min(MOST_MATCHES));
-    read_with(script, |_, m| {
-        matches.push(Match {
+    let mut marks = Vec::new();
+    read_with(script, |found| match found {
+        Found::Match(_, m) => matches.push(Match {
             left: [m.left_a, m.left_b],
             length: m.length,
             reversed: m.reversed,
-        });
+        }),
+        Found::Mark(_, mark) => marks.push(mark),
     })?;
-    Ok(matches)
+    Ok((matches, marks))
 }
 
 /// The cuts on A, or none as soon as it is sure that there are too many hits.
-fn closed_cuts<C: Cuts>(matches: &[Match], most_hits: usize) -> Option<C> {
+fn closed_cuts<C: Cuts>(matches: &[Match], marks: &[Mark], most_hits: usize) -> Option<C> {
     let by_left = [ByLeft::new(matches, A), ByLeft::new(matches, B)];
     let mut cuts = [C::default(), C::default()];
     let mut to_carry = Vec::new();
@@ -140,6 +142,13 @@ fn closed_cuts<C: Cuts>(matches: &[Match], most_hits: usize) -> Option<C> {
                     to_carry.push((side, end));
                 }
             }
+        }
+    }
+    for &Mark { side, position } in marks {
+        let side = usize::from(side);
+        let is_spanned = by_left[side].spanning(position).next().is_some();
+        if is_spanned && cuts[side].add(position) {
+            to_carry.push((side, position));
         }
     }
     let mut hits = [0; 2];

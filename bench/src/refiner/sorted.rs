@@ -3,6 +3,7 @@
 //! found one after the other; which ones are known stands in pages of 32 letters.
 
 use super::plain::{refine_with, Match, A, B};
+use crate::reader::plain::Mark;
 use compare::slow::refusal::Refusal;
 
 /// The same answers as `plain::refine`.
@@ -11,12 +12,15 @@ pub fn refine(script: &[u8], table: &mut [u32]) -> Result<usize, Refusal> {
     refine_with(script, table, closed_cuts)
 }
 
-fn closed_cuts(matches: &[Match], most_hits: usize) -> Option<Vec<u32>> {
+fn closed_cuts(matches: &[Match], marks: &[Mark], most_hits: usize) -> Option<Vec<u32>> {
     if matches.is_empty() {
         return Some(Vec::new());
     }
     let mut a = Side::new(matches, A, most_hits)?;
     let mut b = Side::new(matches, B, most_hits)?;
+    for &Mark { side, position } in marks {
+        [&mut a, &mut b][usize::from(side)].take_mark(position);
+    }
     a.carry_ends(&mut b);
     b.carry_ends(&mut a);
     while a.has_to_carry() || b.has_to_carry() {
@@ -58,6 +62,15 @@ impl Side {
 
     fn has_to_carry(&self) -> bool {
         self.carried < self.found.len()
+    }
+
+    /// A mark over which there is a match is a cut like one that was carried here. Ends are known.
+    fn take_mark(&mut self, position: u32) {
+        let gap = self.gaps.ends.partition_point(|&end| end <= position);
+        let is_spanned = gap > 0 && !self.gaps.over(gap - 1).is_empty();
+        if is_spanned && self.known.add(position) {
+            self.found.push(position);
+        }
     }
 
     /// A match carries its ends to ends, so those that only end here need not be asked.
