@@ -3,9 +3,9 @@
 --     sum_to w n                   w of all numbers below n, added up
 --     sum_at w xs n                w of the first n numbers of xs, added up
 --     Order xs n                  the first n numbers of xs are those below n, each once
---     blocksOf c, blockStart b c  how many blocks of 16 there are of c numbers; where one begins, or the numbers end
---     startsAt n, ends_at n        where the left ends and the right ends of the matches begin, in their order
---     levelRoom c, indexRoom n    how many places a level of c numbers takes with those above it, and a whole index
+--     blocks_of c, block_start b c  how many blocks of 16 there are of c numbers; where one begins, or the numbers end
+--     starts_at n, ends_at n        where the left ends and the right ends of the matches begin, in their order
+--     level_room c, index_room n    how many places a level of c numbers takes with those above it, and a whole index
 --     EndsListed xs f g n         what stands there bounds the ends f and g of the matches
 --     Covered xs at c             the level above that of the c numbers from place `at` on bounds them
 --     Levels xs at c              it does, and so do those above it, until a level is one block
@@ -27,29 +27,29 @@ pub record Order (xs : List ℕ) (n : ℕ) : Type 0 where
   pub all : (m : ℕ) → m < n → In xs 0 n m
   pub sums : (w : ℕ → ℕ) → sum_at w xs n ≡ sum_to w n
 
-abbrev pub blocksOf : ℕ → ℕ
-blocksOf count = (count + 15) / 16
+abbrev pub blocks_of : ℕ → ℕ
+blocks_of count = (count + 15) / 16
 
-abbrev pub blockStart : ℕ → ℕ → ℕ
-blockStart b count = min (b * 16) count
+abbrev pub block_start : ℕ → ℕ → ℕ
+block_start b count = min (b * 16) count
 
-abbrev pub startsAt : ℕ → ℕ
-startsAt n = n
+abbrev pub starts_at : ℕ → ℕ
+starts_at n = n
 
 abbrev pub ends_at : ℕ → ℕ
 ends_at n = n + n
 
 -- an eighth is more than a sixteenth of the numbers, a sixteenth of those, and so on
-abbrev pub levelRoom : ℕ → ℕ
-levelRoom count = count + count / 8
+abbrev pub level_room : ℕ → ℕ
+level_room count = count + count / 8
 
-abbrev pub indexRoom : ℕ → ℕ
-indexRoom n = n + n + levelRoom n
+abbrev pub index_room : ℕ → ℕ
+index_room n = n + n + level_room n
 
 -- the number at place k of the left ends is no more than that of any match from there on, so that one look tells that
 -- none of them begins early enough; that at place k of the right ends is no less than that of its match
 pub record EndsListed (xs f g : List ℕ) (n : ℕ) : Type 0 where
-  pub starts : (k j : ℕ) → k ≤ j → j < n → get_or xs (startsAt n + k) 0 ≤ get_or f (get_or xs j 0) 0
+  pub starts : (k j : ℕ) → k ≤ j → j < n → get_or xs (starts_at n + k) 0 ≤ get_or f (get_or xs j 0) 0
   pub ends : (k : ℕ) → k < n → get_or g (get_or xs k 0) 0 ≤ get_or xs (ends_at n + k) 0
 
 -- the level above stands behind the numbers; number j is in block j / 16
@@ -58,10 +58,10 @@ Covered xs at count = (j : ℕ) → j < count → get_or xs (at + j) 0 ≤ get_o
 
 pub data Levels (xs : List ℕ) : ℕ → ℕ → Type 0 where
   top : {at count : ℕ} → count ≤ 16 → Levels xs at count
-  above : {at count : ℕ} → Covered xs at count → Levels xs (at + count) (blocksOf count) → Levels xs at count
+  above : {at count : ℕ} → Covered xs at count → Levels xs (at + count) (blocks_of count) → Levels xs at count
 
 pub record Indexed (xs f g : List ℕ) : Type 0 where
-  pub room : indexRoom (length f) ≤ length xs
+  pub room : index_room (length f) ≤ length xs
   pub order : Order xs (length f)
   pub listed : EndsListed xs f g (length f)
   pub levels : Levels xs (ends_at (length f)) (length f)

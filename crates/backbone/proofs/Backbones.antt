@@ -16,9 +16,9 @@ use lib.Signed.{lt_z}
 use borrow.Author.Tests.{ltb-false, lt-ltb}
 use Rattle.rows.specs.declared.Row.{Row}
 use Rattle.refinement.specs.Order.{◌∈◌}
-use Rattle.backbone.specs.Chains.{rowNumbered, Direct, Chain, empty, single, lettersIn, skippedIn, scoreOf}
+use Rattle.backbone.specs.Chains.{row_numbered, Direct, Chain, empty, single, letters_in, skipped_in, score_of}
 use Rattle.backbone.specs.Chains.{Before, Lettered}
-use Rattle.backbone.specs.Backbone.{Backbone, chainsOf, backboneOf, amount, points_of}
+use Rattle.backbone.specs.Backbone.{Backbone, chains_of, backbone_of, amount, points_of}
 use Rattle.backbone.proofs.Signed.{above, scored}
 use Rattle.backbone.proofs.Earlier.{before-once}
 use Rattle.backbone.proofs.Chains.{row-lettered}
@@ -38,10 +38,10 @@ backbone-unique {price} {rs} {ks} {js} {s} {n} g h = (same (g.first js h.chain e
           ltb-false n s (rw g.scores at (h.none_more ks g.chain)),
         )
 
-    e : scoreOf price rs js ≡ pos s
+    e : score_of price rs js ≡ pos s
     e = h.scores ∙ ap pos q
 
-    f : scoreOf price rs ks ≡ pos n
+    f : score_of price rs ks ≡ pos n
     f = g.scores ∙ ap pos (sym q)
 
     same : (js ≡ ks) ⊎ Before ks js → (ks ≡ js) ⊎ Before js ks → js ≡ ks
@@ -52,15 +52,15 @@ backbone-unique {price} {rs} {ks} {js} {s} {n} g h = (same (g.first js h.chain e
 -- ---- scores
 
 -- the empty chain's
-nothing : (price : ℕ) (rs : List Row) → scoreOf price rs [] ≡ pos 0
-unfolding scoreOf lettersIn skippedIn
+nothing : (price : ℕ) (rs : List Row) → score_of price rs [] ≡ pos 0
+unfolding score_of letters_in skipped_in
 nothing price rs = (scored 0 (price * 0) 0).1 (omega arith)
 
 -- that of a direct row by itself
-alone : (price : ℕ) (rs : List Row) (k : ℕ) → Lettered rs → Direct rs k → lt_z (pos 0) (scoreOf price rs (k ∷ [])) ≡ true
-unfolding scoreOf lettersIn skippedIn
+alone : (price : ℕ) (rs : List Row) (k : ℕ) → Lettered rs → Direct rs k → lt_z (pos 0) (score_of price rs (k ∷ [])) ≡ true
+unfolding score_of letters_in skipped_in
 alone price rs k l d =
-    let a = (rowNumbered rs k).length + 0 in
+    let a = (row_numbered rs k).length + 0 in
     above 0 a (price * 0) ∙ lt-ltb (0 + price * 0) a (omega (arith, row-lettered rs l d))
 
 -- a number that isn't below zero is its amount
@@ -72,36 +72,36 @@ not_negative (negsuc n) h = absurd (false≢true (sym h))
 
 module _ (price : ℕ) (rs : List Row) (l : Lettered rs) where
   abbrev best : List ℕ
-  best = backboneOf price rs
+  best = backbone_of price rs
 
   -- every chain is the empty one or one of `chainsOf`
-  every : (js : List ℕ) → Chain rs js → js ∈ ([] ∷ chainsOf rs)
+  every : (js : List ℕ) → Chain rs js → js ∈ ([] ∷ chains_of rs)
   every [] c = here refl
   every (k ∷ ks) c = there (every-chain rs l k ks c)
 
   -- .. and none is better than the computed one
-  no-worse : (js : List ℕ) → Chain rs js → NoWorse price rs best js
-  unfolding backboneOf
-  no-worse js c = best-no-worse price rs [] (chainsOf rs) js (every js c)
+  no_worse : (js : List ℕ) → Chain rs js → NoWorse price rs best js
+  unfolding backbone_of
+  no_worse js c = best-no-worse price rs [] (chains_of rs) js (every js c)
 
   -- this is the empty one, or there is a direct row
   either : (best ≡ []) ⊎ ((k : ℕ) × (Direct rs k) × (Chain rs best))
-  unfolding backboneOf
+  unfolding backbone_of
   either =
-      ⊎_elim inl (λ m. inr (each-chain rs (backboneOf price rs) m))
-      (Memᴰ.cases_cons (best-member price rs [] (chainsOf rs)))
+      ⊎_elim inl (λ m. inr (each-chain rs (backbone_of price rs) m))
+      (Memᴰ.cases_cons (best-member price rs [] (chains_of rs)))
 
   chains : Chain rs best
   chains = ⊎_elim (λ e. rw e empty) (λ b. b.2) either
 
-  counts : scoreOf price rs best ≡ pos (points_of price rs)
+  counts : score_of price rs best ≡ pos (points_of price rs)
   unfolding points_of
-  counts = not_negative (scoreOf price rs best) (rw (nothing price rs) at (no-worse [] empty).none_more)
+  counts = not_negative (score_of price rs best) (rw (nothing price rs) at (no_worse [] empty).none_more)
 
   not-empty : (k : ℕ) → Direct rs k → best ≢ []
   not-empty k d e =
-      let h : lt_z (pos 0) (scoreOf price rs (k ∷ [])) ≡ false =
-      rw (e, nothing price rs) at (no-worse (k ∷ []) (single d)).none_more
+      let h : lt_z (pos 0) (score_of price rs (k ∷ [])) ≡ false =
+      rw (e, nothing price rs) at (no_worse (k ∷ []) (single d)).none_more
       in
       false≢true (sym h ∙ alone price rs k l d)
 
@@ -109,13 +109,13 @@ module _ (price : ℕ) (rs : List Row) (l : Lettered rs) where
   unfolding points_of
   no-points e = rw (e, nothing price rs)
 
-  pub backbone-computed : Backbone price rs (backboneOf price rs) (points_of price rs)
+  pub backbone-computed : Backbone price rs (backbone_of price rs) (points_of price rs)
   backbone-computed =
       record {
         chain = chains;
         scores = counts;
-        none_more = λ js c. rw (← counts) (no-worse js c).none_more;
-        first = λ js c e. (no-worse js c).first (e ∙ sym counts);
+        none_more = λ js c. rw (← counts) (no_worse js c).none_more;
+        first = λ js c e. (no_worse js c).first (e ∙ sym counts);
         some = not-empty;
         none = λ none. let e = ⊎_elim (λ e. e) (λ b. absurd (none b.0 b.1)) either in (e, no-points e);
       }

@@ -17,8 +17,8 @@ use lib.Signed.{lt_z}
 use borrow.Author.Tests.{ltb-true, ltb-false, le-ltb}
 use Rattle.rows.specs.declared.Row.{Row}
 use Rattle.refinement.specs.Order.{◌∈◌}
-use Rattle.backbone.specs.Chains.{scoreOf, Before}
-use Rattle.backbone.specs.Backbone.{before, betters, bestOf}
+use Rattle.backbone.specs.Chains.{score_of, Before}
+use Rattle.backbone.specs.Backbone.{before, betters, best_of}
 use Rattle.backbone.proofs.Earlier.{tested-before, before-onward, before-other}
 
 -- ---- signed numbers
@@ -58,11 +58,11 @@ itself (negsuc x) = le-ltb x x (omega arith)
 module _ (price : ℕ) (rs : List Row) where
   -- a chain's score
   abbrev score : List ℕ → ℤ
-  score ks = scoreOf price rs ks
+  score ks = score_of price rs ks
 
   pub record NoWorse (ks js : List ℕ) : Type 0 where
-    pub none_more : lt_z (scoreOf price rs ks) (scoreOf price rs js) ≡ false
-    pub first : scoreOf price rs js ≡ scoreOf price rs ks → (js ≡ ks) ⊎ Before ks js
+    pub none_more : lt_z (score_of price rs ks) (score_of price rs js) ≡ false
+    pub first : score_of price rs js ≡ score_of price rs ks → (js ≡ ks) ⊎ Before ks js
 
   -- a list is no worse than itself
   same : (ks : List ℕ) → NoWorse ks ks
@@ -128,8 +128,8 @@ module _ (price : ℕ) (rs : List Row) where
       go true e = record { which = inl refl; left = same js; right = bettering js ks e }
       go false e = record { which = inr refl; left = no-better js ks e; right = same ks }
 
-  pub best-member : (ks : List ℕ) (cs : List (List ℕ)) → bestOf price rs ks cs ∈ (ks ∷ cs)
-  unfolding bestOf
+  pub best-member : (ks : List ℕ) (cs : List (List ℕ)) → best_of price rs ks cs ∈ (ks ∷ cs)
+  unfolding best_of
   best-member ks [] = here refl
   best-member ks (js ∷ cs) =
       let is = cond (betters price rs js ks) js ks in
@@ -138,13 +138,13 @@ module _ (price : ℕ) (rs : List Row) where
       (λ h. there (there h)) (Memᴰ.cases_cons (best-member is cs))
 
   pub best-no-worse :
-      (ks : List ℕ) (cs : List (List ℕ)) (js : List ℕ) → js ∈ (ks ∷ cs) → NoWorse (bestOf price rs ks cs) js
-  unfolding bestOf
+      (ks : List ℕ) (cs : List (List ℕ)) (js : List ℕ) → js ∈ (ks ∷ cs) → NoWorse (best_of price rs ks cs) js
+  unfolding best_of
   best-no-worse ks [] js m =
       ⊎_elim (λ e. rw e (same ks)) (λ h. absurd (Memᴰ.not-nil h)) (Memᴰ.cases_cons m)
   best-no-worse ks (is ∷ cs) js m =
       let c = cond (betters price rs is ks) is ks in
-      let r = bestOf price rs c cs in
+      let r = best_of price rs c cs in
       let h = best-no-worse c cs c (here refl) in
       ⊎_elim (λ e. rw e (onward r c ks h (chosen is ks).right))
       (λ t.

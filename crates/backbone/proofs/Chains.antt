@@ -24,8 +24,8 @@ use Rattle.refinement.specs.declared.Side.TheVariants.{A}
 use Rattle.refinement.specs.Order.{◌∈◌, Distinct}
 use Rattle.refinement.proofs.Lists.{pigeonhole}
 use Rattle.table.specs.Covering.{left_of}
-use Rattle.backbone.specs.Chains.{rowNumbered, Direct, Follows, Chain, empty, single, linked, Lettered}
-use Rattle.backbone.specs.Backbone.{directFrom, directRows}
+use Rattle.backbone.specs.Chains.{row_numbered, Direct, Follows, Chain, empty, single, linked, Lettered}
+use Rattle.backbone.specs.Backbone.{direct_from, direct_rows}
 
 -- ---- direct rows
 
@@ -35,13 +35,13 @@ on-cond Q true f g = f refl
 on-cond Q false f g = g refl
 
 -- row i of rs, counted from 0, where rows count from n
-numbered : (n : ℕ) (rs : List Row) (i : ℕ) → i < length rs → (row_at rs i).direction ≡ 0 → (n + i) ∈ directFrom n rs
-unfolding directFrom
+numbered : (n : ℕ) (rs : List Row) (i : ℕ) → i < length rs → (row_at rs i).direction ≡ 0 → (n + i) ∈ direct_from n rs
+unfolding direct_from
 numbered n [] i l e = absurd (omega arith)
 numbered n (r ∷ rs) zero l e = rw (eq-eqb r.direction 0 e) (here {x = n} (omega arith))
 numbered n (r ∷ rs) (suc i) l e =
-    let t : (suc n + i) ∈ directFrom (suc n) rs = numbered (suc n) rs i (omega arith) e in
-    let m : (n + suc i) ∈ directFrom (suc n) rs = Memᴰ.cast (omega arith) t in
+    let t : (suc n + i) ∈ direct_from (suc n) rs = numbered (suc n) rs i (omega arith) e in
+    let m : (n + suc i) ∈ direct_from (suc n) rs = Memᴰ.cast (omega arith) t in
     on-cond (λ ks. (n + suc i) ∈ ks) (eqb r.direction 0) (λ _. there m) (λ _. m)
 
 -- such a row, by its number
@@ -61,29 +61,29 @@ first : (n : ℕ) (r : Row) (rs : List Row) (k : ℕ) → k ≡ n → r.directio
 first n r rs k e d =
     let z : k - n ≡ 0 = omega arith in record { from = omega arith; to = omega arith; direct = rw z d }
 
-unnumbered : (n : ℕ) (rs : List Row) (k : ℕ) → k ∈ directFrom n rs → Numbered n rs k
-unfolding directFrom
+unnumbered : (n : ℕ) (rs : List Row) (k : ℕ) → k ∈ direct_from n rs → Numbered n rs k
+unfolding direct_from
 unnumbered n [] k m = absurd (Memᴰ.not-nil m)
 unnumbered n (r ∷ rs) k m =
-    let back : k ∈ directFrom (suc n) rs → Numbered n (r ∷ rs) k =
+    let back : k ∈ direct_from (suc n) rs → Numbered n (r ∷ rs) k =
     λ h. later n r rs k (unnumbered (suc n) rs k h)
     in
     on-cond (λ ks. k ∈ ks → Numbered n (r ∷ rs) k) (eqb r.direction 0)
     (λ t h. ⊎_elim (λ e. first n r rs k e (eqb-true r.direction 0 t)) back (Memᴰ.cases_cons h)) (λ _. back) m
 
-pub direct-listed : (rs : List Row) (k : ℕ) → Direct rs k → k ∈ directRows rs
+pub direct-listed : (rs : List Row) (k : ℕ) → Direct rs k → k ∈ direct_rows rs
 direct-listed rs k d =
     Memᴰ.cast (omega (arith, d.from_one))
     (numbered 1 rs (k - 1) (omega (arith, d.from_one, d.to_last)) d.direct)
 
-pub listed-direct : (rs : List Row) (k : ℕ) → k ∈ directRows rs → Direct rs k
+pub listed-direct : (rs : List Row) (k : ℕ) → k ∈ direct_rows rs → Direct rs k
 listed-direct rs k m =
     let h = unnumbered 1 rs k m in
     record { from_one = h.from; to_last = omega (arith, h.to); direct = h.direct }
 
 -- there are no more direct rows than rows
-few : (n : ℕ) (rs : List Row) → length (directFrom n rs) ≤ length rs
-unfolding directFrom
+few : (n : ℕ) (rs : List Row) → length (direct_from n rs) ≤ length rs
+unfolding direct_from
 few n [] = omega arith
 few n (r ∷ rs) =
     on-cond (λ ks. length ks ≤ suc (length rs)) (eqb r.direction 0)
@@ -100,23 +100,23 @@ tail-chain (single d) = empty
 tail-chain (linked d f c) = c
 
 -- a chain has direct rows only
-all_listed : (rs : List Row) (ks : List ℕ) → Chain rs ks → (k : ℕ) → k ∈ ks → k ∈ directRows rs
+all_listed : (rs : List Row) (ks : List ℕ) → Chain rs ks → (k : ℕ) → k ∈ ks → k ∈ direct_rows rs
 all_listed rs [] c k m = absurd (Memᴰ.not-nil m)
 all_listed rs (j ∷ js) c k m =
     ⊎_elim (λ e. Memᴰ.cast e (direct-listed rs j (head-direct c))) (all_listed rs js (tail-chain c) k)
     (Memᴰ.cases_cons m)
 
 module _ (rs : List Row) (l : Lettered rs) where
-  pub row-lettered : {k : ℕ} → Direct rs k → 1 ≤ (rowNumbered rs k).length
+  pub row-lettered : {k : ℕ} → Direct rs k → 1 ≤ (row_numbered rs k).length
   row-lettered {k} d = l.lettered (k - 1) (omega (arith, d.from_one, d.to_last))
 
   -- the left end of row k on A
   abbrev left : ℕ → ℕ
-  left k = left_of A (rowNumbered rs k)
+  left k = left_of A (row_numbered rs k)
 
   -- it goes up from a piece to one that follows ..
-  step : (k j : ℕ) → Direct rs k → Follows (rowNumbered rs k) (rowNumbered rs j) → left k < left j
-  step k j d f = omega (arith, row-lettered d, f.at-or-past A)
+  step : (k j : ℕ) → Direct rs k → Follows (row_numbered rs k) (row_numbered rs j) → left k < left j
+  step k j d f = omega (arith, row-lettered d, f.at_or_past A)
 
   -- .. and so to every later one
   pub goes-up : {k : ℕ} {ks : List ℕ} → Chain rs (k ∷ ks) → (j : ℕ) → j ∈ ks → left k < left j
@@ -135,4 +135,4 @@ module _ (rs : List Row) (l : Lettered rs) where
 
   pub chain-short : (ks : List ℕ) → Chain rs ks → length ks ≤ length rs
   chain-short ks c =
-      omega (arith, pigeonhole ks (directRows rs) (distinct ks c) (all_listed rs ks c), few 1 rs)
+      omega (arith, pigeonhole ks (direct_rows rs) (distinct ks c) (all_listed rs ks c), few 1 rs)

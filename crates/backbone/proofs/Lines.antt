@@ -4,8 +4,8 @@ use Prim.Native.Nat.{ℕ}
 use mathlib.Core.Path.{◌≡◌, refl}
 use mathlib.Core.List.{List, [], ◌∷◌, map, flat_map}
 use Rattle.rows.specs.declared.Row.{Row}
-use Rattle.backbone.specs.Chains.{lettersIn, skippedIn, scoreOf}
-use Rattle.backbone.specs.Backbone.{directFrom, followersOf, chainsFrom, chainsOf, betters, bestOf, backboneOf}
+use Rattle.backbone.specs.Chains.{letters_in, skipped_in, score_of}
+use Rattle.backbone.specs.Backbone.{direct_from, followers_of, chains_from, chains_of, betters, best_of, backbone_of}
 use Rattle.backbone.specs.Backbone.{points_of}
 
 -- a gap price, rows, and the row numbers and the score that they give
@@ -75,13 +75,13 @@ lines =
 
 -- a line's chain and score, as the definitions yield them ..
 abbrev comes : Line → List ℕ × ℕ
-comes l = (backboneOf l.price l.rows, points_of l.price l.rows)
+comes l = (backbone_of l.price l.rows, points_of l.price l.rows)
 
 -- .. and as the line has them
 abbrev says : Line → List ℕ × ℕ
 says l = (l.chain, l.score)
 
 pub lines-hold : map comes lines ≡ map says lines
-unfolding flat_map lettersIn skippedIn scoreOf directFrom followersOf chainsFrom chainsOf betters bestOf backboneOf
+unfolding flat_map letters_in skipped_in score_of direct_from followers_of chains_from chains_of betters best_of backbone_of
     points_of
 lines-hold = refl

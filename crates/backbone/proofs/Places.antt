@@ -10,10 +10,10 @@ use mathlib.Core.List.Memᴰ.{tail as there}
 use native.Mathlib.Omega.{arith}
 use lib.ListN.{length, get_or}
 use Rattle.refinement.specs.Order.{◌∈◌}
-use Rattle.refining.proofs.Numbered.{getD-∈}
+use Rattle.refining.proofs.Numbered.{get_d-∈}
 
 pub at-∈ : (ks : List ℕ) (i : ℕ) → i < length ks → get_or ks i 0 ∈ ks
-at-∈ ks i l = getD-∈ ks i 0 l
+at-∈ ks i l = get_d-∈ ks i 0 l
 
 pub ∈-at : {ks : List ℕ} {k : ℕ} → k ∈ ks → (i : ℕ) × (i < length ks) × (get_or ks i 0 ≡ k)
 ∈-at (here e) = (0, omega arith, sym e)

@@ -24,11 +24,11 @@ use Rattle.script.specs.Answers.{Answer, value, refusal}
 use Rattle.rows.specs.declared.Row.{Row}
 use Rattle.refinement.specs.declared.Side.TheVariants.{A, B}
 use Rattle.refinement.specs.Order.{◌∈◌}
-use Rattle.table.specs.Covering.{left_of, rightOf}
-use Rattle.refining.specs.Refining.{Given, capacityOf, workNeeded, zeroed}
+use Rattle.table.specs.Covering.{left_of, right_of}
+use Rattle.refining.specs.Refining.{Given, capacity_of, work_needed, zeroed}
 use Rattle.refining.specs.Demands.{Admitted}
 use Rattle.refining.proofs.Demands.{refusal-value}
-use Rattle.backbone.specs.Chains.{rowNumbered, Direct, Chain, lettersIn, skippedIn, scoreOf}
+use Rattle.backbone.specs.Chains.{row_numbered, Direct, Chain, letters_in, skipped_in, score_of}
 use Rattle.backbone.specs.Chains.{Before, extended, further}
 use Rattle.backbone.specs.Backbone.{Backbone}
 use Rattle.backbone.specs.Demands.{Scored, scored, Begun, ChainingOutcome, ChainingDemand}
@@ -50,7 +50,7 @@ member-direct (j ∷ ks) c i =
     ⊎_elim (λ e. rw e (head-direct c)) (λ h. member-direct ks (tail-chain c) h) (Memᴰ.cases_cons i)
 
 module _ {price : ℕ} {rs : List Row} {s : ℕ} where
-  later-of-equals-refused : {js ks : List ℕ} → Chain rs js → scoreOf price rs js ≡ pos s → Before js ks
+  later-of-equals-refused : {js ks : List ℕ} → Chain rs js → score_of price rs js ≡ pos s → Before js ks
       → ¬ Backbone price rs ks s
   later-of-equals-refused {js} {ks} c e h b = go (b.first js c e)
     where
@@ -58,25 +58,25 @@ module _ {price : ℕ} {rs : List Row} {s : ℕ} where
       go (inl q) = let g : Before ks ks = rw q at h in before-once g g
       go (inr g) = before-once h g
 
-  link-of-zero-refused : {ks : List ℕ} (j : ℕ) (js : List ℕ) → Chain rs ks → scoreOf price rs ks ≡ pos s
+  link-of-zero-refused : {ks : List ℕ} (j : ℕ) (js : List ℕ) → Chain rs ks → score_of price rs ks ≡ pos s
       → ¬ Backbone price rs (ks ++ j ∷ js) s
   link-of-zero-refused {ks} j js c e = later-of-equals-refused c e (before-extension ks j js)
 
-  reversed-row-refused : {k : ℕ} {ks : List ℕ} → k ∈ ks → (rowNumbered rs k).direction ≢ 0 → ¬ Backbone price rs ks s
+  reversed-row-refused : {k : ℕ} {ks : List ℕ} → k ∈ ks → (row_numbered rs k).direction ≢ 0 → ¬ Backbone price rs ks s
   reversed-row-refused {ks = ks} i reversed b = reversed (member-direct ks b.chain i).direct
 
-  free-on-b-refused : {k j : ℕ} → let r = rowNumbered rs k in let r' = rowNumbered rs j in
-      1 ≤ price → rightOf B r < left_of B r' → s + price * (left_of A r' - rightOf A r) ≡ r.length + r'.length
+  free-on-b-refused : {k j : ℕ} → let r = row_numbered rs k in let r' = row_numbered rs j in
+      1 ≤ price → right_of B r < left_of B r' → s + price * (left_of A r' - right_of A r) ≡ r.length + r'.length
       → ¬ Backbone price rs (k ∷ j ∷ []) s
-  unfolding scoreOf lettersIn skippedIn
+  unfolding score_of letters_in skipped_in
   free-on-b-refused {k} {j} priced apart e b =
-      let r = rowNumbered rs k in
-      let r' = rowNumbered rs j in
-      let on-a = left_of A r' - rightOf A r in
-      let on-b = left_of B r' - rightOf B r in
-      let sum = (scored-sum (r.length + (r'.length + 0)) (price * (on-a + on-b + 0)) s).0 b.scores in
-      let skips : 0 < on-b = omega arith in
-      omega (arith, sum, e, mul-add price (on-a + on-b) 0, mul-add price on-a on-b, mul-pos priced skips)
+      let r = row_numbered rs k in
+      let r' = row_numbered rs j in
+      let on_a = left_of A r' - right_of A r in
+      let on_b = left_of B r' - right_of B r in
+      let sum = (scored-sum (r.length + (r'.length + 0)) (price * (on_a + on_b + 0)) s).0 b.scores in
+      let skips : 0 < on_b = omega arith in
+      omega (arith, sum, e, mul-add price (on_a + on_b) 0, mul-add price on_a on_b, mul-pos priced skips)
 
   empty-chain-refused : {k : ℕ} → Direct rs k → ¬ Backbone price rs [] s
   empty-chain-refused {k} d b = b.some k d refl
@@ -90,26 +90,26 @@ other-refusal {m} {n} other e = let same : m ≡ n = cc in other same
 module _ (script : List ℕ) (price : ℕ) (table work chain scores : List ℕ) where
   -- what is due when a buffer is shorter than the capacity
   eighteen-due : {g : Given} → Begun script table work g → price ≤ 1000
-      → (length chain < capacityOf table) ⊎ (length scores < capacityOf table)
+      → (length chain < capacity_of table) ⊎ (length scores < capacity_of table)
       → ChainingOutcome script price table work chain scores (refusal 18 0)
-  eighteen-due b cheap short = ChainingOutcome.chain-too-short b cheap (⊎_elim inl (λ h. inr (inl h)) short)
+  eighteen-due b cheap short = ChainingOutcome.chain_too_short b cheap (⊎_elim inl (λ h. inr (inl h)) short)
 
   module _ (table' work' chain' scores' : List ℕ) where
     -- the demand on this call
     abbrev Demand : Answer Scored → Type 0
     Demand a = ChainingDemand script price table work chain scores a table' work' chain' scores'
 
-    seventeen-first-refused : {g : Given} {number place : ℕ} → Admitted script g → length work < workNeeded table
+    seventeen-first-refused : {g : Given} {number place : ℕ} → Admitted script g → length work < work_needed table
         → number ≢ 11 → ¬ Demand (refusal number place)
     seventeen-first-refused a short other d =
-        other-refusal other (d.alone (refusal 11 0) (ChainingOutcome.work-too-short a short))
+        other-refusal other (d.alone (refusal 11 0) (ChainingOutcome.work_too_short a short))
 
     module _ {g : Given} (b : Begun script table work g) where
       twelve-first-refused : {number place : ℕ} → 1000 < price → number ≢ 17 → ¬ Demand (refusal number place)
       twelve-first-refused dear other d =
-          other-refusal other (d.alone (refusal 17 0) (ChainingOutcome.price-too-high b dear))
+          other-refusal other (d.alone (refusal 17 0) (ChainingOutcome.price_too_high b dear))
 
-      module _ (cheap : price ≤ 1000) (short : (length chain < capacityOf table) ⊎ (length scores < capacityOf table))
+      module _ (cheap : price ≤ 1000) (short : (length chain < capacity_of table) ⊎ (length scores < capacity_of table))
         where
           eighteen-last-refused : {number place : ℕ} → number ≢ 18 → ¬ Demand (refusal number place)
           eighteen-last-refused other d = other-refusal other (d.alone (refusal 18 0) (eighteen-due b cheap short))
@@ -122,13 +122,13 @@ module _ (script : List ℕ) (price : ℕ) (table work chain scores : List ℕ) 
     dirty-scores-refused : (x : Scored) (place : ℕ) → scores' ≢ zeroed scores
         → (¬ Demand (value x)) × (¬ Demand (refusal 12 place))
     dirty-scores-refused x place dirty = (
-      λ d. dirty (d.leaves-chain.success-scores x refl),
-      λ d. dirty (d.leaves-chain.crowded-scores place refl),
+      λ d. dirty (d.leaves_chain.success_scores x refl),
+      λ d. dirty (d.leaves_chain.crowded_scores place refl),
     )
 
     scratch-refused : (s n l place : ℕ) → drop l chain' ≢ drop l chain
         → (¬ Demand (value (scored s n l))) × (¬ Demand (refusal 12 place))
     scratch-refused s n l place altered = (
-      λ d. altered (d.leaves-chain.past-chain s n l refl),
-      λ d. altered (rw (d.leaves-chain.refused-chain 12 place refl)),
+      λ d. altered (d.leaves_chain.past_chain s n l refl),
+      λ d. altered (rw (d.leaves_chain.refused_chain 12 place refl)),
     )

@@ -20,30 +20,30 @@ use Rattle.refining.specs.Columns.{Columns, count_of}
 use Rattle.shelf.specs.Shelf.{GrownShelf}
 use Rattle.shelf.specs.Filling.{Filling}
 use Rattle.tracks.specs.Tracks.{Tracked, Kind, over, along}
-use Rattle.tracks.specs.Engine.{booksOf, Open}
+use Rattle.tracks.specs.Engine.{books_of, Open}
 use Rattle.tracks.specs.Groups.{Groups}
 use Rattle.carrying_lane.specs.Parts.{UsableParts}
 use Rattle.seeding.specs.Sown.{SideGroups}
 use Rattle.seeding.specs.Wanting.{Naming}
-use Rattle.stepping.specs.Steps.{hitsOf, Given}
+use Rattle.stepping.specs.Steps.{hits_of, Given}
 use Rattle.stepping.specs.declared.Counts.{Counts}
 use Rattle.beginning.specs.Beginning.{Lent, zeros, Sowing}
 
 module _ {c : Columns} {gs ts ps : List ℕ} {g n : ℕ} (lent : Lent c gs ts ps g n) where
-  pub lent-a : SideGroups c.from-lefts c.from-rights gs g 1 n
+  pub lent-a : SideGroups c.from_lefts c.from_rights gs g 1 n
   lent-a = record {
-    same_length = lent.fit.from-length ∙ sym lent.fit.from-right-length;
-    groups = subst (λ (k : ℕ). Groups gs g k n) (sym lent.fit.from-length) lent.groups;
+    same_length = lent.fit.from_length ∙ sym lent.fit.from_right_length;
+    groups = subst (λ (k : ℕ). Groups gs g k n) (sym lent.fit.from_length) lent.groups;
     at_from = omega arith;
-    at-to = omega arith;
+    at_to = omega arith;
   }
 
-  pub lent-b : SideGroups c.to-lefts c.to-rights gs g 2 n
+  pub lent-b : SideGroups c.to_lefts c.to_rights gs g 2 n
   lent-b = record {
-    same_length = lent.fit.to-length ∙ sym lent.fit.to-right-length;
-    groups = subst (λ (k : ℕ). Groups gs g k n) (sym lent.fit.to-length) lent.groups;
+    same_length = lent.fit.to_length ∙ sym lent.fit.to_right_length;
+    groups = subst (λ (k : ℕ). Groups gs g k n) (sym lent.fit.to_length) lent.groups;
     at_from = omega arith;
-    at-to = omega arith;
+    at_to = omega arith;
   }
 
 -- the flags of so many sets, of the 16 that are there
@@ -64,10 +64,10 @@ none-usable gs g f r = record {
 abbrev pub none : Counts
 none = record { over_a = 0; over_b = 0; along_a = 0; along_b = 0 }
 
-pub no-hits : zeros ≡ hitsOf none
+pub no-hits : zeros ≡ hits_of none
 no-hits = λ i w u. each w u i
   where
-    each : (w : Kind) (u : Side) → 0 ≡ hitsOf none w u
+    each : (w : Kind) (u : Side) → 0 ≡ hits_of none w u
     each over A = refl
     each over B = refl
     each along A = refl
@@ -81,18 +81,18 @@ filled_in P n lo hi xs b ys b' r e h = subst (Filling P n lo hi xs b ys b') e h
 
 pub sown-open :
     (t : Tracked) (n cap : ℕ) (ys a b : List ℕ) (r : Bool) → r ≡ true → Sowing t n cap ys a b r
-    → Open t n cap ys (booksOf a b) zeros A
+    → Open t n cap ys (books_of a b) zeros A
 sown-open t n cap ys a b r e h = subst (Sowing t n cap ys a b) e h
 
 pub given_by :
     {c : Columns} {straight : List Bool} {ia ib gs ts ps : List ℕ} {g n : ℕ} → Lent c gs ts ps g n
-    → count_of c ≤ 4294967296 → straight ≡ replicate (count_of c) false → UsableParts ia gs g c.from-lefts c.from-rights
-    → UsableParts ib gs g c.to-lefts c.to-rights → Given c straight ia ib gs g n
-given_by lent few straight on-a on-b = record {
+    → count_of c ≤ 4294967296 → straight ≡ replicate (count_of c) false → UsableParts ia gs g c.from_lefts c.from_rights
+    → UsableParts ib gs g c.to_lefts c.to_rights → Given c straight ia ib gs g n
+given_by lent few straight on_a on_b = record {
   fit = lent.fit;
   few = few;
-  straight-is = straight;
+  straight_is = straight;
   groups = lent.groups;
-  on-a = on-a;
-  on-b = on-b;
+  on_a = on_a;
+  on_b = on_b;
 }

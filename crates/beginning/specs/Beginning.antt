@@ -8,8 +8,8 @@ use Rattle.refinement.specs.declared.Side.{Side}
 use Rattle.refinement.specs.declared.Side.TheVariants.{A}
 use Rattle.refining.specs.Columns.{Columns, count_of, Fit}
 use Rattle.refining.specs.Demands.{EveryExceeds}
-use Rattle.tracks.specs.Tracks.{Tracked, givenIn, Kind}
-use Rattle.tracks.specs.Engine.{booksOf, Open}
+use Rattle.tracks.specs.Tracks.{Tracked, given_in, Kind}
+use Rattle.tracks.specs.Engine.{books_of, Open}
 use Rattle.tracks.specs.Groups.{Groups}
 
 -- the matches, their groups, and as many tracks of marks as positions
@@ -22,5 +22,5 @@ abbrev pub zeros : Kind → Side → ℕ
 zeros w u = 0
 
 abbrev pub Sowing : Tracked → ℕ → ℕ → List ℕ → List ℕ → List ℕ → Bool → Type 0
-Sowing t n cap ys a b true = Open t n cap ys (booksOf a b) zeros A
-Sowing t n cap ys a b false = EveryExceeds (givenIn t) cap
+Sowing t n cap ys a b true = Open t n cap ys (books_of a b) zeros A
+Sowing t n cap ys a b false = EveryExceeds (given_in t) cap

@@ -1,8 +1,9 @@
 // Where the closure begins: empty sets, the first cuts in them, and the first steps.
+#![tactic(auto)]
 ghost use Rattle.std.specs.Prelude.{◌≡◌, false, ◌*◌, ◌≤◌, length, replicate};
-ghost use Rattle.refining.specs.Columns.{columnsOf};
+ghost use Rattle.refining.specs.Columns.{columns_of};
 ghost use Rattle.shelving.specs.AllSets.{Layable, LaidOut};
-ghost use Rattle.tracks.specs.Tracks.{marksOf};
+ghost use Rattle.tracks.specs.Tracks.{marks_of};
 ghost use Rattle.tracks.specs.Groups.{grouped};
 ghost use Rattle.seeding.specs.Wanting.{Naming};
 ghost use Rattle.driving.specs.Driving.{Driving};
@@ -82,15 +83,15 @@ fn sow_all(
     sets: usize,
     capacity: usize,
 ) -> bool
-    requires lent { Lent (columnsOf left_a.now right_a.now left_b.now right_b.now reversed.now) groups.now
+    requires lent { Lent (columns_of left_a.now right_a.now left_b.now right_b.now reversed.now) groups.now
         mark_tracks.now mark_positions.now count sets }
     requires laid_out { LaidOut sets 0 (2 * capacity) work.old book_a.old }
     requires laid_out_2 { LaidOut sets (2 * capacity) (4 * capacity) work.old book_b.old }
     ensures { Sowing
         (grouped
-        (columnsOf left_a.now right_a.now left_b.now right_b.now
+        (columns_of left_a.now right_a.now left_b.now right_b.now
         reversed.now)
-        groups.now count (marksOf mark_tracks.now mark_positions.now))
+        groups.now count (marks_of mark_tracks.now mark_positions.now))
         sets capacity work.new book_a.new book_b.new result }
 {
     let half = 2 * capacity;
@@ -155,7 +156,7 @@ pub fn begin(
     sets: usize,
     capacity: usize,
 ) -> Closing
-    requires lent { Lent (columnsOf left_a.now right_a.now left_b.now right_b.now reversed.now) groups.now
+    requires lent { Lent (columns_of left_a.now right_a.now left_b.now right_b.now reversed.now) groups.now
         mark_tracks.now mark_positions.now count sets }
     requires reversed_len_bound { length reversed.now ≤ 4294967296 }
     requires straight_value { straight.now ≡ replicate (length reversed.now) false }
@@ -164,9 +165,9 @@ pub fn begin(
     requires book_b_len { length book_b.old ≡ 8 * sets }
     requires capacity_in_bounds { 4 * capacity ≤ length work.old }
     ensures { Driving
-        (columnsOf left_a.now right_a.now left_b.now right_b.now
+        (columns_of left_a.now right_a.now left_b.now right_b.now
         reversed.now)
-        groups.now count (marksOf mark_tracks.now mark_positions.now) sets capacity
+        groups.now count (marks_of mark_tracks.now mark_positions.now) sets capacity
         work.new book_a.new book_b.new result }
 {
     lay_side(groups, work, book_a, count, 1, sets, 0, 2 * capacity);

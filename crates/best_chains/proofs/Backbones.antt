@@ -13,7 +13,7 @@ use borrow.Author.Tests.{le-ltb}
 use lib.IntN.{pos}
 use lib.Signed.{lt_z}
 use Rattle.rows.specs.declared.Row.{Row}
-use Rattle.backbone.specs.Chains.{Direct, Chain, empty, single, lettersIn, skippedIn, scoreOf, Before}
+use Rattle.backbone.specs.Chains.{Direct, Chain, empty, single, letters_in, skipped_in, score_of, Before}
 use Rattle.backbone.specs.Backbone.{Backbone}
 use Rattle.backbone.proofs.Signed.{above, scored}
 use Rattle.backbone.proofs.Chains.{head-direct}
@@ -23,25 +23,25 @@ use Rattle.best_chains.proofs.Best.{alone-costs, alone-letters, best-first, outd
 module _ (price : ℕ) (rs : List Row) where
   -- a chain's score, told without signs
   module _ (ks : List ℕ) (s : ℕ) where
-    score-from : lettersIn rs ks ≡ s + price * skippedIn rs ks → scoreOf price rs ks ≡ pos s
-    unfolding scoreOf
-    score-from = (scored (lettersIn rs ks) (price * skippedIn rs ks) s).1
+    score-from : letters_in rs ks ≡ s + price * skipped_in rs ks → score_of price rs ks ≡ pos s
+    unfolding score_of
+    score-from = (scored (letters_in rs ks) (price * skipped_in rs ks) s).1
 
-    score-told : scoreOf price rs ks ≡ pos s → lettersIn rs ks ≡ s + price * skippedIn rs ks
-    unfolding scoreOf
-    score-told = (scored (lettersIn rs ks) (price * skippedIn rs ks) s).0
+    score-told : score_of price rs ks ≡ pos s → letters_in rs ks ≡ s + price * skipped_in rs ks
+    unfolding score_of
+    score-told = (scored (letters_in rs ks) (price * skipped_in rs ks) s).0
 
-    no_more : lettersIn rs ks ≤ s + price * skippedIn rs ks → lt_z (pos s) (scoreOf price rs ks) ≡ false
-    unfolding scoreOf
+    no_more : letters_in rs ks ≤ s + price * skipped_in rs ks → lt_z (pos s) (score_of price rs ks) ≡ false
+    unfolding score_of
     no_more l = rw (above, le-ltb)
 
   -- the empty chain has no letters, and skips none
-  empty-letters : lettersIn rs [] ≡ 0
-  unfolding lettersIn
+  empty-letters : letters_in rs [] ≡ 0
+  unfolding letters_in
   empty-letters = refl
 
-  empty-costs : price * skippedIn rs [] ≡ 0
-  unfolding skippedIn
+  empty-costs : price * skipped_in rs [] ≡ 0
+  unfolding skipped_in
   empty-costs = mul-zero price
 
   pub backbone-none : ((k : ℕ) → ¬ Direct rs k) → Backbone price rs [] 0
@@ -55,11 +55,11 @@ module _ (price : ℕ) (rs : List Row) where
         none = λ h. (refl, refl);
       }
     where
-      none_more : (js : List ℕ) → Chain rs js → lt_z (pos 0) (scoreOf price rs js) ≡ false
+      none_more : (js : List ℕ) → Chain rs js → lt_z (pos 0) (score_of price rs js) ≡ false
       none_more [] c = no_more [] 0 (omega (arith, empty-letters))
       none_more (j ∷ js) c = absurd (none j (head-direct c))
 
-      first : (js : List ℕ) → Chain rs js → scoreOf price rs js ≡ pos 0 → (js ≡ []) ⊎ Before [] js
+      first : (js : List ℕ) → Chain rs js → score_of price rs js ≡ pos 0 → (js ≡ []) ⊎ Before [] js
       first [] c e = inl refl
       first (j ∷ js) c e = absurd (none j (head-direct c))
 
@@ -76,13 +76,13 @@ module _ (price : ℕ) (rs : List Row) where
         none = λ none. absurd (none k (head-direct best.chain));
       }
     where
-      none_more : (js : List ℕ) → Chain rs js → lt_z (pos s) (scoreOf price rs js) ≡ false
+      none_more : (js : List ℕ) → Chain rs js → lt_z (pos s) (score_of price rs js) ≡ false
       none_more [] c = no_more [] s (omega (arith, empty-letters))
       none_more (j ∷ js) c =
           let known = known j (head-direct c) in
           no_more (j ∷ js) s (omega (arith, known.best.most js c, outdone-most known.such))
 
-      first : (js : List ℕ) → Chain rs js → scoreOf price rs js ≡ pos s → (js ≡ (k ∷ ks)) ⊎ Before (k ∷ ks) js
+      first : (js : List ℕ) → Chain rs js → score_of price rs js ≡ pos s → (js ≡ (k ∷ ks)) ⊎ Before (k ∷ ks) js
       first [] c e =
           let direct = head-direct best.chain in
           absurd

@@ -13,22 +13,22 @@ use Rattle.std.specs.Prelude.{ℕ, ◌+◌, ◌*◌, ◌^◌, ◌≤◌, ◌<◌
 use Rattle.rows.specs.Rows.{row_at}
 use Rattle.rows.specs.declared.Row.{Row}
 use Rattle.refinement.specs.declared.Side.{Side}
-use Rattle.table.specs.Covering.{left_of, rightOf}
-use Rattle.backbone.specs.Chains.{Chain, lettersIn, skippedIn, Before, Lettered}
+use Rattle.table.specs.Covering.{left_of, right_of}
+use Rattle.backbone.specs.Chains.{Chain, letters_in, skipped_in, Before, Lettered}
 
 pub record Apart (rs : List Row) : Type 0 where
   pub lettered : Lettered rs
-  pub fits : (s : Side) (i : ℕ) → i < length rs → rightOf s (row_at rs i) < 2 ^ 32
+  pub fits : (s : Side) (i : ℕ) → i < length rs → right_of s (row_at rs i) < 2 ^ 32
   pub disjoint :
       (s : Side) (i j : ℕ) → i < length rs → j < length rs → left_of s (row_at rs i) < left_of s (row_at rs j)
-      → rightOf s (row_at rs i) ≤ left_of s (row_at rs j)
+      → right_of s (row_at rs i) ≤ left_of s (row_at rs j)
 
 pub record BestFrom (price : ℕ) (rs : List Row) (k : ℕ) (ks : List ℕ) (score : ℕ) : Type 0 where
   pub chain : Chain rs (k ∷ ks)
-  pub scores : lettersIn rs (k ∷ ks) ≡ score + price * skippedIn rs (k ∷ ks)
-  pub most : (js : List ℕ) → Chain rs (k ∷ js) → lettersIn rs (k ∷ js) ≤ score + price * skippedIn rs (k ∷ js)
+  pub scores : letters_in rs (k ∷ ks) ≡ score + price * skipped_in rs (k ∷ ks)
+  pub most : (js : List ℕ) → Chain rs (k ∷ js) → letters_in rs (k ∷ js) ≤ score + price * skipped_in rs (k ∷ js)
   pub first :
-      (js : List ℕ) → Chain rs (k ∷ js) → lettersIn rs (k ∷ js) ≡ score + price * skippedIn rs (k ∷ js)
+      (js : List ℕ) → Chain rs (k ∷ js) → letters_in rs (k ∷ js) ≡ score + price * skipped_in rs (k ∷ js)
       → (js ≡ ks) ⊎ Before ks js
 
 -- SCOPE, "First among equals": of two rows with the same amount the lower number is first

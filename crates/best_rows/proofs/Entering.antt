@@ -19,8 +19,8 @@ use lib.ListN.{length, get_or, set, length-set}
 use lib.Seq.{get_or-set_same, get_or-set_other}
 use Rattle.rows.specs.declared.Row.{Row}
 use Rattle.refinement.specs.Order.{◌∈◌}
-use Rattle.direct_rows.specs.Direct.{placeAt}
-use Rattle.weighing.specs.Weighing.{betterOf}
+use Rattle.direct_rows.specs.Direct.{place_at}
+use Rattle.weighing.specs.Weighing.{better_of}
 use Rattle.weighing.proofs.Top.{better-top, top-same, top-single}
 use Rattle.best_rows.specs.Halves.{middle, Within, Holding, Entered}
 use Rattle.best_rows.specs.Halves.Halved.{whole, halves}
@@ -40,26 +40,26 @@ holding-set {rs} {held} i {v} h l =
 -- a number becomes the better one of itself and a row: all still name rows
 holding-taken :
     (price : ℕ) {rs : List Row} (scores : List ℕ) {held : List ℕ} {i number v : ℕ}
-    → v ≡ betterOf price rs scores (get_or held i 0) number → Holding rs held → i < length held → number ≤ length rs
+    → v ≡ better_of price rs scores (get_or held i 0) number → Holding rs held → i < length held → number ≤ length rs
     → Holding rs (set held i v)
 holding-taken price {rs} scores {i = i} e h l m =
     holding-set i h (rw e (better-named price rs scores (h.holding i l) m))
 
 -- at places where the row is not, the same rows are entered with it
 elsewhere :
-    {es : List ℕ} (places : List ℕ) {number lo hi : ℕ} → (placeAt places number < lo) ⊎ (hi ≤ placeAt places number)
-    → (k : ℕ) → lo ≤ placeAt places k → placeAt places k < hi → (k ∈ es) ↔ (k ∈ (number ∷ es))
+    {es : List ℕ} (places : List ℕ) {number lo hi : ℕ} → (place_at places number < lo) ⊎ (hi ≤ place_at places number)
+    → (k : ℕ) → lo ≤ place_at places k → place_at places k < hi → (k ∈ es) ↔ (k ∈ (number ∷ es))
 elsewhere places {number} {lo} {hi} o k f t =
-    (there, λ m. ⊎_elim (λ e. absurd (not_there (ap (placeAt places) e) o)) (λ i. i) (Memᴰ.cases_cons m))
+    (there, λ m. ⊎_elim (λ e. absurd (not_there (ap (place_at places) e) o)) (λ i. i) (Memᴰ.cases_cons m))
   where
     not_there :
-        placeAt places k ≡ placeAt places number → (placeAt places number < lo) ⊎ (hi ≤ placeAt places number) → ⊥
+        place_at places k ≡ place_at places number → (place_at places number < lo) ⊎ (hi ≤ place_at places number) → ⊥
     not_there e (inl l) = omega arith
     not_there e (inr l) = omega arith
 
 -- a row is entered, with one more, if it was before or is that one
 within-one-more :
-    {number : ℕ} {es places : List ℕ} {lo hi : ℕ} → lo ≤ placeAt places number → placeAt places number < hi
+    {number : ℕ} {es places : List ℕ} {lo hi : ℕ} → lo ≤ place_at places number → place_at places number < hi
     → (k : ℕ) → (Within es places lo hi k ⊎ (k ≡ number)) ↔ Within (number ∷ es) places lo hi k
 within-one-more {number} {es} {places} {lo} {hi} f t k =
     (⊎_elim before that, λ w. go w (Memᴰ.cases_cons w.entered))
@@ -100,7 +100,7 @@ module _ {price : ℕ} {rs : List Row} {scores held : List ℕ} {lo hi place num
     -- .. or in the later one
     entered-later :
         {v : ℕ} → 1 ≤ number → middle lo hi ≤ place → place < hi → hi ≤ length held
-        → v ≡ betterOf price rs scores (get_or held (middle lo hi) 0) number
+        → v ≡ better_of price rs scores (get_or held (middle lo hi) 0) number
         → Entered price rs scores (set held (middle lo hi) v) (middle lo hi) hi place number held'
         → Entered price rs scores held lo hi place number held'
     entered-later {v} r b t m q e = record {
@@ -116,7 +116,7 @@ module _ {price : ℕ} {rs : List Row} {scores held : List ℕ} {lo hi place num
           (e.halved es places p (halved-held (λ i f u. other i (λ o. omega arith)) parts.2));
     }
       where
-        taken : get_or held' (middle lo hi) 0 ≡ betterOf price rs scores (get_or held (middle lo hi) 0) number
+        taken : get_or held' (middle lo hi) 0 ≡ better_of price rs scores (get_or held (middle lo hi) 0) number
         taken =
             e.kept (middle lo hi) (inl (omega arith))
             ∙ get_or-set_same held (middle lo hi) v 0 (middle-there lo hi l m) ∙ q
@@ -172,7 +172,7 @@ module _ {price : ℕ} {rs : List Row} {scores : List ℕ} {count place number :
 
         pub entering-later :
             {v : ℕ} → 1 ≤ number → number ≤ length rs → middle lo hi ≤ place
-            → v ≡ betterOf price rs scores (get_or held (middle lo hi) 0) number
+            → v ≡ better_of price rs scores (get_or held (middle lo hi) 0) number
             → Entering price rs scores count place number held₀ (middle lo hi) hi (set held (middle lo hi) v)
         entering-later {v} one last b q =
             record {

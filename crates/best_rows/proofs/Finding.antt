@@ -13,8 +13,8 @@ use native.Mathlib.Omega.{arith}
 use native.Mathlib.Decide.{dec_lt}
 use lib.ListN.{length, get_or}
 use Rattle.rows.specs.declared.Row.{Row}
-use Rattle.direct_rows.specs.Direct.{placeAt}
-use Rattle.weighing.specs.Weighing.{Top, betterOf}
+use Rattle.direct_rows.specs.Direct.{place_at}
+use Rattle.weighing.specs.Weighing.{Top, better_of}
 use Rattle.weighing.specs.Weighing.Top.{none}
 use Rattle.weighing.proofs.Top.{better-top, top-same}
 use Rattle.best_rows.specs.Halves.{middle, Within, Halved, Holding, Behind}
@@ -36,7 +36,7 @@ pub record Nearing (price : ℕ) (rs : List Row) (scores held : List ℕ) (count
 within-joined :
     {es places : List ℕ} {mid hi count : ℕ} → mid ≤ hi → hi ≤ count
     → (k : ℕ) → (Within es places hi count k ⊎ Within es places mid hi k) ↔ Within es places mid count k
-within-joined {es} {places} {mid} {hi} {count} l m k = (⊎_elim later between, λ w. go w (dec_lt (placeAt places k) hi))
+within-joined {es} {places} {mid} {hi} {count} l m k = (⊎_elim later between, λ w. go w (dec_lt (place_at places k) hi))
   where
     later : Within es places hi count k → Within es places mid count k
     later w = record { entered = w.entered; from = omega (arith, w.from); to = w.to }
@@ -45,7 +45,7 @@ within-joined {es} {places} {mid} {hi} {count} l m k = (⊎_elim later between, 
     between w = record { entered = w.entered; from = w.from; to = omega (arith, w.to) }
 
     go :
-        Within es places mid count k → Dec (placeAt places k < hi)
+        Within es places mid count k → Dec (place_at places k < hi)
         → Within es places hi count k ⊎ Within es places mid hi k
     go w (yes b) = inr (record { entered = w.entered; from = w.from; to = b })
     go w (no b) = inl (record { entered = w.entered; from = omega arith; to = w.to })
@@ -69,7 +69,7 @@ module _ {price : ℕ} {rs : List Row} {scores held : List ℕ} {count place : �
     pub nearing-first :
         Holding rs held → count ≤ length held → lo + 1 < hi → place < middle lo hi
         → Nearing price rs scores held count place lo (middle lo hi)
-        (betterOf price rs scores best (get_or held (middle lo hi) 0))
+        (better_of price rs scores best (get_or held (middle lo hi) 0))
     nearing-first h c l b =
         let mid = middle-within lo hi l in
         record {

@@ -19,8 +19,8 @@ use native.Mathlib.Decide.{dec_lt}
 use lib.ListN.{get_or}
 use Rattle.rows.specs.declared.Row.{Row}
 use Rattle.refinement.specs.Order.{◌∈◌}
-use Rattle.direct_rows.specs.Direct.{placeAt}
-use Rattle.weighing.specs.Weighing.{Top, scoreAt, betterOf}
+use Rattle.direct_rows.specs.Direct.{place_at}
+use Rattle.weighing.specs.Weighing.{Top, score_at, better_of}
 use Rattle.weighing.specs.Weighing.Top.{none}
 use Rattle.weighing.proofs.Top.{top-same, top-scores}
 use Rattle.best_rows.specs.Halves.{middle, Within, Halved}
@@ -34,7 +34,7 @@ middle-there lo hi l m = omega arith
 
 pub within-alike :
     {es es' places : List ℕ} {lo hi : ℕ}
-    → ((k : ℕ) → lo ≤ placeAt places k → placeAt places k < hi → (k ∈ es) ↔ (k ∈ es'))
+    → ((k : ℕ) → lo ≤ place_at places k → place_at places k < hi → (k ∈ es) ↔ (k ∈ es'))
     → (k : ℕ) → Within es places lo hi k ↔ Within es' places lo hi k
 within-alike same k = (
   λ w. record { entered = (same k w.from w.to).0 w.entered; from = w.from; to = w.to },
@@ -52,8 +52,8 @@ module _ {price : ℕ} {rs : List Row} {places : List ℕ} where
 
   pub halved-alike :
       {scores scores' es es' held held' : List ℕ} {lo hi : ℕ}
-      → ((k : ℕ) → k ∈ es → scoreAt scores k ≡ scoreAt scores' k)
-      → ((k : ℕ) → lo ≤ placeAt places k → placeAt places k < hi → (k ∈ es) ↔ (k ∈ es'))
+      → ((k : ℕ) → k ∈ es → score_at scores k ≡ score_at scores' k)
+      → ((k : ℕ) → lo ≤ place_at places k → place_at places k < hi → (k ∈ es) ↔ (k ∈ es'))
       → ((i : ℕ) → lo < i → i < hi → get_or held' i 0 ≡ get_or held i 0)
       → Halved price rs scores es places held lo hi → Halved price rs scores' es' places held' lo hi
   halved-alike scored same kept (whole l) = whole l
@@ -66,7 +66,7 @@ module _ {price : ℕ} {rs : List Row} {places : List ℕ} where
       (halved-alike scored (λ k f t. same k (omega arith) t) (λ i f t. kept i (omega arith) t) later)
 
   pub halved-scores :
-      {scores scores' es held : List ℕ} {lo hi : ℕ} → ((k : ℕ) → k ∈ es → scoreAt scores k ≡ scoreAt scores' k)
+      {scores scores' es held : List ℕ} {lo hi : ℕ} → ((k : ℕ) → k ∈ es → score_at scores k ≡ score_at scores' k)
       → Halved price rs scores es places held lo hi → Halved price rs scores' es places held lo hi
   halved-scores scored = halved-alike scored (λ k f t. (λ i. i, λ i. i)) (λ i f t. refl)
 
@@ -116,6 +116,6 @@ choice-within true l m = l
 choice-within false l m = m
 
 pub better-named :
-    (price : ℕ) (rs : List Row) (scores : List ℕ) {j k n : ℕ} → j ≤ n → k ≤ n → betterOf price rs scores j k ≤ n
-unfolding betterOf
+    (price : ℕ) (rs : List Row) (scores : List ℕ) {j k n : ℕ} → j ≤ n → k ≤ n → better_of price rs scores j k ≤ n
+unfolding better_of
 better-named price rs scores l m = search choice-within

@@ -14,7 +14,7 @@
 use Rattle.std.specs.Prelude.{ℕ, ◌+◌, ◌-◌, ◌/◌, ◌≤◌, ◌<◌, ◌≡◌, ◌⊎◌, List, ◌∷◌, length, get_or}
 use Rattle.rows.specs.declared.Row.{Row}
 use Rattle.refinement.specs.Order.{◌∈◌}
-use Rattle.direct_rows.specs.Direct.{placeAt}
+use Rattle.direct_rows.specs.Direct.{place_at}
 use Rattle.weighing.specs.Weighing.{Top}
 
 abbrev pub middle : ℕ → ℕ → ℕ
@@ -22,8 +22,8 @@ middle lo hi = lo + (hi - lo) / 2
 
 pub record Within (es places : List ℕ) (lo hi k : ℕ) : Type 0 where
   pub entered : k ∈ es
-  pub from : lo ≤ placeAt places k
-  pub to : placeAt places k < hi
+  pub from : lo ≤ place_at places k
+  pub to : place_at places k < hi
 
 pub data Halved (price : ℕ) (rs : List Row) (scores es places held : List ℕ) : ℕ → ℕ → Type 0 where
   whole : {lo hi : ℕ} → hi ≤ lo + 1 → Halved price rs scores es places held lo hi
@@ -40,7 +40,7 @@ pub record Holding (rs : List Row) (held : List ℕ) : Type 0 where
 pub record Behind (price : ℕ) (rs : List Row) (scores held : List ℕ) (count place r : ℕ) : Type 0 where
   pub named : r ≤ length rs
   pub best :
-      (es places : List ℕ) → ((k : ℕ) → k ∈ es → placeAt places k < count)
+      (es places : List ℕ) → ((k : ℕ) → k ∈ es → place_at places k < count)
       → Halved price rs scores es places held 0 count
       → Top price rs scores (Within es places (place + 1) count) r
 
@@ -50,6 +50,6 @@ pub record Entered (price : ℕ) (rs : List Row) (scores held : List ℕ) (lo hi
     -- strictly between lo and hi alone
     pub kept : (i : ℕ) → (i ≤ lo) ⊎ (hi ≤ i) → get_or held' i 0 ≡ get_or held i 0
     pub halved :
-        (es places : List ℕ) → placeAt places number ≡ place
+        (es places : List ℕ) → place_at places number ≡ place
         → Halved price rs scores es places held lo hi
         → Halved price rs scores (number ∷ es) places held' lo hi

@@ -9,57 +9,57 @@ use mathlib.Core.Path.{◌≡◌, refl, sym, ap, ap₂, subst, ◌∙◌}
 use mathlib.Core.List.{List}
 use native.Mathlib.Omega.{arith}
 use lib.ListN.{length, take, replicate, length-replicate}
-use Rattle.script.specs.Reading.{readScript, verdictOf}
+use Rattle.script.specs.Reading.{read_script, verdict_of}
 use Rattle.script.specs.declared.refusal.Refusal.{Refusal}
 use Rattle.script.specs.declared.Verdict.{Verdict}
 use Rattle.script.proofs.Admitted.{holds-admitted, reading-refused}
-use Rattle.rows.specs.Rows.{rowWidth, rows_of}
-use Rattle.refining.specs.Refining.{refiningOf, capacityOf}
+use Rattle.rows.specs.Rows.{row_width, rows_of}
+use Rattle.refining.specs.Refining.{refining_of, capacity_of}
 use Rattle.refining.specs.Demands.{value, answer_of, MatchesOutcome, RefiningOutcome}
 use Rattle.refining.specs.declared.answers.Refined.{Refined}
-use Rattle.reporting.specs.Lines.{refusalText, tableText}
-use Rattle.reporting.specs.Reporting.{reportOf, Reporting, reportingOfText, reportingOf, ReadAs}
+use Rattle.reporting.specs.Lines.{refusal_text, table_text}
+use Rattle.reporting.specs.Reporting.{report_of, Reporting, reporting_of_text, reporting_of, ReadAs}
 use Rattle.reporting.proofs.Lent.{report-of-rows}
-use Rattle.brief_report.specs.Few.{fewRows}
+use Rattle.brief_report.specs.Few.{few_rows}
 
-pub verdict-told : {script : List ℕ} {told : Verdict} {p q count marks : ℕ} → told ≡ verdictOf (readScript script)
+pub verdict-told : {script : List ℕ} {told : Verdict} {p q count marks : ℕ} → told ≡ verdict_of (read_script script)
     → told ≡ Verdict.Admitted p q count marks → ReadAs script p q count
 verdict-told e v = record { marks = _; told = sym e ∙ v }
 
 pub report-refused :
-    (script text : List ℕ) {told : Verdict} {f : Refusal} {answer : Reporting} → told ≡ verdictOf (readScript script)
+    (script text : List ℕ) {told : Verdict} {f : Refusal} {answer : Reporting} → told ≡ verdict_of (read_script script)
     → told ≡ Verdict.Refused f
-    → reportingOfText (refusalText f) text ≡ answer
-    → reportingOf script text ≡ answer
-unfolding reportOf
+    → reporting_of_text (refusal_text f) text ≡ answer
+    → reporting_of script text ≡ answer
+unfolding report_of
 report-refused script text e v printed = rw (reading-refused script e v) printed
 
-outcome-room : {script table work : List ℕ} {n : ℕ} → RefiningOutcome script table work (value n) → n ≤ capacityOf table
-outcome-room (RefiningOutcome.of-matches a (MatchesOutcome.least-rows enough R L room)) = room
+outcome-room : {script table work : List ℕ} {n : ℕ} → RefiningOutcome script table work (value n) → n ≤ capacity_of table
+outcome-room (RefiningOutcome.of_matches a (MatchesOutcome.least_rows enough R L room)) = room
 
 pub rows-room :
-    (rows : ℕ) {script table work : List ℕ} {reply : Refined} {n : ℕ} → table ≡ replicate (rowWidth * rows) 0
+    (rows : ℕ) {script table work : List ℕ} {reply : Refined} {n : ℕ} → table ≡ replicate (row_width * rows) 0
     → RefiningOutcome script table work (answer_of reply)
     → reply ≡ Refined.Rows n
     → n ≤ rows
 rows-room rows {script} {table} {work} t o e =
     let room = outcome-room (subst (λ (r : Refined). RefiningOutcome script table work (answer_of r)) e o) in
-    omega (arith, room, ap length t, length-replicate {A = ℕ} (rowWidth * rows) 0)
+    omega (arith, room, ap length t, length-replicate {A = ℕ} (row_width * rows) 0)
 
 pub report-few :
     (script text : List ℕ) {p q count n : ℕ} {table work table' : List ℕ} {reply : Refined} {answer : Reporting}
     → ReadAs script p q count
-    → table ≡ replicate (rowWidth * fewRows) 0
+    → table ≡ replicate (row_width * few_rows) 0
     → RefiningOutcome script table work (answer_of reply)
-    → reply ≡ (refiningOf script table work).reply
-    → table' ≡ (refiningOf script table work).table
+    → reply ≡ (refining_of script table work).reply
+    → table' ≡ (refining_of script table work).table
     → reply ≡ Refined.Rows n
-    → reportingOfText (tableText p q count (rows_of (take (rowWidth * n) table'))) text ≡ answer
-    → reportingOf script text ≡ answer
+    → reporting_of_text (table_text p q count (rows_of (take (row_width * n) table'))) text ≡ answer
+    → reporting_of script text ≡ answer
 report-few script text {p} {q} {count} {n} {table} {work} admits small outcome replied wrote e printed =
-    let few = rows-room fewRows small outcome e in
+    let few = rows-room few_rows small outcome e in
     let held = holds-admitted script refl admits.told in
     let same = report-of-rows script table work held.read (sym replied ∙ e) (omega arith) in
-    let shown : ℕ → List ℕ → List ℕ = λ k t. tableText p q k (rows_of (take (rowWidth * n) t)) in
+    let shown : ℕ → List ℕ → List ℕ = λ k t. table_text p q k (rows_of (take (row_width * n) t)) in
     let stands = ap₂ shown (sym held.counted) wrote in
-    ap (λ (b : List ℕ). reportingOfText b text) (sym (stands ∙ same)) ∙ printed
+    ap (λ (b : List ℕ). reporting_of_text b text) (sym (stands ∙ same)) ∙ printed

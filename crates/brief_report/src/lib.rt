@@ -1,9 +1,10 @@
 // The text of a refused script, and of one whose table has few rows, made with a small table: a short script costs fewer
 // cuts than the zeros of a large one.
+#![tactic(auto)]
 ghost use Rattle.std.specs.Prelude.{◌≡◌, ◌*◌, replicate};
-ghost use Rattle.rows.specs.Rows.{rowWidth};
+ghost use Rattle.rows.specs.Rows.{row_width};
 ghost use Rattle.reporting.specs.Reporting.{ReadAs, Briefly};
-ghost use Rattle.brief_report.specs.Few.{fewRows};
+ghost use Rattle.brief_report.specs.Few.{few_rows};
 
 use printing::{print_refusal, print_table};
 use refine::refine;
@@ -16,13 +17,13 @@ use script::Verdict;
 const FEW_ROWS: usize = 64;
 
 fn few_table() -> [u32; ROW_WIDTH * FEW_ROWS]
-    ensures { result ≡ replicate (rowWidth * fewRows) 0 }
+    ensures { result ≡ replicate (row_width * few_rows) 0 }
 {
     [0; ROW_WIDTH * FEW_ROWS]
 }
 
 fn few_work() -> [u32; 4 * FEW_ROWS]
-    ensures { result ≡ replicate (4 * fewRows) 0 }
+    ensures { result ≡ replicate (4 * few_rows) 0 }
 {
     [0; 4 * FEW_ROWS]
 }

@@ -1,16 +1,17 @@
 // Doors for C and Rust: plain functions over the library, prefix notchergrey_. Each returns 0 or the refusal's number
 // and hands the rest out through pointers. Like a call of the library, a refused one alters no lent number but `place`.
 // The doors on tables refuse nothing.
+#![tactic(auto)]
 ghost use Rattle.std.specs.Prelude.{◌≡◌};
-ghost use Rattle.doors.specs.Doors.{readDoor, matchDoor, refineDoor, carryDoor, carryFromA, carryFromB};
-ghost use Rattle.doors.specs.Doors.{carryAllDoor, carryAllFromA, carryAllFromB};
-ghost use Rattle.doors.specs.Doors.{rowsDoor, summaryDoor, reportDoor};
-ghost use Rattle.doors.specs.Doors.{writeDoor, recordsDoor, chainDoor};
-ghost use Rattle.backbone.specs.Chaining.{chainingOf};
-ghost use Rattle.records.specs.Listing.{listingOf};
-ghost use Rattle.records.specs.Writing.{writingOf};
-ghost use Rattle.refining.specs.Refining.{refiningOf};
-ghost use Rattle.reporting.specs.Reporting.{reportingOf};
+ghost use Rattle.doors.specs.Doors.{read_door, match_door, refine_door, carry_door, carry_from_a, carry_from_b};
+ghost use Rattle.doors.specs.Doors.{carry_all_door, carry_all_from_a, carry_all_from_b};
+ghost use Rattle.doors.specs.Doors.{rows_door, summary_door, report_door};
+ghost use Rattle.doors.specs.Doors.{write_door, records_door, chain_door};
+ghost use Rattle.backbone.specs.Chaining.{chaining_of};
+ghost use Rattle.records.specs.Listing.{listing_of};
+ghost use Rattle.records.specs.Writing.{writing_of};
+ghost use Rattle.refining.specs.Refining.{refining_of};
+ghost use Rattle.reporting.specs.Reporting.{reporting_of};
 
 use backbone::Chained;
 use commands::bit;
@@ -48,7 +49,7 @@ pub extern "C" fn notchergrey_read(
             marks = mark_count.new;
           };
     }
-        ≡ readDoor script.now place.old
+        ≡ read_door script.now place.old
         (record {
           p = p.entry.now;
           q = q.old;
@@ -93,16 +94,16 @@ pub extern "C" fn notchergrey_match(
       place = place.new;
       given =
           record {
-            left-a = left_a.new;
-            left-b = left_b.new;
+            left_a = left_a.new;
+            left_b = left_b.new;
             letters = length.new;
             reversed = reversed.new;
           };
     }
-        ≡ matchDoor script.now number place.old
+        ≡ match_door script.now number place.old
         (record {
-          left-a = left_a.old;
-          left-b = left_b.old;
+          left_a = left_a.old;
+          left_b = left_b.old;
           letters = length.old;
           reversed = reversed.old;
         }) }
@@ -134,10 +135,10 @@ pub extern "C" fn notchergrey_write(
     length: &mut usize,
 ) -> u32
     ensures length_after { record { number = result; place = place.new; given = length.new }
-        ≡ writeDoor p q records.now marks.now script.old place.old
+        ≡ write_door p q records.now marks.now script.old place.old
         length.old }
     ensures script_after { script.new
-        ≡ (writingOf p q records.now marks.now script.old).script }
+        ≡ (writing_of p q records.now marks.now script.old).script }
 {
     match writer::write(p, q, records, marks, script) {
         Written::Bytes(n) => {
@@ -174,15 +175,15 @@ pub extern "C" fn notchergrey_read_records(
             marks = mark_count.new;
           };
     }
-        ≡ recordsDoor script.now records.old marks.old place.old
+        ≡ records_door script.now records.old marks.old place.old
         (record {
           p = p.entry.now;
           q = q.old;
           count = count.old;
           marks = mark_count.old;
         }) }
-    ensures records_after { records.new ≡ (listingOf script.now records.old marks.old).records }
-    ensures marks_after { marks.new ≡ (listingOf script.now records.old marks.old).marks }
+    ensures records_after { records.new ≡ (listing_of script.now records.old marks.old).records }
+    ensures marks_after { marks.new ≡ (listing_of script.now records.old marks.old).marks }
 {
     match read_records(script, records, marks) {
         Listed::Records {
@@ -214,10 +215,10 @@ pub extern "C" fn notchergrey_refine(
     rows: &mut usize,
 ) -> u32
     ensures rows_after { record { number = result; place = place.new; given = rows.new }
-        ≡ refineDoor script.now table.old work.old place.old
+        ≡ refine_door script.now table.old work.old place.old
         rows.old }
-    ensures table_after { table.new ≡ (refiningOf script.now table.old work.old).table }
-    ensures work_after { work.new ≡ (refiningOf script.now table.old work.old).work }
+    ensures table_after { table.new ≡ (refining_of script.now table.old work.old).table }
+    ensures work_after { work.new ≡ (refining_of script.now table.old work.old).work }
 {
     match refine::refine(script, table, work) {
         Refined::Rows(n) => {
@@ -251,20 +252,20 @@ pub extern "C" fn notchergrey_chain(
       place = place.new;
       given = record { score = score.exit.now; rows = rows.new; length = length.new };
     }
-        ≡ chainDoor script.now price table.old work.old chain.old
+        ≡ chain_door script.now price table.old work.old chain.old
         scores.old place.old
         (record { score = score.entry.now; rows = rows.old; length = length.old }) }
     ensures table_after { table.new
-        ≡ (chainingOf script.now price table.old work.old chain.old
+        ≡ (chaining_of script.now price table.old work.old chain.old
         scores.old).table }
     ensures work_after { work.new
-        ≡ (chainingOf script.now price table.old work.old chain.old
+        ≡ (chaining_of script.now price table.old work.old chain.old
         scores.old).work }
     ensures chain_after { chain.new
-        ≡ (chainingOf script.now price table.old work.old chain.old
+        ≡ (chaining_of script.now price table.old work.old chain.old
         scores.old).chain }
     ensures scores_after { scores.new
-        ≡ (chainingOf script.now price table.old work.old chain.old
+        ≡ (chaining_of script.now price table.old work.old chain.old
         scores.old).scores }
 {
     match chain::chain(script, price, table, work, chain, scores) {
@@ -295,7 +296,7 @@ fn carry_from(
     carried: &mut u32,
 ) -> u32
     ensures { record { number = result; place = place.new; given = carried.new }
-        ≡ carryDoor side script.now number position place.old carried.old }
+        ≡ carry_door side script.now number position place.old carried.old }
 {
     match carrying::carry(script, number, side, position) {
         Carried::To(x) => {
@@ -319,7 +320,7 @@ pub extern "C" fn notchergrey_carry_from_a(
     carried: &mut u32,
 ) -> u32
     ensures { record { number = result; place = place.new; given = carried.new }
-        ≡ carryFromA script.now number position place.old carried.old }
+        ≡ carry_from_a script.now number position place.old carried.old }
 {
     carry_from(script, number, Side::A, position, place, carried)
 }
@@ -334,7 +335,7 @@ pub extern "C" fn notchergrey_carry_from_b(
     carried: &mut u32,
 ) -> u32
     ensures { record { number = result; place = place.new; given = carried.new }
-        ≡ carryFromB script.now number position place.old carried.old }
+        ≡ carry_from_b script.now number position place.old carried.old }
 {
     carry_from(script, number, Side::B, position, place, carried)
 }
@@ -349,7 +350,7 @@ fn carry_all_from(
     place: &mut usize,
 ) -> u32
     ensures { record { number = result; place = place.new; given = carried.new }
-        ≡ carryAllDoor side script.now number positions.now place.old
+        ≡ carry_all_door side script.now number positions.now place.old
         carried.old }
 {
     match carrying_all::carry_all(script, number, side, positions, carried) {
@@ -371,7 +372,7 @@ pub extern "C" fn notchergrey_carry_all_from_a(
     place: &mut usize,
 ) -> u32
     ensures { record { number = result; place = place.new; given = carried.new }
-        ≡ carryAllFromA script.now number positions.now place.old
+        ≡ carry_all_from_a script.now number positions.now place.old
         carried.old }
 {
     carry_all_from(script, number, Side::A, positions, carried, place)
@@ -387,7 +388,7 @@ pub extern "C" fn notchergrey_carry_all_from_b(
     place: &mut usize,
 ) -> u32
     ensures { record { number = result; place = place.new; given = carried.new }
-        ≡ carryAllFromB script.now number positions.now place.old
+        ≡ carry_all_from_b script.now number positions.now place.old
         carried.old }
 {
     carry_all_from(script, number, Side::B, positions, carried, place)
@@ -402,7 +403,7 @@ pub extern "C" fn notchergrey_rows_of(
     end: &mut usize,
 ) -> u32
     ensures { record { number = result; start = start.new; end = end.new }
-        ≡ rowsDoor table.now number }
+        ≡ rows_door table.now number }
 {
     let span = span_of(table, number);
     *start = span.start;
@@ -426,7 +427,7 @@ pub extern "C" fn notchergrey_summary(
       covers = covers.new;
       classes = classes.new;
     }
-        ≡ summaryDoor table.now }
+        ≡ summary_door table.now }
 {
     let summary = sum_up(table);
     *pieces = summary.pieces;
@@ -443,8 +444,8 @@ pub extern "C" fn notchergrey_summary(
 #[unsafe(no_mangle)]
 pub extern "C" fn notchergrey_report(script: &[u8], text: &mut [u8], length: &mut usize) -> u32
     ensures length_after { record { number = result; length = length.new }
-        ≡ reportDoor script.now text.old }
-    ensures text_after { text.new ≡ (reportingOf script.now text.old).text }
+        ≡ report_door script.now text.old }
+    ensures text_after { text.new ≡ (reporting_of script.now text.old).text }
 {
     match report::report(script, text) {
         Reported::Printed(n) => {

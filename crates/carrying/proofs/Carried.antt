@@ -10,58 +10,58 @@ use mathlib.Core.Path.{◌≡◌, sym, ap, ◌∙◌}
 use mathlib.Core.Bool.{Bool, true, false}
 use mathlib.Core.List.{List}
 use native.Mathlib.Omega.{arith}
-use Rattle.script.specs.Reading.{readScript}
-use Rattle.script.specs.Finding.{findingOf}
+use Rattle.script.specs.Reading.{read_script}
+use Rattle.script.specs.Finding.{finding_of}
 use Rattle.script.specs.declared.Finding.{Finding}
 use Rattle.script.specs.declared.command.Match.{Match as ScriptMatch}
 use Rattle.script.specs.declared.refusal.Refusal.{Refusal}
 use Rattle.script.specs.declared.refusal.Refusal.TheVariants.{OffTheMatch}
 use Rattle.refinement.specs.declared.Side.{Side}
-use Rattle.refinement.specs.Match.{other, onSide, spanned, between, carryTo}
+use Rattle.refinement.specs.Match.{other, on_side, spanned, between, carry_to}
 use Rattle.refinement.proofs.Geometry.{between-spanned, carry-ends}
-use Rattle.refining.specs.Carrying.{carryingOf, carriedAnswer, CarryingDemand}
+use Rattle.refining.specs.Carrying.{carrying_of, carried_answer, CarryingDemand}
 use Rattle.refining.specs.declared.answers.Carried.{Carried}
 use Rattle.refining.proofs.CarryingOutcome.{carrying-refused, carrying-off, carrying-to, carrying-demand, found-fits}
 
 pub replied :
     {script : List ℕ} {number : ℕ} {side : Side} {position : ℕ} {reply : Carried}
-    → reply ≡ carryingOf script number side position
-    → (reply ≡ carryingOf script number side position)
-    × CarryingDemand script number side position (carriedAnswer reply)
+    → reply ≡ carrying_of script number side position
+    → (reply ≡ carrying_of script number side position)
+    × CarryingDemand script number side position (carried_answer reply)
 replied {script} {number} {side} {position} e = (e, carrying-demand script number side position e)
 
 module _ (script : List ℕ) (number : ℕ) (side : Side) (position : ℕ) {finding : Finding}
-    (finds : finding ≡ findingOf (readScript script) number) where
+    (finds : finding ≡ finding_of (read_script script) number) where
   pub found-refused : {r : Refusal} {reply : Carried} → finding ≡ Finding.Refused r → reply ≡ Carried.Refused r
-      → reply ≡ carryingOf script number side position
+      → reply ≡ carrying_of script number side position
   found-refused e is = is ∙ sym (carrying-refused script number side position (sym finds ∙ e))
 
   module _ {x : ScriptMatch} {from letters : ℕ} (found : finding ≡ Finding.Found x)
-      (from_is : from ≡ onSide side x.left_a x.left_b) (letters-is : letters ≡ x.length) where
+      (from_is : from ≡ on_side side x.left_a x.left_b) (letters-is : letters ≡ x.length) where
     pub from-fits : from + letters < 2 ^ 32
     from-fits = omega (arith, from_is, letters-is, found-fits script number (sym finds ∙ found) side)
 
-    module _ {from-right : ℕ} {spans : Bool} (right_is : from-right ≡ from + letters)
-        (spans-is : spans ≡ between from from-right position) where
+    module _ {from_right : ℕ} {spans : Bool} (right_is : from_right ≡ from + letters)
+        (spans-is : spans ≡ between from from_right position) where
       tested : {b : Bool} → spans ≡ b → spanned from x.length position ≡ b
       tested e = sym (between-spanned from x.length (rw letters-is at right_is) position) ∙ sym spans-is ∙ e
 
-      pub found-off : spans ≡ false → Carried.Refused OffTheMatch ≡ carryingOf script number side position
+      pub found-off : spans ≡ false → Carried.Refused OffTheMatch ≡ carrying_of script number side position
       found-off off = sym (carrying-off script number side position (sym finds ∙ found) from_is (tested off))
 
     module _ {opposite : Side} {to : ℕ} (opposite-is : opposite ≡ other side)
-        (to_is : to ≡ onSide opposite x.left_a x.left_b) where
-      to-other : to ≡ onSide (other side) x.left_a x.left_b
-      to-other = to_is ∙ ap (λ (s : Side). onSide s x.left_a x.left_b) opposite-is
+        (to_is : to ≡ on_side opposite x.left_a x.left_b) where
+      to-other : to ≡ on_side (other side) x.left_a x.left_b
+      to-other = to_is ∙ ap (λ (s : Side). on_side s x.left_a x.left_b) opposite-is
 
       pub to-fits : to + letters < 2 ^ 32
       to-fits = omega (arith, to-other, letters-is, found-fits script number (sym finds ∙ found) (other side))
 
-      module _ {from-right to-right : ℕ} {spans : Bool} (from-right-is : from-right ≡ from + letters)
-          (to-right-is : to-right ≡ to + letters) (spans-is : spans ≡ between from from-right position)
+      module _ {from_right to_right : ℕ} {spans : Bool} (from-right-is : from_right ≡ from + letters)
+          (to-right-is : to_right ≡ to + letters) (spans-is : spans ≡ between from from_right position)
           (on : spans ≡ true) where
-        pub found-to : {y : ℕ} {reply : Carried} → y ≡ carryTo x.reversed from to to-right position
-            → reply ≡ Carried.To y → reply ≡ carryingOf script number side position
+        pub found-to : {y : ℕ} {reply : Carried} → y ≡ carry_to x.reversed from to to_right position
+            → reply ≡ Carried.To y → reply ≡ carrying_of script number side position
         found-to carried is =
             is
             ∙ ap Carried.To

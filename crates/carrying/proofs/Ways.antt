@@ -12,37 +12,37 @@ use mathlib.Core.Path.{◌≡◌, refl, sym, ap, ◌∙◌}
 use mathlib.Core.Bool.{true}
 use mathlib.Core.List.{List}
 use native.Mathlib.Omega.{arith}
-use Rattle.script.specs.Reading.{readScript}
-use Rattle.script.specs.Finding.{findingOf}
+use Rattle.script.specs.Reading.{read_script}
+use Rattle.script.specs.Finding.{finding_of}
 use Rattle.script.specs.declared.Finding.{Finding}
 use Rattle.script.specs.declared.command.Match.{Match as ScriptMatch}
 use Rattle.script.specs.declared.refusal.Refusal.{Refusal}
 use Rattle.refinement.specs.declared.Side.{Side}
-use Rattle.refinement.specs.Match.{other, onSide, left, spanned, between, carryTo, carry}
+use Rattle.refinement.specs.Match.{other, on_side, left, spanned, between, carry_to, carry}
 use Rattle.refinement.proofs.Geometry.{carry-ends, carry-room}
 use Rattle.refining.specs.Refining.{with_number}
 use Rattle.refining.proofs.CarryingOutcome.{found-fits}
-use Rattle.carrying.specs.Ways.{wayOver, crossing_of}
+use Rattle.carrying.specs.Ways.{way_over, crossing_of}
 use Rattle.carrying.specs.declared.Way.{Way}
 use Rattle.carrying.specs.declared.Crossing.{Crossing}
 
 -- ---- working it out
 
 module _ (script : List ℕ) (number : ℕ) (side : Side) {finding : Finding}
-    (finds : finding ≡ findingOf (readScript script) number) where
+    (finds : finding ≡ finding_of (read_script script) number) where
   pub way-refused : {r : Refusal} {reply : Crossing} → finding ≡ Finding.Refused r → reply ≡ Crossing.Refused r
-      → reply ≡ crossing_of (findingOf (readScript script) number) side
+      → reply ≡ crossing_of (finding_of (read_script script) number) side
   way-refused e is = is ∙ rw (sym finds ∙ e)
 
   module _ {x : ScriptMatch} (found : finding ≡ Finding.Found x) {from : ℕ}
-      (from_is : from ≡ onSide side x.left_a x.left_b) where
+      (from_is : from ≡ on_side side x.left_a x.left_b) where
     pub from-fits : from + x.length < 2 ^ 32
     from-fits = omega (arith, from_is, found-fits script number (sym finds ∙ found) side)
 
     module _ {opposite : Side} {to : ℕ} (opposite-is : opposite ≡ other side)
-        (to_is : to ≡ onSide opposite x.left_a x.left_b) where
-      to-other : to ≡ onSide (other side) x.left_a x.left_b
-      to-other = to_is ∙ ap (λ (s : Side). onSide s x.left_a x.left_b) opposite-is
+        (to_is : to ≡ on_side opposite x.left_a x.left_b) where
+      to-other : to ≡ on_side (other side) x.left_a x.left_b
+      to-other = to_is ∙ ap (λ (s : Side). on_side s x.left_a x.left_b) opposite-is
 
       pub to-fits : to + x.length < 2 ^ 32
       to-fits = omega (arith, to-other, found-fits script number (sym finds ∙ found) (other side))
@@ -55,7 +55,7 @@ module _ (script : List ℕ) (number : ℕ) (side : Side) {finding : Finding}
             to_right = to + x.length;
             reversed = x.reversed;
           })
-          ≡ crossing_of (findingOf (readScript script) number) side
+          ≡ crossing_of (finding_of (read_script script) number) side
       way-found = rw (sym finds ∙ found, from_is, to-other)
 
 -- ---- going over it
@@ -63,26 +63,26 @@ module _ (script : List ℕ) (number : ℕ) (side : Side) {finding : Finding}
 -- the match that the way goes over
 pub record Crossed (script : List ℕ) (number : ℕ) (side : Side) (way : Way) : Type 0 where
   pub over : ScriptMatch
-  pub found : findingOf (readScript script) number ≡ Finding.Found over
-  pub is : way ≡ wayOver over side
+  pub found : finding_of (read_script script) number ≡ Finding.Found over
+  pub is : way ≡ way_over over side
 
 module _ (script : List ℕ) (number : ℕ) (side : Side) {crossing : Crossing}
-    (crosses : crossing ≡ crossing_of (findingOf (readScript script) number) side) where
+    (crosses : crossing ≡ crossing_of (finding_of (read_script script) number) side) where
   pub crossing-refused : {r : Refusal} → crossing ≡ Crossing.Refused r
-      → findingOf (readScript script) number ≡ Finding.Refused r
-  crossing-refused {r} e = go (findingOf (readScript script) number) (sym crosses ∙ e)
+      → finding_of (read_script script) number ≡ Finding.Refused r
+  crossing-refused {r} e = go (finding_of (read_script script) number) (sym crosses ∙ e)
     where
       go : (f : Finding) → crossing_of f side ≡ Crossing.Refused r → f ≡ Finding.Refused r
       go (Finding.Refused r') e' = cc
       go (Finding.Found x) e' = let z : ◌≡◌ {A = ℕ} 0 1 = cc in absurd (omega arith)
 
   pub crossed : {way : Way} → crossing ≡ Crossing.Over way → Crossed script number side way
-  crossed {way} e = go (findingOf (readScript script) number) refl (sym crosses ∙ e)
+  crossed {way} e = go (finding_of (read_script script) number) refl (sym crosses ∙ e)
     where
-      go : (f : Finding) → findingOf (readScript script) number ≡ f → crossing_of f side ≡ Crossing.Over way
+      go : (f : Finding) → finding_of (read_script script) number ≡ f → crossing_of f side ≡ Crossing.Over way
           → Crossed script number side way
       go (Finding.Refused r) is e' = let z : ◌≡◌ {A = ℕ} 0 1 = cc in absurd (omega arith)
-      go (Finding.Found x) is e' = let same : wayOver x side ≡ way = cc in
+      go (Finding.Found x) is e' = let same : way_over x side ≡ way = cc in
           record { over = x; found = is; is = sym same }
 
 module _ {script : List ℕ} {number : ℕ} {side : Side} {way : Way} (c : Crossed script number side way) where
@@ -95,10 +95,10 @@ module _ {script : List ℕ} {number : ℕ} {side : Side} {way : Way} (c : Cross
   way_test position = rw c.is
 
   pub way-carries : (position : ℕ) →
-      carryTo way.reversed way.from way.to way.to_right position
+      carry_to way.reversed way.from way.to way.to_right position
       ≡ carry (with_number number c.over) side position
   way-carries position =
-      let way = wayOver c.over side in
+      let way = way_over c.over side in
       rw c.is (carry-ends way.reversed way.from way.to c.over.length position refl)
 
   pub way-room : (position : ℕ) → between way.from way.from_right position ≡ true

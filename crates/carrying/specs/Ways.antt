@@ -1,19 +1,19 @@
 -- The way over a match: its ends on the side that positions come from and on the other.
---     wayOver m side         the way over a match of a script
+--     way_over m side         the way over a match of a script
 --     crossing_of f side      over the match that is found, or why there is none
 -- Assumes nothing.
 use Rattle.std.specs.Prelude.{◌+◌}
 use Rattle.script.specs.declared.Finding.{Finding}
 use Rattle.script.specs.declared.command.Match.{Match}
 use Rattle.refinement.specs.declared.Side.{Side}
-use Rattle.refinement.specs.Match.{other, onSide}
+use Rattle.refinement.specs.Match.{other, on_side}
 use Rattle.carrying.specs.declared.Way.{Way}
 use Rattle.carrying.specs.declared.Crossing.{Crossing}
 
-abbrev pub wayOver : Match → Side → Way
-wayOver m side =
-    let from = onSide side m.left_a m.left_b in
-    let to = onSide (other side) m.left_a m.left_b in
+abbrev pub way_over : Match → Side → Way
+way_over m side =
+    let from = on_side side m.left_a m.left_b in
+    let to = on_side (other side) m.left_a m.left_b in
     record {
       from = from;
       from_right = from + m.length;
@@ -24,4 +24,4 @@ wayOver m side =
 
 abbrev pub crossing_of : Finding → Side → Crossing
 crossing_of (Finding.Refused r) side = Crossing.Refused r
-crossing_of (Finding.Found m) side = Crossing.Over (wayOver m side)
+crossing_of (Finding.Found m) side = Crossing.Over (way_over m side)

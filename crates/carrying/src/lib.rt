@@ -1,8 +1,9 @@
 // The way over one match of a script, and one position carried over it.
+#![tactic(auto)]
 ghost use Rattle.std.specs.Prelude.{◌≡◌};
-ghost use Rattle.script.specs.Reading.{readScript};
-ghost use Rattle.script.specs.Finding.{findingOf};
-ghost use Rattle.refining.specs.Carrying.{carryingOf, carriedAnswer, CarryingDemand};
+ghost use Rattle.script.specs.Reading.{read_script};
+ghost use Rattle.script.specs.Finding.{finding_of};
+ghost use Rattle.refining.specs.Carrying.{carrying_of, carried_answer, CarryingDemand};
 ghost use Rattle.carrying.specs.Ways.{crossing_of};
 
 use refinement::Side;
@@ -28,7 +29,7 @@ pub enum Crossing {
 
 // The way over the match of this number, from the side named. Its right ends are worked out once, for any positions.
 pub fn find_way(script: &[u8], number: u32, side: Side) -> Crossing
-    ensures { result ≡ crossing_of (findingOf (readScript script.now) number) side }
+    ensures { result ≡ crossing_of (finding_of (read_script script.now) number) side }
 {
     match reader::find::find_match(script, number) {
         Finding::Refused(refusal) => Crossing::Refused(refusal),
@@ -50,8 +51,8 @@ pub fn find_way(script: &[u8], number: u32, side: Side) -> Crossing
 
 // Where the match of this number carries the position to, from the side named.
 pub fn carry(script: &[u8], number: u32, side: Side, position: u32) -> Carried
-    ensures value { result ≡ carryingOf script.now number side position }
-    ensures carrying_demand { CarryingDemand script.now number side position (carriedAnswer result) }
+    ensures value { result ≡ carrying_of script.now number side position }
+    ensures carrying_demand { CarryingDemand script.now number side position (carried_answer result) }
 {
     match reader::find::find_match(script, number) {
         Finding::Refused(refusal) => Carried::Refused(refusal),

@@ -70,8 +70,8 @@ module _ (test : ℕ → Bool) where
 -- ---- the numbers
 
 -- the first k positions are carried, and behind them the buffer is as it was
-abbrev writtenTo : (ℕ → ℕ) → List ℕ → List ℕ → ℕ → List ℕ
-writtenTo carries positions before k = map carries (take k positions) ++ drop k before
+abbrev written_to : (ℕ → ℕ) → List ℕ → List ℕ → ℕ → List ℕ
+written_to carries positions before k = map carries (take k positions) ++ drop k before
 
 -- so far k numbers are written, and what is left passes the test
 pub record Writing (test : ℕ → Bool) (carries : ℕ → ℕ) (positions before carried : List ℕ) (k : ℕ) : Type 0 where
@@ -79,7 +79,7 @@ pub record Writing (test : ℕ → Bool) (carries : ℕ → ℕ) (positions befo
   pub passes : every test (drop k positions) ≡ true
   pub room : length positions ≡ length before
   pub long : length carried ≡ length before
-  pub made : carried ≡ writtenTo carries positions before k
+  pub made : carried ≡ written_to carries positions before k
 
 module _ {test : ℕ → Bool} {carries : ℕ → ℕ} {positions before : List ℕ} where
   pub writing_start : every test positions ≡ true → length positions ≡ length before
@@ -89,8 +89,8 @@ module _ {test : ℕ → Bool} {carries : ℕ → ℕ} {positions before : List 
   module _ {carried : List ℕ} {k : ℕ} (w : Writing test carries positions before carried k) where
     -- a number is written behind the others
     one_more : k < length positions
-        → set (writtenTo carries positions before k) k (carries (get_or positions k 0))
-        ≡ writtenTo carries positions before (k + 1)
+        → set (written_to carries positions before k) k (carries (get_or positions k 0))
+        ≡ written_to carries positions before (k + 1)
     one_more inside =
         let front = map carries (take k positions) in
         let long : length front ≡ k =

@@ -11,15 +11,15 @@ use mathlib.Core.Bool.{Bool, true, false}
 use mathlib.Core.List.{List, [], ◌∷◌, map}
 use mathlib.Core.Logic.{◌≢◌}
 use lib.ListN.{length}
-use Rattle.script.specs.Reading.{readScript}
-use Rattle.script.specs.Finding.{findingOf}
+use Rattle.script.specs.Reading.{read_script}
+use Rattle.script.specs.Finding.{finding_of}
 use Rattle.script.specs.declared.refusal.Refusal.{Refusal}
 use Rattle.script.specs.declared.refusal.Refusal.TheVariants.{OffTheMatch, CountsDiffer}
 use Rattle.refinement.specs.declared.Side.{Side}
-use Rattle.refinement.specs.Match.{left, spanned, between, carryTo, carry}
+use Rattle.refinement.specs.Match.{left, spanned, between, carry_to, carry}
 use Rattle.refining.specs.Refining.{with_number}
-use Rattle.positions.specs.CarryingAll.{every, keptBy, carryingAllOf}
-use Rattle.positions.specs.Demands.{carriedAllAnswer, CarryingAllDemand}
+use Rattle.positions.specs.CarryingAll.{every, kept_by, carrying_all_of}
+use Rattle.positions.specs.Demands.{carried_all_answer, CarryingAllDemand}
 use Rattle.positions.specs.declared.CarriedAll.{CarriedAll}
 use Rattle.positions.specs.declared.CarriedAll.TheVariants.{All}
 use Rattle.positions.proofs.Demands.{all-refused, all_found, over-differ, over-off, over-all, all-demand}
@@ -30,13 +30,13 @@ use Rattle.carrying.proofs.Ways.{Crossed, crossing-refused, crossed, way_test, w
 
 module _ {script : List ℕ} {number : ℕ} {side : Side} {positions lent : List ℕ} where
   pub replied : {reply : CarriedAll} {lent' : List ℕ}
-      → carryingAllOf script number side positions lent ≡ record { reply = reply; carried = lent' }
-      → (reply ≡ (carryingAllOf script number side positions lent).reply)
-      × ((lent' ≡ (carryingAllOf script number side positions lent).carried)
-      × CarryingAllDemand script number side positions lent (carriedAllAnswer reply lent') lent')
+      → carrying_all_of script number side positions lent ≡ record { reply = reply; carried = lent' }
+      → (reply ≡ (carrying_all_of script number side positions lent).reply)
+      × ((lent' ≡ (carrying_all_of script number side positions lent).carried)
+      × CarryingAllDemand script number side positions lent (carried_all_answer reply lent') lent')
   replied {reply} {lent'} e =
-      let told : reply ≡ (carryingAllOf script number side positions lent).reply = rw e in
-      let held : lent' ≡ (carryingAllOf script number side positions lent).carried = rw e in
+      let told : reply ≡ (carrying_all_of script number side positions lent).reply = rw e in
+      let held : lent' ≡ (carrying_all_of script number side positions lent).carried = rw e in
       (told, (held, all-demand script number side positions lent told held))
 
 -- the way's test and its carrying are those of the match, on all positions
@@ -47,20 +47,20 @@ module _ {script : List ℕ} {number : ℕ} {side : Side} {way : Way} (c : Cross
   tests-all (x ∷ xs) = rw (way_test c x, tests-all xs)
 
   carries-all : (xs : List ℕ) →
-      map (carryTo way.reversed way.from way.to way.to_right) xs
+      map (carry_to way.reversed way.from way.to way.to_right) xs
       ≡ map (carry (with_number number c.over) side) xs
   carries-all [] = refl
   carries-all (x ∷ xs) = ap₂ ◌∷◌ (way-carries c x) (carries-all xs)
 
 module _ (script : List ℕ) (number : ℕ) (side : Side) (positions lent : List ℕ) {crossing : Crossing}
-    (crosses : crossing ≡ crossing_of (findingOf (readScript script) number) side) where
+    (crosses : crossing ≡ crossing_of (finding_of (read_script script) number) side) where
   pub no_way : {r : Refusal} → crossing ≡ Crossing.Refused r
-      → carryingAllOf script number side positions lent ≡ keptBy r lent
+      → carrying_all_of script number side positions lent ≡ kept_by r lent
   no_way e = all-refused script number side positions lent (crossing-refused script number side crosses e)
 
   module _ {way : Way} (over : crossing ≡ Crossing.Over way) where
     pub other_length : length positions ≢ length lent
-        → carryingAllOf script number side positions lent ≡ keptBy CountsDiffer lent
+        → carrying_all_of script number side positions lent ≡ kept_by CountsDiffer lent
     other_length n =
         let c = crossed script number side crosses over in
         all_found script number side positions lent c.found
@@ -68,7 +68,7 @@ module _ (script : List ℕ) (number : ℕ) (side : Side) (positions lent : List
 
     module _ (same : length positions ≡ length lent) {test : Bool}
         (tests : test ≡ every (between way.from way.from_right) positions) where
-      pub some-off : test ≡ false → carryingAllOf script number side positions lent ≡ keptBy OffTheMatch lent
+      pub some-off : test ≡ false → carrying_all_of script number side positions lent ≡ kept_by OffTheMatch lent
       some-off off =
           let c = crossed script number side crosses over in
           all_found script number side positions lent c.found
@@ -76,8 +76,8 @@ module _ (script : List ℕ) (number : ℕ) (side : Side) (positions lent : List
           (sym (tests-all c positions) ∙ sym tests ∙ off)
 
       pub all-on : test ≡ true → {lent' : List ℕ}
-          → lent' ≡ map (carryTo way.reversed way.from way.to way.to_right) positions
-          → carryingAllOf script number side positions lent ≡ record { reply = All; carried = lent' }
+          → lent' ≡ map (carry_to way.reversed way.from way.to way.to_right) positions
+          → carrying_all_of script number side positions lent ≡ record { reply = All; carried = lent' }
       all-on on is =
           let c = crossed script number side crosses over in
           all_found script number side positions lent c.found

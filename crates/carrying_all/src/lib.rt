@@ -1,8 +1,9 @@
 // A list of positions carried over one match of a script: all of them are tested before the first is written.
+#![tactic(auto)]
 ghost use Rattle.std.specs.Prelude.{◌+◌, ◌-◌, ◌≡◌, true, map, length};
-ghost use Rattle.refinement.specs.Match.{between, carryTo};
-ghost use Rattle.positions.specs.CarryingAll.{every, carryingAllOf};
-ghost use Rattle.positions.specs.Demands.{carriedAllAnswer, CarryingAllDemand};
+ghost use Rattle.refinement.specs.Match.{between, carry_to};
+ghost use Rattle.positions.specs.CarryingAll.{every, carrying_all_of};
+ghost use Rattle.positions.specs.Demands.{carried_all_answer, CarryingAllDemand};
 
 use carrying::{Crossing, Way};
 use positions::CarriedAll;
@@ -46,7 +47,7 @@ fn carry_each(way: Way, positions: &[u32], carried: &mut [u32])
     requires positions_value { every (between way.from way.from_right) positions.now ≡ true }
     requires positions_len { length positions.now ≡ length carried.old }
     ensures { carried.new
-        ≡ map (carryTo way.reversed way.from way.to way.to_right) positions.now }
+        ≡ map (carry_to way.reversed way.from way.to way.to_right) positions.now }
 {
     let mut k = 0;
     while k < positions.len() {
@@ -63,11 +64,11 @@ pub fn carry_all(
     positions: &[u32],
     carried: &mut [u32],
 ) -> CarriedAll
-    ensures value { result ≡ (carryingAllOf script.now number side positions.now carried.old).reply }
+    ensures value { result ≡ (carrying_all_of script.now number side positions.now carried.old).reply }
     ensures carried_after { carried.new
-        ≡ (carryingAllOf script.now number side positions.now carried.old).carried }
+        ≡ (carrying_all_of script.now number side positions.now carried.old).carried }
     ensures carrying_all_demand { CarryingAllDemand script.now number side positions.now carried.old
-        (carriedAllAnswer result carried.new) carried.new }
+        (carried_all_answer result carried.new) carried.new }
 {
     match carrying::find_way(script, number, side) {
         Crossing::Refused(refusal) => CarriedAll::Refused(refusal),

@@ -18,15 +18,15 @@ use borrow.Author.Tests.{le-leb}
 use Rattle.refinement.specs.Match.{between}
 use Rattle.refinement.proofs.Geometry.{between-bounds}
 use Rattle.runs.specs.Runs.{Same}
-use Rattle.cut_set.specs.Store.{Found, FoundRun, NothingFound, foundIn, Stored, Cramped}
+use Rattle.cut_set.specs.Store.{Found, FoundRun, NothingFound, found_in, Stored, Cramped}
 use Rattle.cut_set.specs.declared.CutSet.{CutSet}
 use Rattle.runs.proofs.Membership.{lt-or-le, in-same}
 use Rattle.cut_set.proofs.Laws.{done-used, stored-none, stored_same, stored-then, cramped-wide, cramped-then}
 use Rattle.reading_cuts.specs.Reading.{Lowest, Highest}
-use Rattle.refining.specs.Columns.{Columns, count_of, fromAt, fromRightAt, to_at, toRightAt, wayAt}
+use Rattle.refining.specs.Columns.{Columns, count_of, from_at, from_right_at, to_at, to_right_at, way_at}
 use Rattle.near_matches.specs.Near.{reaching, Passable}
-use Rattle.carrying_match.specs.OneMatch.{EndsIn, ImageBy, hitsOn, Ready}
-use Rattle.carrying_cuts.specs.Worker.{EndsKnown, Images, hitsOver}
+use Rattle.carrying_match.specs.OneMatch.{EndsIn, ImageBy, hits_on, Ready}
+use Rattle.carrying_cuts.specs.Worker.{EndsKnown, Images, hits_over}
 use Rattle.carrying_match.proofs.RunLists.{slice-same, hits-none}
 use Rattle.cut_set.proofs.Gathering.{base_done, used-limit, used-within}
 use Rattle.carrying_match.proofs.Storing.{same-apart, ready-then}
@@ -34,23 +34,23 @@ use Rattle.carrying_match.proofs.Storing.{same-apart, ready-then}
 -- an image of a number with P under the match at index k
 abbrev ImageAt : Columns → ℕ → (ℕ → Type 0) → ℕ → Type 0
 ImageAt columns k =
-    ImageBy (fromAt columns k) (fromRightAt columns k) (to_at columns k) (toRightAt columns k) (wayAt columns k)
+    ImageBy (from_at columns k) (from_right_at columns k) (to_at columns k) (to_right_at columns k) (way_at columns k)
 
 pub record Passed (columns : Columns) (xs : List ℕ) (from to : CutSet) (hits most : ℕ) (ys : List ℕ)
     (set : CutSet) (count k : ℕ) : Type 0 where
   pub until : k ≤ count_of columns
   pub lengths : length ys ≡ length xs
   pub stored : Stored (Images columns k (Found xs from)) xs to ys set
-  pub counted : count ≡ hits + hitsOver columns k (foundIn xs from)
+  pub counted : count ≡ hits + hits_over columns k (found_in xs from)
   pub few : count ≤ most
 
 -- more matches have no fewer hits
-pub hits_more : (columns : Columns) (ns : List ℕ) (k n : ℕ) → k ≤ n → hitsOver columns k ns ≤ hitsOver columns n ns
+pub hits_more : (columns : Columns) (ns : List ℕ) (k n : ℕ) → k ≤ n → hits_over columns k ns ≤ hits_over columns n ns
 hits_more columns ns k zero h = let e : k ≡ 0 = omega arith in rw e (omega arith)
 hits_more columns ns k (suc n) h = go (ℕ_discrete k (suc n)) (λ l. hits_more columns ns k n l)
   where
-    go : Dec (k ≡ suc n) → (k ≤ n → hitsOver columns k ns ≤ hitsOver columns n ns)
-        → hitsOver columns k ns ≤ hitsOver columns (suc n) ns
+    go : Dec (k ≡ suc n) → (k ≤ n → hits_over columns k ns ≤ hits_over columns n ns)
+        → hits_over columns k ns ≤ hits_over columns (suc n) ns
     go (yes e) before = rw e (omega arith)
     go (no e) before = omega (arith, before (omega arith))
 
@@ -67,14 +67,14 @@ images-to h m = record {
 -- matches without a hit
 hits-same :
     (columns : Columns) (ns : List ℕ) (k n : ℕ) → k ≤ n
-    → ((j : ℕ) → k ≤ j → j < n → hitsOn (fromAt columns j) (fromRightAt columns j) ns ≡ 0)
-    → hitsOver columns n ns ≡ hitsOver columns k ns
+    → ((j : ℕ) → k ≤ j → j < n → hits_on (from_at columns j) (from_right_at columns j) ns ≡ 0)
+    → hits_over columns n ns ≡ hits_over columns k ns
 hits-same columns ns k zero h none = let e : k ≡ 0 = omega arith in rw e
 hits-same columns ns k (suc n) h none =
     go (ℕ_discrete k (suc n)) (λ l. hits-same columns ns k n l (λ j a b. none j a (omega arith)))
   where
-    go : Dec (k ≡ suc n) → (k ≤ n → hitsOver columns n ns ≡ hitsOver columns k ns)
-        → hitsOver columns (suc n) ns ≡ hitsOver columns k ns
+    go : Dec (k ≡ suc n) → (k ≤ n → hits_over columns n ns ≡ hits_over columns k ns)
+        → hits_over columns (suc n) ns ≡ hits_over columns k ns
     go (yes e) before = rw e
     go (no e) before = omega (arith, before (omega arith), none n (omega arith) (omega arith))
 
@@ -97,19 +97,19 @@ module _ {columns : Columns} {xs : List ℕ} {from to : CutSet} {hits most : ℕ
   pass-start h = record {
     until = omega arith;
     lengths = refl;
-    stored = stored-none r.to-good (λ y m. absurd (omega (arith, m.below)));
+    stored = stored-none r.to_good (λ y m. absurd (omega (arith, m.below)));
     counted = omega arith;
     few = h;
   }
 
   module _ {ys : List ℕ} {set : CutSet} {count k : ℕ} (p : Passed columns xs from to hits most ys set count k) where
     -- ends that were members still are
-    pub pass-ends : EndsKnown columns xs to → k < count_of columns → EndsIn ys set (to_at columns k) (toRightAt columns k)
+    pub pass-ends : EndsKnown columns xs to → k < count_of columns → EndsIn ys set (to_at columns k) (to_right_at columns k)
     pass-ends e h = let ends = e k h in (p.stored.stays _ ends.0, p.stored.stays _ ends.1)
 
     found-same : Same xs ys from.done from.used
     found-same j l u = same-apart xs ys r.apart p.stored.outside j
-        (omega (arith, base_done r.from-good)) (omega (arith, used-limit r.from-good))
+        (omega (arith, base_done r.from_good)) (omega (arith, used-limit r.from_good))
 
     pub pass-ready : Ready ys from set
     pass-ready = ready-then r p.stored p.lengths
@@ -117,9 +117,9 @@ module _ {columns : Columns} {xs : List ℕ} {from to : CutSet} {hits most : ℕ
     pub pass-run : FoundRun xs from → FoundRun ys from
     pass-run up i j l o u = rw (found-same i l (omega arith), found-same j (omega arith) u) (up i j l o u)
 
-    run-list : foundIn ys from ≡ foundIn xs from
-    run-list = slice-same xs ys (used-within r.from-good)
-        (omega (arith, p.lengths, used-within r.from-good)) (done-used r.from-good) found-same
+    run-list : found_in ys from ≡ found_in xs from
+    run-list = slice-same xs ys (used-within r.from_good)
+        (omega (arith, p.lengths, used-within r.from_good)) (done-used r.from_good) found-same
 
     next :
         (y : ℕ)
@@ -158,16 +158,16 @@ module _ {columns : Columns} {xs : List ℕ} {from to : CutSet} {hits most : ℕ
         })
 
     one_more :
-        hitsOver columns (k + 1) (foundIn xs from)
-        ≡ hitsOver columns k (foundIn xs from)
-        + hitsOn (fromAt columns k) (fromRightAt columns k) (foundIn ys from)
+        hits_over columns (k + 1) (found_in xs from)
+        ≡ hits_over columns k (found_in xs from)
+        + hits_on (from_at columns k) (from_right_at columns k) (found_in ys from)
     one_more = let e : k + 1 ≡ suc k = omega arith in rw (e, run-list)
 
     module _ (h : k < count_of columns) where
       pub pass_step :
           {zs : List ℕ} {u : CutSet} {c : ℕ} → length zs ≡ length ys
           → Stored (ImageAt columns k (Found ys from)) ys set zs u
-          × (c ≡ count + hitsOn (fromAt columns k) (fromRightAt columns k) (foundIn ys from)) × (c ≤ most)
+          × (c ≡ count + hits_on (from_at columns k) (from_right_at columns k) (found_in ys from)) × (c ≤ most)
           → Passed columns xs from to hits most zs u c (k + 1)
       pass_step n q = record {
         until = omega arith;
@@ -183,12 +183,12 @@ module _ {columns : Columns} {xs : List ℕ} {from to : CutSet} {hits most : ℕ
       pass-full c = cramped-wide (λ y q. images-to (omega arith) ((next y).0 q)) (cramped-then p.stored c)
 
       pub pass-excess :
-          most < count + hitsOn (fromAt columns k) (fromRightAt columns k) (foundIn ys from)
-          → most < hits + hitsOver columns (count_of columns) (foundIn xs from)
+          most < count + hits_on (from_at columns k) (from_right_at columns k) (found_in ys from)
+          → most < hits + hits_over columns (count_of columns) (found_in xs from)
       pass-excess m =
-          let more : hitsOver columns (k + 1) (foundIn xs from)
-          ≤ hitsOver columns (count_of columns) (foundIn xs from) =
-          hits_more columns (foundIn xs from) (k + 1) (count_of columns) (omega arith)
+          let more : hits_over columns (k + 1) (found_in xs from)
+          ≤ hits_over columns (count_of columns) (found_in xs from) =
+          hits_more columns (found_in xs from) (k + 1) (count_of columns) (omega arith)
           in
           omega (arith, more, one_more, p.counted)
 
@@ -196,7 +196,7 @@ module _ {columns : Columns} {xs : List ℕ} {from to : CutSet} {hits most : ℕ
     skip :
         {n : ℕ} → k ≤ n → n ≤ count_of columns
         → ((j i : ℕ) → k ≤ j → j < n → from.done ≤ i → i < from.used
-        → between (fromAt columns j) (fromRightAt columns j) (get_or xs i 0) ≡ false)
+        → between (from_at columns j) (from_right_at columns j) (get_or xs i 0) ≡ false)
         → Passed columns xs from to hits most ys set count n
     skip {n} a b none = record {
       until = b;
@@ -207,10 +207,10 @@ module _ {columns : Columns} {xs : List ℕ} {from to : CutSet} {hits most : ℕ
     }
       where
         same :
-            hitsOver columns n (foundIn xs from) ≡ hitsOver columns k (foundIn xs from)
-        same = hits-same columns (foundIn xs from) k n a (λ j l u.
-            hits-none xs (used-within r.from-good) (done-used r.from-good) (fromAt columns j)
-            (fromRightAt columns j) (λ i l' u'. none j i l u l' u'))
+            hits_over columns n (found_in xs from) ≡ hits_over columns k (found_in xs from)
+        same = hits-same columns (found_in xs from) k n a (λ j l u.
+            hits-none xs (used-within r.from_good) (done-used r.from_good) (from_at columns j)
+            (from_right_at columns j) (λ i l' u'. none j i l u l' u'))
 
         fewer : {y : ℕ} (q : Images columns n (Found xs from) y) → (q.index < k) ⊎ (k ≤ q.index)
             → Images columns k (Found xs from) y
@@ -223,12 +223,12 @@ module _ {columns : Columns} {xs : List ℕ} {from to : CutSet} {hits most : ℕ
 
     pub pass-over :
         {lowest highest n : ℕ} → Lowest xs from lowest → Highest xs from highest
-        → length columns.from-lefts ≡ count_of columns
-        → Passable columns.from-lefts columns.from-rights lowest highest k n
+        → length columns.from_lefts ≡ count_of columns
+        → Passable columns.from_lefts columns.from_rights lowest highest k n
         → Passed columns xs from to hits most ys set count n
     pass-over {lowest} {highest} low high e q = skip q.from (omega (arith, q.to)) (λ j i a b l u.
         let m : Found xs from (get_or xs i 0) = record { place = i; from = l; below = u; is = refl } in
-        unreached (fromAt columns j) (fromRightAt columns j) lowest highest (get_or xs i 0) (q.past j a b)
+        unreached (from_at columns j) (from_right_at columns j) lowest highest (get_or xs i 0) (q.past j a b)
         (low.least (get_or xs i 0) m) (high.greatest (get_or xs i 0) m))
 
     pub pass-none : NothingFound from → Passed columns xs from to hits most ys set count (count_of columns)
@@ -237,7 +237,7 @@ module _ {columns : Columns} {xs : List ℕ} {from to : CutSet} {hits most : ℕ
     pub pass-end :
         count_of columns ≤ k
         → Stored (Images columns (count_of columns) (Found xs from)) xs to ys set
-        × (count ≡ hits + hitsOver columns (count_of columns) (foundIn xs from)) × (count ≤ most)
+        × (count ≡ hits + hits_over columns (count_of columns) (found_in xs from)) × (count ≤ most)
     pass-end h =
         let e : k ≡ count_of columns = omega (arith, p.until) in
         (rw e at p.stored, rw e at p.counted, p.few)

@@ -1,7 +1,8 @@
 // Carrying the newly found cuts of one side over the matches to the other, match by match.
+#![tactic(auto)]
 ghost use Rattle.std.specs.Prelude.{◌≡◌, true, ◌≤◌, length};
-ghost use Rattle.cut_set.specs.Store.{FoundRun, foundIn};
-ghost use Rattle.refining.specs.Columns.{columnsOf, Fit};
+ghost use Rattle.cut_set.specs.Store.{FoundRun, found_in};
+ghost use Rattle.refining.specs.Columns.{columns_of, Fit};
 ghost use Rattle.carrying_match.specs.OneMatch.{Ready};
 ghost use Rattle.carrying_cuts.specs.Worker.{EndsKnown, Working};
 
@@ -24,18 +25,18 @@ pub fn carry_found(
     most: usize,
     ended: bool,
 ) -> Worked
-    requires fit { Fit (columnsOf lefts.now rights.now other_lefts.now other_rights.now reversed.now) }
+    requires fit { Fit (columns_of lefts.now rights.now other_lefts.now other_rights.now reversed.now) }
     requires ready { Ready work.old from to }
     requires found_run { FoundRun work.old from }
     requires hits_le_most { hits ≤ most }
     requires ends_known { ended ≡ true
-        → EndsKnown (columnsOf lefts.now rights.now other_lefts.now other_rights.now reversed.now) work.old
+        → EndsKnown (columns_of lefts.now rights.now other_lefts.now other_rights.now reversed.now) work.old
         to }
     ensures { Working
-        (columnsOf lefts.now rights.now other_lefts.now
+        (columns_of lefts.now rights.now other_lefts.now
         other_rights.now reversed.now)
         (length reversed.now) work.old from to
-        (foundIn work.old from) hits most work.new result }
+        (found_in work.old from) hits most work.new result }
 {
     if reading_cuts::none_found(from) {
         return Worked::Held { hits: hits, to: to };

@@ -13,7 +13,7 @@ use lib.ListN.{length, get_or}
 use lib.Seq.{slice, slice-cons, slice_empty}
 use Rattle.runs.specs.Runs.{In}
 use Rattle.runs.proofs.Membership.{in-wide, in_parts}
-use Rattle.cut_set.specs.Store.{Good, Found, foundIn, foundEnd, Stored, Cramped}
+use Rattle.cut_set.specs.Store.{Good, Found, found_in, found_end, Stored, Cramped}
 use Rattle.cut_set.specs.declared.CutSet.{CutSet}
 use Rattle.cut_set.proofs.Laws.{done-used, stored-none, stored_same, stored-then, cramped-wide, cramped-then}
 use Rattle.reading_cuts.specs.Reading.{FoundPlace}
@@ -22,28 +22,28 @@ use Rattle.carrying_match.specs.OneMatch.{Ready, Carrying}
 use Rattle.carrying_match.specs.declared.Worked.{Worked}
 use Rattle.cut_set.proofs.Gathering.{base_done, used-limit, used-within}
 use Rattle.carrying_match.proofs.Storing.{same-apart, ready-then}
-use Rattle.carrying_cuts.specs.Worker.{Images, hitsOver}
+use Rattle.carrying_cuts.specs.Worker.{Images, hits_over}
 
 pub record CutsPassed (columns : Columns) (xs : List ℕ) (from to : CutSet) (hits most end : ℕ) (ys : List ℕ)
     (set : CutSet) (count at : ℕ) : Type 0 where
-  pub ends : end ≡ foundEnd from
+  pub ends : end ≡ found_end from
   pub start : from.done ≤ at
   pub until : at ≤ from.used
   pub lengths : length ys ≡ length xs
   pub stored : Stored (Images columns (count_of columns) (In xs from.done at)) xs to ys set
   pub counted :
-      hits + hitsOver columns (count_of columns) (foundIn xs from)
-      ≡ count + hitsOver columns (count_of columns) (slice at from.used xs)
+      hits + hits_over columns (count_of columns) (found_in xs from)
+      ≡ count + hits_over columns (count_of columns) (slice at from.used xs)
   pub few : count ≤ most
 
 -- the hits of a list are those of its first cut and those of the others
 hits-cons :
     (columns : Columns) (n x : ℕ) (ns : List ℕ)
-    → hitsOver columns n (x ∷ ns) ≡ hitsOver columns n (x ∷ []) + hitsOver columns n ns
+    → hits_over columns n (x ∷ ns) ≡ hits_over columns n (x ∷ []) + hits_over columns n ns
 hits-cons columns zero x ns = refl
 hits-cons columns (suc n) x ns = let before = hits-cons columns n x ns in omega (arith, before)
 
-hits-nothing : (columns : Columns) (n : ℕ) → hitsOver columns n [] ≡ 0
+hits-nothing : (columns : Columns) (n : ℕ) → hits_over columns n [] ≡ 0
 hits-nothing columns zero = refl
 hits-nothing columns (suc n) = let before = hits-nothing columns n in omega (arith, before)
 
@@ -61,14 +61,14 @@ images-of h m = record {
 
 module _ {columns : Columns} {xs : List ℕ} {from to : CutSet} {hits most end : ℕ} (r : Ready xs from to) where
   pub cuts-start :
-      {at : ℕ} → end ≡ foundEnd from → at ≡ from.done → hits ≤ most
+      {at : ℕ} → end ≡ found_end from → at ≡ from.done → hits ≤ most
       → CutsPassed columns xs from to hits most end xs to hits at
   cuts-start {at} e f h = record {
     ends = e;
     start = omega arith;
-    until = omega (arith, done-used r.from-good);
+    until = omega (arith, done-used r.from_good);
     lengths = refl;
-    stored = stored-none r.to-good (λ y m. absurd (omega (arith, m.carried.from, m.carried.below)));
+    stored = stored-none r.to_good (λ y m. absurd (omega (arith, m.carried.from, m.carried.below)));
     counted = rw f;
     few = h;
   }
@@ -79,13 +79,13 @@ module _ {columns : Columns} {xs : List ℕ} {from to : CutSet} {hits most end :
     ready = ready-then r p.stored p.lengths
 
     pub cuts-good : Good ys set
-    cuts-good = ready.to-good
+    cuts-good = ready.to_good
 
     pub cuts-place : at < end → FoundPlace ys from at
     cuts-place h = record {
       from = p.start;
       below = omega (arith, p.ends);
-      within = used-within ready.from-good;
+      within = used-within ready.from_good;
     }
 
     module _ {cut : ℕ} (more : at < end) (here : cut ≡ get_or ys at 0) where
@@ -94,7 +94,7 @@ module _ {columns : Columns} {xs : List ℕ} {from to : CutSet} {hits most end :
 
       cut-same : cut ≡ get_or xs at 0
       cut-same = here ∙ same-apart xs ys r.apart p.stored.outside at
-          (omega (arith, base_done r.from-good, p.start)) (omega (arith, h, used-limit r.from-good))
+          (omega (arith, base_done r.from_good, p.start)) (omega (arith, h, used-limit r.from_good))
 
       next-cut :
           (x : ℕ) → (In xs from.done at x ⊎ (x ≡ cut)) ↔ In xs from.done (at + 1) x
@@ -124,16 +124,16 @@ module _ {columns : Columns} {xs : List ℕ} {from to : CutSet} {hits most end :
       )
 
       hit :
-          hitsOver columns (count_of columns) (slice at from.used xs)
-          ≡ hitsOver columns (count_of columns) (cut ∷ [])
-          + hitsOver columns (count_of columns) (slice (at + 1) from.used xs)
+          hits_over columns (count_of columns) (slice at from.used xs)
+          ≡ hits_over columns (count_of columns) (cut ∷ [])
+          + hits_over columns (count_of columns) (slice (at + 1) from.used xs)
       hit = let e : at + 1 ≡ suc at = omega arith in
-          rw (e, cut-same, slice-cons at from.used xs 0 h (used-within r.from-good))
+          rw (e, cut-same, slice-cons at from.used xs 0 h (used-within r.from_good))
           (hits-cons columns (count_of columns) (get_or xs at 0) (slice (suc at) from.used xs))
 
       pub cuts-step :
           {zs : List ℕ} {t : CutSet} {c : ℕ} → length zs ≡ length ys
-          → Carrying (Images columns (count_of columns) (λ z. z ≡ cut)) (hitsOver columns (count_of columns) (cut ∷ []))
+          → Carrying (Images columns (count_of columns) (λ z. z ≡ cut)) (hits_over columns (count_of columns) (cut ∷ []))
           ys set count most zs (Worked.Held c t)
           → CutsPassed columns xs from to hits most end zs t c (at + 1)
       cuts-step n q = record {
@@ -154,17 +154,17 @@ module _ {columns : Columns} {xs : List ℕ} {from to : CutSet} {hits most end :
           (cramped-then p.stored c)
 
       pub cuts-excess :
-          most < count + hitsOver columns (count_of columns) (cut ∷ [])
-          → most < hits + hitsOver columns (count_of columns) (foundIn xs from)
+          most < count + hits_over columns (count_of columns) (cut ∷ [])
+          → most < hits + hits_over columns (count_of columns) (found_in xs from)
       cuts-excess m = omega (arith, p.counted, hit)
 
     pub cuts-end :
         end ≤ at
         → Carrying (Images columns (count_of columns) (Found xs from))
-        (hitsOver columns (count_of columns) (foundIn xs from)) xs to hits most ys (Worked.Held count set)
+        (hits_over columns (count_of columns) (found_in xs from)) xs to hits most ys (Worked.Held count set)
     cuts-end past =
         let e : at ≡ from.used = omega (arith, p.until, p.ends) in
-        let none : hitsOver columns (count_of columns) (slice at from.used xs) ≡ 0 =
+        let none : hits_over columns (count_of columns) (slice at from.used xs) ≡ 0 =
         rw (e, slice_empty from.used xs) (hits-nothing columns (count_of columns))
         in
         (rw e at p.stored, omega (arith, p.counted, none), p.few)

@@ -9,45 +9,45 @@ use mathlib.Core.Path.{◌≡◌, sym, ◌∙◌}
 use mathlib.Core.Bool.{true, false, true≢false}
 use mathlib.Core.List.{List}
 use mathlib.Core.Logic.{◌↔◌}
-use Rattle.refinement.specs.Match.{between, carryTo}
+use Rattle.refinement.specs.Match.{between, carry_to}
 use Rattle.cut_set.specs.Store.{Good, Stored, Cramped}
 use Rattle.cut_set.specs.declared.CutSet.{CutSet}
 use Rattle.cut_set.proofs.Laws.{stored-none, stored_same, cramped-wide}
 use Rattle.carrying_match.specs.OneMatch.{Carrying}
 use Rattle.carrying_match.specs.declared.Worked.{Worked}
-use Rattle.refining.specs.Columns.{Columns, fromAt, fromRightAt, to_at, toRightAt, wayAt}
+use Rattle.refining.specs.Columns.{Columns, from_at, from_right_at, to_at, to_right_at, way_at}
 use Rattle.carrying_cuts.specs.Worker.{Image}
-use Rattle.carrying_few.specs.Hit.{hitOn}
+use Rattle.carrying_few.specs.Hit.{hit_on}
 
 module _ (columns : Columns) (m cut : ℕ) where
   pub over-missed :
       {xs : List ℕ} {to : CutSet} (hits : ℕ) {most : ℕ} → Good xs to
-      → between (fromAt columns m) (fromRightAt columns m) cut ≡ false → hits ≤ most
-      → Carrying (Image columns m cut) (hitOn columns cut m) xs to hits most xs (Worked.Held hits to)
+      → between (from_at columns m) (from_right_at columns m) cut ≡ false → hits ≤ most
+      → Carrying (Image columns m cut) (hit_on columns cut m) xs to hits most xs (Worked.Held hits to)
   over-missed hits good e h = (
     stored-none good (λ y q. absurd (true≢false (sym q.spans ∙ e))),
     rw e (omega arith),
     h,
   )
 
-  module _ (e : between (fromAt columns m) (fromRightAt columns m) cut ≡ true) where
+  module _ (e : between (from_at columns m) (from_right_at columns m) cut ≡ true) where
     the-image :
-        {image : ℕ} → image ≡ carryTo (wayAt columns m) (fromAt columns m) (to_at columns m) (toRightAt columns m) cut
+        {image : ℕ} → image ≡ carry_to (way_at columns m) (from_at columns m) (to_at columns m) (to_right_at columns m) cut
         → (y : ℕ) → (y ≡ image) ↔ Image columns m cut y
     the-image f y = (λ q. record { spans = e; is = q ∙ f }, λ q. q.is ∙ sym f)
 
     pub over-held :
         {image : ℕ} {xs ys : List ℕ} {to t : CutSet} (hits : ℕ) {most : ℕ}
-        → image ≡ carryTo (wayAt columns m) (fromAt columns m) (to_at columns m) (toRightAt columns m) cut → hits < most
+        → image ≡ carry_to (way_at columns m) (from_at columns m) (to_at columns m) (to_right_at columns m) cut → hits < most
         → Stored (λ y. y ≡ image) xs to ys t
-        → Carrying (Image columns m cut) (hitOn columns cut m) xs to hits most ys (Worked.Held (hits + 1) t)
+        → Carrying (Image columns m cut) (hit_on columns cut m) xs to hits most ys (Worked.Held (hits + 1) t)
     over-held hits f h p = (stored_same (the-image f) p, rw e (omega arith), omega arith)
 
     pub over-full :
         {image : ℕ} {xs ys : List ℕ} {to t : CutSet}
-        → image ≡ carryTo (wayAt columns m) (fromAt columns m) (to_at columns m) (toRightAt columns m) cut
+        → image ≡ carry_to (way_at columns m) (from_at columns m) (to_at columns m) (to_right_at columns m) cut
         → Cramped (λ y. y ≡ image) xs to ys t → Cramped (Image columns m cut) xs to ys t
     over-full f c = cramped-wide (λ y. (the-image f y).0) c
 
-    pub over-excess : (hits : ℕ) {most : ℕ} → most ≤ hits → most < hits + hitOn columns cut m
+    pub over-excess : (hits : ℕ) {most : ℕ} → most ≤ hits → most < hits + hit_on columns cut m
     over-excess hits l = rw e (omega arith)

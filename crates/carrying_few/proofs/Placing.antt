@@ -18,14 +18,14 @@ use Rattle.runs.proofs.Membership.{lt-or-le}
 use Rattle.cut_set.specs.Store.{Good, Stored, Cramped}
 use Rattle.cut_set.specs.declared.CutSet.{CutSet}
 use Rattle.cut_set.proofs.Laws.{stored-none, stored_same, stored-then, cramped-wide, cramped-then}
-use Rattle.refining.specs.Columns.{Columns, count_of, fromAt, fromRightAt, Fit}
+use Rattle.refining.specs.Columns.{Columns, count_of, from_at, from_right_at, Fit}
 use Rattle.arrangement.specs.Index.{sum_to, sum_at, Indexed}
 use Rattle.near_blocks.specs.Places.{PassedPlaces}
 use Rattle.near_blocks.proofs.Passing.{passed-away}
 use Rattle.carrying_match.specs.OneMatch.{Carrying}
 use Rattle.carrying_match.specs.declared.Worked.{Worked}
-use Rattle.carrying_cuts.specs.Worker.{Image, Images, hitsOver}
-use Rattle.carrying_few.specs.Hit.{hitOn}
+use Rattle.carrying_cuts.specs.Worker.{Image, Images, hits_over}
+use Rattle.carrying_few.specs.Hit.{hit_on}
 
 pub record ImagesBefore (columns : Columns) (order : List ℕ) (k cut y : ℕ) : Type 0 where
   pub place : ℕ
@@ -34,10 +34,10 @@ pub record ImagesBefore (columns : Columns) (order : List ℕ) (k cut y : ℕ) :
 
 pub record PlacesPassed (columns : Columns) (order xs : List ℕ) (to : CutSet) (cut hits most : ℕ) (ys : List ℕ)
     (set : CutSet) (count k : ℕ) : Type 0 where
-  pub until : k ≤ length columns.from-lefts
+  pub until : k ≤ length columns.from_lefts
   pub lengths : length ys ≡ length xs
   pub stored : Stored (ImagesBefore columns order k cut) xs to ys set
-  pub counted : count ≡ hits + sum_at (hitOn columns cut) order k
+  pub counted : count ≡ hits + sum_at (hit_on columns cut) order k
   pub few : count ≤ most
 
 -- more places add no less
@@ -62,7 +62,7 @@ sum_same w xs k (suc n) h none =
     go (no e) before = omega (arith, before (omega arith), none n (omega arith) (omega arith))
 
 -- the hits by places are those by matches
-hits-sum : (columns : Columns) (cut k : ℕ) → sum_to (hitOn columns cut) k ≡ hitsOver columns k (cut ∷ [])
+hits-sum : (columns : Columns) (cut k : ℕ) → sum_to (hit_on columns cut) k ≡ hits_over columns k (cut ∷ [])
 hits-sum columns cut zero = refl
 hits-sum columns cut (suc k) = let before = hits-sum columns cut k in omega (arith, before)
 
@@ -83,37 +83,37 @@ module _ (columns : Columns) (order : List ℕ) (cut k : ℕ) where
   )
 
   one-sum :
-      hitOn columns cut (get_or order k 0) + sum_at (hitOn columns cut) order k ≡ sum_at (hitOn columns cut) order (k + 1)
+      hit_on columns cut (get_or order k 0) + sum_at (hit_on columns cut) order k ≡ sum_at (hit_on columns cut) order (k + 1)
   one-sum = let e : k + 1 ≡ suc k = omega arith in rw e (omega arith)
 
 -- all places
 module _ {columns : Columns} {order : List ℕ} (fit : Fit columns)
-    (i : Indexed order columns.from-lefts columns.from-rights) (cut : ℕ) where
+    (i : Indexed order columns.from_lefts columns.from_rights) (cut : ℕ) where
   all :
-      (y : ℕ) → ImagesBefore columns order (length columns.from-lefts) cut y
+      (y : ℕ) → ImagesBefore columns order (length columns.from_lefts) cut y
       ↔ Images columns (count_of columns) (λ z. z ≡ cut) y
   all y = (
     λ m. record {
       index = get_or order m.place 0;
-      below = omega (arith, i.order.below m.place m.below, fit.from-length);
+      below = omega (arith, i.order.below m.place m.below, fit.from_length);
       x = cut;
       carried = refl;
       image = m.image;
     },
-    λ q. let p = i.order.all q.index (omega (arith, q.below, fit.from-length)) in
+    λ q. let p = i.order.all q.index (omega (arith, q.below, fit.from_length)) in
         record { place = p.place; below = p.below; image = rw (p.is, ← q.carried) q.image },
   )
 
   all-sum :
-      sum_at (hitOn columns cut) order (length columns.from-lefts) ≡ hitsOver columns (count_of columns) (cut ∷ [])
-  all-sum = i.order.sums (hitOn columns cut) ∙ rw fit.from-length (hits-sum columns cut (count_of columns))
+      sum_at (hit_on columns cut) order (length columns.from_lefts) ≡ hits_over columns (count_of columns) (cut ∷ [])
+  all-sum = i.order.sums (hit_on columns cut) ∙ rw fit.from_length (hits-sum columns cut (count_of columns))
 
-module _ {columns : Columns} {order : List ℕ} (i : Indexed order columns.from-lefts columns.from-rights)
+module _ {columns : Columns} {order : List ℕ} (i : Indexed order columns.from_lefts columns.from_rights)
     {xs : List ℕ} {to : CutSet} {cut hits most : ℕ} (g : Good xs to) where
   -- places that are passed over
   places-over :
       {ys : List ℕ} {set : CutSet} {count k r : ℕ} → PlacesPassed columns order xs to cut hits most ys set count k
-      → PassedPlaces order (length columns.from-lefts) cut k r
+      → PassedPlaces order (length columns.from_lefts) cut k r
       → PlacesPassed columns order xs to cut hits most ys set count r
   places-over {k = k} {r} p q = record {
     until = q.to;
@@ -125,7 +125,7 @@ module _ {columns : Columns} {order : List ℕ} (i : Indexed order columns.from-
     where
       away :
           (j : ℕ) → k ≤ j → j < r
-          → between (fromAt columns (get_or order j 0)) (fromRightAt columns (get_or order j 0)) cut ≡ false
+          → between (from_at columns (get_or order j 0)) (from_right_at columns (get_or order j 0)) cut ≡ false
       away = passed-away i.listed q
 
       wider : {y : ℕ} → ImagesBefore columns order k cut y → ImagesBefore columns order r cut y
@@ -137,11 +137,11 @@ module _ {columns : Columns} {order : List ℕ} (i : Indexed order columns.from-
           (λ h. absurd (true≢false (sym m.image.spans ∙ away m.place h m.below)))
           (lt-or-le m.place k)
 
-      same : sum_at (hitOn columns cut) order r ≡ sum_at (hitOn columns cut) order k
-      same = sum_same (hitOn columns cut) order k r q.from (λ j a b. rw (away j a b))
+      same : sum_at (hit_on columns cut) order r ≡ sum_at (hit_on columns cut) order k
+      same = sum_same (hit_on columns cut) order k r q.from (λ j a b. rw (away j a b))
 
   pub places-start :
-      {r : ℕ} → hits ≤ most → PassedPlaces order (length columns.from-lefts) cut 0 r
+      {r : ℕ} → hits ≤ most → PassedPlaces order (length columns.from_lefts) cut 0 r
       → PlacesPassed columns order xs to cut hits most xs to hits r
   places-start h q = places-over none q
     where
@@ -157,9 +157,9 @@ module _ {columns : Columns} {order : List ℕ} (i : Indexed order columns.from-
   module _ {ys : List ℕ} {set : CutSet} {count k : ℕ}
       (p : PlacesPassed columns order xs to cut hits most ys set count k) where
     pub places-step :
-        {zs : List ℕ} {t : CutSet} {c r : ℕ} → length zs ≡ length ys → k < length columns.from-lefts
-        → Carrying (Image columns (get_or order k 0) cut) (hitOn columns cut (get_or order k 0)) ys set count most zs
-        (Worked.Held c t) → PassedPlaces order (length columns.from-lefts) cut (k + 1) r
+        {zs : List ℕ} {t : CutSet} {c r : ℕ} → length zs ≡ length ys → k < length columns.from_lefts
+        → Carrying (Image columns (get_or order k 0) cut) (hit_on columns cut (get_or order k 0)) ys set count most zs
+        (Worked.Held c t) → PassedPlaces order (length columns.from_lefts) cut (k + 1) r
         → PlacesPassed columns order xs to cut hits most zs t c r
     places-step {zs} {t} {c} n h q past = places-over more past
       where
@@ -174,7 +174,7 @@ module _ {columns : Columns} {order : List ℕ} (i : Indexed order columns.from-
 
     module _ (fit : Fit columns) where
       pub place-full :
-          {zs : List ℕ} {t : CutSet} → k < length columns.from-lefts
+          {zs : List ℕ} {t : CutSet} → k < length columns.from_lefts
           → Cramped (Image columns (get_or order k 0) cut) ys set zs t
           → Cramped (Images columns (count_of columns) (λ z. z ≡ cut)) xs to zs t
       place-full h c = cramped-wide
@@ -183,18 +183,18 @@ module _ {columns : Columns} {order : List ℕ} (i : Indexed order columns.from-
           (cramped-then p.stored c)
 
       pub place-excess :
-          k < length columns.from-lefts → most < count + hitOn columns cut (get_or order k 0)
-          → most < hits + hitsOver columns (count_of columns) (cut ∷ [])
+          k < length columns.from_lefts → most < count + hit_on columns cut (get_or order k 0)
+          → most < hits + hits_over columns (count_of columns) (cut ∷ [])
       place-excess h m =
-          let n = length columns.from-lefts in
-          let rest = sum_more (hitOn columns cut) order (k + 1) n (omega arith) in
+          let n = length columns.from_lefts in
+          let rest = sum_more (hit_on columns cut) order (k + 1) n (omega arith) in
           omega (arith, p.counted, rest, one-sum columns order cut k, all-sum fit i cut)
 
       pub places-end :
-          length columns.from-lefts ≤ k
-          → Carrying (Images columns (count_of columns) (λ z. z ≡ cut)) (hitsOver columns (count_of columns) (cut ∷ []))
+          length columns.from_lefts ≤ k
+          → Carrying (Images columns (count_of columns) (λ z. z ≡ cut)) (hits_over columns (count_of columns) (cut ∷ []))
           xs to hits most ys (Worked.Held count set)
       places-end h =
-          let e : k ≡ length columns.from-lefts = omega (arith, p.until) in
+          let e : k ≡ length columns.from_lefts = omega (arith, p.until) in
           let counted = rw e at p.counted in
           (stored_same (all fit i cut) (rw e at p.stored), omega (arith, counted, all-sum fit i cut), p.few)

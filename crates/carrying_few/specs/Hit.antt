@@ -1,9 +1,9 @@
 -- Carrying one cut over one match.
---     hitOn columns cut m         1 if match m spans the cut, else 0
+--     hit_on columns cut m         1 if match m spans the cut, else 0
 -- Assumes nothing.
 use Rattle.std.specs.Prelude.{ℕ, [], ◌∷◌}
-use Rattle.refining.specs.Columns.{Columns, fromAt, fromRightAt}
-use Rattle.carrying_match.specs.OneMatch.{hitsOn}
+use Rattle.refining.specs.Columns.{Columns, from_at, from_right_at}
+use Rattle.carrying_match.specs.OneMatch.{hits_on}
 
-abbrev pub hitOn : Columns → ℕ → ℕ → ℕ
-hitOn columns cut m = hitsOn (fromAt columns m) (fromRightAt columns m) (cut ∷ [])
+abbrev pub hit_on : Columns → ℕ → ℕ → ℕ
+hit_on columns cut m = hits_on (from_at columns m) (from_right_at columns m) (cut ∷ [])

@@ -1,12 +1,13 @@
 // Carrying a few newly found cuts of one side over the matches to the other, cut by cut: the index of the matches tells
 // which of them may span a cut.
+#![tactic(auto)]
 ghost use Rattle.std.specs.Prelude.{[], ◌∷◌, ◌≡◌, ◌≤◌, ◌<◌, length};
-ghost use Rattle.cut_set.specs.Store.{Good, FoundRun, foundIn};
-ghost use Rattle.refining.specs.Columns.{columnsOf, Fit};
+ghost use Rattle.cut_set.specs.Store.{Good, FoundRun, found_in};
+ghost use Rattle.refining.specs.Columns.{columns_of, Fit};
 ghost use Rattle.arrangement.specs.Index.{Indexed};
 ghost use Rattle.carrying_match.specs.OneMatch.{Ready, Carrying};
-ghost use Rattle.carrying_cuts.specs.Worker.{Image, Images, hitsOver, Working};
-ghost use Rattle.carrying_few.specs.Hit.{hitOn};
+ghost use Rattle.carrying_cuts.specs.Worker.{Image, Images, hits_over, Working};
+ghost use Rattle.carrying_few.specs.Hit.{hit_on};
 
 use carrying_match::Worked;
 use cut_set::{Added, CutSet};
@@ -26,17 +27,17 @@ fn carry_over(
     hits: usize,
     most: usize,
 ) -> Worked
-    requires fit { Fit (columnsOf lefts.now rights.now other_lefts.now other_rights.now reversed.now) }
+    requires fit { Fit (columns_of lefts.now rights.now other_lefts.now other_rights.now reversed.now) }
     requires m_in_bounds { m < length reversed.now }
     requires good { Good work.old to }
     requires hits_le_most { hits ≤ most }
     ensures { Carrying
         (Image
-        (columnsOf lefts.now rights.now other_lefts.now
+        (columns_of lefts.now rights.now other_lefts.now
         other_rights.now reversed.now)
         m cut)
-        (hitOn
-        (columnsOf lefts.now rights.now other_lefts.now
+        (hit_on
+        (columns_of lefts.now rights.now other_lefts.now
         other_rights.now reversed.now)
         cut m)
         work.old to hits most work.new result }
@@ -71,17 +72,17 @@ fn carry_cut(
     hits: usize,
     most: usize,
 ) -> Worked
-    requires fit { Fit (columnsOf lefts.now rights.now other_lefts.now other_rights.now reversed.now) }
+    requires fit { Fit (columns_of lefts.now rights.now other_lefts.now other_rights.now reversed.now) }
     requires indexed { Indexed index.now lefts.now rights.now }
     requires good { Good work.old to }
     requires hits_le_most { hits ≤ most }
     ensures { Carrying
         (Images
-        (columnsOf lefts.now rights.now other_lefts.now
+        (columns_of lefts.now rights.now other_lefts.now
         other_rights.now reversed.now)
         (length reversed.now) (λ z. z ≡ cut))
-        (hitsOver
-        (columnsOf lefts.now rights.now other_lefts.now
+        (hits_over
+        (columns_of lefts.now rights.now other_lefts.now
         other_rights.now reversed.now)
         (length reversed.now) (cut ∷ []))
         work.old to hits most work.new result }
@@ -133,16 +134,16 @@ pub fn carry_few(
     hits: usize,
     most: usize,
 ) -> Worked
-    requires fit { Fit (columnsOf lefts.now rights.now other_lefts.now other_rights.now reversed.now) }
+    requires fit { Fit (columns_of lefts.now rights.now other_lefts.now other_rights.now reversed.now) }
     requires indexed { Indexed index.now lefts.now rights.now }
     requires ready { Ready work.old from to }
     requires found_run { FoundRun work.old from }
     requires hits_le_most { hits ≤ most }
     ensures { Working
-        (columnsOf lefts.now rights.now other_lefts.now
+        (columns_of lefts.now rights.now other_lefts.now
         other_rights.now reversed.now)
         (length reversed.now) work.old from to
-        (foundIn work.old from) hits most work.new result }
+        (found_in work.old from) hits most work.new result }
 {
     let end = reading_cuts::found_end(from);
     let mut set = to;

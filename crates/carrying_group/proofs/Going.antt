@@ -10,13 +10,13 @@ use mathlib.Core.List.{List}
 use mathlib.Core.Logic.{inl, inr, ⊎_elim}
 use Rattle.runs.specs.Runs.{Same}
 use Rattle.runs.proofs.Membership.{in-same}
-use Rattle.cut_set.specs.Store.{Found, foundIn}
+use Rattle.cut_set.specs.Store.{Found, found_in}
 use Rattle.cut_set.specs.declared.CutSet.{CutSet}
 use Rattle.cut_set.proofs.Gathering.{base_done, used-limit, used-within}
 use Rattle.cut_set.proofs.Laws.{done-used, good-same}
 use Rattle.refining.specs.Columns.{Columns, count_of}
 use Rattle.carrying_match.proofs.RunLists.{slice-same}
-use Rattle.carrying_cuts.specs.Worker.{Images, EndsKnown, hitsOver}
+use Rattle.carrying_cuts.specs.Worker.{Images, EndsKnown, hits_over}
 use Rattle.shelf.specs.Shelf.{set_at}
 use Rattle.shelf.specs.Filling.{Crammed}
 use Rattle.shelf.proofs.Shelving.{shelf-as}
@@ -51,7 +51,7 @@ module _ {c : Columns} {from : CutSet} {n lo hi j : ℕ} {xs b ys b' : List ℕ}
   images-forth : (y : ℕ) → Images c (count_of c) (Found xs from) y → Images c (count_of c) (Found ys from) y
   images-forth y = images-as (λ x p. in-same run-same p) y
 
-  list_same : foundIn ys from ≡ foundIn xs from
+  list_same : found_in ys from ≡ found_in xs from
   list_same = slice-same xs ys (used-within clear.good) (omega (arith, g.lengths, used-within clear.good))
       (done-used clear.good) run-same
 
@@ -82,6 +82,6 @@ module _ {c : Columns} {from : CutSet} {n lo hi j : ℕ} {xs b ys b' : List ℕ}
     few = p.few;
   }
 
-  pub gone-excess : (hits most : ℕ) → most < hits + hitsOver c (count_of c) (foundIn ys from) →
-      most < hits + hitsOver c (count_of c) (foundIn xs from)
+  pub gone-excess : (hits most : ℕ) → most < hits + hits_over c (count_of c) (found_in ys from) →
+      most < hits + hits_over c (count_of c) (found_in xs from)
   gone-excess hits most p = rw (sym list_same) p

@@ -8,13 +8,13 @@ use mathlib.Core.Path.{◌≡◌}
 use mathlib.Core.List.{List}
 use mathlib.Core.Logic.{⊎_elim}
 use lib.ListN.{length}
-use Rattle.cut_set.specs.Store.{Found, foundIn, Stored}
+use Rattle.cut_set.specs.Store.{Found, found_in, Stored}
 use Rattle.cut_set.specs.declared.CutSet.{CutSet}
 use Rattle.refining.specs.Columns.{Columns, count_of}
 use Rattle.carrying_match.specs.OneMatch.{Apart, Ready}
-use Rattle.carrying_cuts.specs.Worker.{Images, hitsOver}
+use Rattle.carrying_cuts.specs.Worker.{Images, hits_over}
 use Rattle.shelf.specs.Shelf.{set_at, Shelf, Saved}
-use Rattle.shelf.proofs.Shelving.{good-is, base-is, limit_is}
+use Rattle.shelf.proofs.Shelving.{good-is, base_is, limit_is}
 use Rattle.shelf.proofs.Filling.{put}
 use Rattle.carrying_group.specs.Group.{Clear, Carried}
 
@@ -22,22 +22,22 @@ use Rattle.carrying_group.specs.Group.{Clear, Carried}
 pub group-ready : {xs b : List ℕ} {n lo hi j : ℕ} {from to : CutSet} → to ≡ set_at b j → Shelf xs b n lo hi →
     Clear xs from lo hi → j < n → Ready xs from to
 group-ready {j = j} e s clear l = record {
-  from-good = clear.good;
-  to-good = good-is e (s.good j l);
-  apart = ⊎_elim (λ h. Apart.before (omega (arith, h, s.from j l, base-is e)))
+  from_good = clear.good;
+  to_good = good-is e (s.good j l);
+  apart = ⊎_elim (λ h. Apart.before (omega (arith, h, s.from j l, base_is e)))
       (λ h. Apart.behind (omega (arith, h, s.to j l, limit_is e))) clear.apart;
 }
 
 -- the set number j was loaded as s, and saved as t
 module _ {s t : CutSet} {n lo hi j : ℕ} {xs b ys b' : List ℕ} (e : s ≡ set_at b j)
-    (shelf : Shelf xs b n lo hi) (l : j < n) (saved : Saved b j t b') (length-work : length ys ≡ length xs)
-    (length-book : length b' ≡ length b) where
+    (shelf : Shelf xs b n lo hi) (l : j < n) (saved : Saved b j t b') (length_work : length ys ≡ length xs)
+    (length_book : length b' ≡ length b) where
   pub tried : {c : Columns} {from : CutSet} {hits hits' most : ℕ} →
       Stored (Images c (count_of c) (Found xs from)) xs s ys t
-      × (hits' ≡ hits + hitsOver c (count_of c) (foundIn xs from)) × (hits' ≤ most) →
+      × (hits' ≡ hits + hits_over c (count_of c) (found_in xs from)) × (hits' ≤ most) →
       Carried c from n lo hi j xs b hits most ys b' hits'
   tried p = record {
-    grown = put e shelf l saved length-work length-book p.0;
+    grown = put e shelf l saved length_work length_book p.0;
     counted = p.1;
     few = p.2;
   }

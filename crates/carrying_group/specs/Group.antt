@@ -3,10 +3,10 @@
 --     Grouping            what carrying does, by its answer
 -- Assumes nothing.
 use Rattle.std.specs.Prelude.{ℕ, ◌+◌, ◌-◌, ◌≤◌, ◌<◌, ◌≡◌, ◌⊎◌, List}
-use Rattle.cut_set.specs.Store.{Good, Found, NothingAdded, foundIn}
+use Rattle.cut_set.specs.Store.{Good, Found, NothingAdded, found_in}
 use Rattle.cut_set.specs.declared.CutSet.{CutSet}
 use Rattle.refining.specs.Columns.{Columns, count_of}
-use Rattle.carrying_cuts.specs.Worker.{Images, hitsOver}
+use Rattle.carrying_cuts.specs.Worker.{Images, hits_over}
 use Rattle.shelf.specs.Shelf.{GrownShelf, Jammed, Shelved}
 use Rattle.carrying_group.specs.declared.Hits.{Hits}
 
@@ -20,7 +20,7 @@ pub record Clear (xs : List ℕ) (from : CutSet) (lo hi : ℕ) : Type 0 where
 pub record Carried (c : Columns) (from : CutSet) (n lo hi j : ℕ) (xs b : List ℕ) (hits most : ℕ) (ys b' : List ℕ) (hits' : ℕ)
     : Type 0 where
   pub grown : GrownShelf (λ i y. (i ≡ j) × Images c (count_of c) (Found xs from) y) n lo hi xs b ys b'
-  pub counted : hits' ≡ hits + hitsOver c (count_of c) (foundIn xs from)
+  pub counted : hits' ≡ hits + hits_over c (count_of c) (found_in xs from)
   pub few : hits' ≤ most
 
 abbrev pub Grouping :
@@ -28,7 +28,7 @@ abbrev pub Grouping :
 Grouping c from n lo hi j xs b hits most ys b' (Hits.Counted hits') =
     Carried c from n lo hi j xs b hits most ys b' hits'
 Grouping c from n lo hi j xs b hits most ys b' Hits.TooMany =
-    (most < hits + hitsOver c (count_of c) (foundIn xs from))
+    (most < hits + hits_over c (count_of c) (found_in xs from))
     ⊎ Jammed
     (λ p. Shelved xs b n p ⊎ ((p.track ≡ j) × Images c (count_of c) (Found xs from) p.position))
     (hi - lo)

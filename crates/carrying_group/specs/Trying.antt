@@ -2,10 +2,10 @@
 --     Trying              what one try does, by its answer
 -- Assumes nothing.
 use Rattle.std.specs.Prelude.{ℕ, ◌+◌, ◌<◌, List}
-use Rattle.cut_set.specs.Store.{Found, foundIn}
+use Rattle.cut_set.specs.Store.{Found, found_in}
 use Rattle.cut_set.specs.declared.CutSet.{CutSet}
 use Rattle.refining.specs.Columns.{Columns, count_of}
-use Rattle.carrying_cuts.specs.Worker.{Images, hitsOver}
+use Rattle.carrying_cuts.specs.Worker.{Images, hits_over}
 use Rattle.shelf.specs.Filling.{Crammed}
 use Rattle.carrying_group.specs.Group.{Carried}
 use Rattle.carrying_group.specs.declared.Tried.{Tried}
@@ -16,4 +16,4 @@ Trying c from n lo hi j xs b hits most ys b' (Tried.Counted hits') =
     Carried c from n lo hi j xs b hits most ys b' hits'
 Trying c from n lo hi j xs b hits most ys b' Tried.Crowded =
     Crammed (Images c (count_of c) (Found xs from)) n lo hi j xs b ys b'
-Trying c from n lo hi j xs b hits most ys b' Tried.TooMany = most < hits + hitsOver c (count_of c) (foundIn xs from)
+Trying c from n lo hi j xs b hits most ys b' Tried.TooMany = most < hits + hits_over c (count_of c) (found_in xs from)

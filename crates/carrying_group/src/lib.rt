@@ -1,7 +1,8 @@
 // Carrying the newly found cuts of one set over matches that join the same two tracks, into a set of a shelf. Where that
 // is full, sets slide, and it is carried once more: what is there already is a member again.
+#![tactic(auto)]
 ghost use Rattle.std.specs.Prelude.{◌≡◌, true, ◌≤◌, ◌<◌};
-ghost use Rattle.refining.specs.Columns.{columnsOf, Fit};
+ghost use Rattle.refining.specs.Columns.{columns_of, Fit};
 ghost use Rattle.carrying_cuts.specs.Worker.{EndsKnown};
 ghost use Rattle.turning.specs.Turning.{Usable};
 ghost use Rattle.shelf.specs.Shelf.{set_at, Shelf};
@@ -48,17 +49,17 @@ fn try_group(
     most: usize,
     ended: bool,
 ) -> Tried
-    requires fit { Fit (columnsOf lefts.now rights.now other_lefts.now other_rights.now reversed.now) }
+    requires fit { Fit (columns_of lefts.now rights.now other_lefts.now other_rights.now reversed.now) }
     requires usable { Usable index.now lefts.now rights.now }
     requires shelf { Shelf work.old book.old sets lo hi }
     requires clear { Clear work.old from lo hi }
     requires j_lt_sets { j < sets }
     requires hits_le_most { hits ≤ most }
     requires ends_known { ended ≡ true
-        → EndsKnown (columnsOf lefts.now rights.now other_lefts.now other_rights.now reversed.now) work.old
+        → EndsKnown (columns_of lefts.now rights.now other_lefts.now other_rights.now reversed.now) work.old
         (set_at book.old j) }
     ensures { Trying
-        (columnsOf lefts.now rights.now other_lefts.now
+        (columns_of lefts.now rights.now other_lefts.now
         other_rights.now reversed.now)
         from sets lo hi j work.old book.old hits most work.new book.new result }
 {
@@ -107,17 +108,17 @@ pub fn carry_group(
     most: usize,
     ended: bool,
 ) -> Hits
-    requires fit { Fit (columnsOf lefts.now rights.now other_lefts.now other_rights.now reversed.now) }
+    requires fit { Fit (columns_of lefts.now rights.now other_lefts.now other_rights.now reversed.now) }
     requires usable { Usable index.now lefts.now rights.now }
     requires shelf { Shelf work.old book.old sets lo hi }
     requires clear { Clear work.old from lo hi }
     requires j_lt_sets { j < sets }
     requires hits_le_most { hits ≤ most }
     requires ends_known { ended ≡ true
-        → EndsKnown (columnsOf lefts.now rights.now other_lefts.now other_rights.now reversed.now) work.old
+        → EndsKnown (columns_of lefts.now rights.now other_lefts.now other_rights.now reversed.now) work.old
         (set_at book.old j) }
     ensures { Grouping
-        (columnsOf lefts.now rights.now other_lefts.now
+        (columns_of lefts.now rights.now other_lefts.now
         other_rights.now reversed.now)
         from sets lo hi j work.old book.old hits most work.new book.new result }
 {

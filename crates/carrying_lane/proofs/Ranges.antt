@@ -12,15 +12,15 @@ use mathlib.Core.List.{List, []}
 use native.Mathlib.Omega.{arith}
 use lib.ListN.{length}
 use lib.Seq.{slice, slice_empty}
-use Rattle.cut_set.specs.Store.{foundIn, NothingFound}
+use Rattle.cut_set.specs.Store.{found_in, NothingFound}
 use Rattle.cut_set.specs.declared.CutSet.{CutSet}
-use Rattle.refining.specs.Columns.{Columns, count_of, to_at, toRightAt}
+use Rattle.refining.specs.Columns.{Columns, count_of, to_at, to_right_at}
 use Rattle.carrying_match.specs.OneMatch.{EndsIn}
-use Rattle.carrying_cuts.specs.Worker.{hitsOver, EndsKnown}
+use Rattle.carrying_cuts.specs.Worker.{hits_over, EndsKnown}
 use Rattle.shelf.specs.Shelf.{set_at, Shelf}
 use Rattle.shelf.proofs.Shelving.{shelf-none, shelf-as}
 use Rattle.carrying_group.specs.Group.{Clear, Carried}
-use Rattle.tracks.specs.Groups.{start_at, trackAt, laneBy, part_of}
+use Rattle.tracks.specs.Groups.{start_at, track_at, lane_by, part_of}
 use Rattle.tracks.proofs.Grouped.{start-count, group-track, part-ends}
 use Rattle.carrying_lane.specs.Parts.{place_in, EndsKept}
 use Rattle.carrying_lane.specs.Range.{GroupAt, Ready, Ranged}
@@ -60,26 +60,26 @@ module _ {c : Columns} {is gs fb : List ℕ} {n fa ta sets lo hi : ℕ} {xs b : 
       fit = ready.fit;
       order = rw read.start_is (rw read.end_is (ready.groups.rising g l));
       within = rw read.end_is within;
-      index-order = rw e (rw e' (rw read.start_is (rw read.end_is (ready.usable.order g l))));
-      index-within = rw e' (rw read.end_is (ready.usable.within g l));
+      index_order = rw e (rw e' (rw read.start_is (rw read.end_is (ready.usable.order g l))));
+      index_within = rw e' (rw read.end_is (ready.usable.within g l));
       usable = rw e (rw e' (rw read.start_is (rw read.end_is (ready.usable.usable g l))));
     }
 
     -- by where the group stands
     ends-part :
-        EndsKept (laneBy c gs n fa ta) xs b
-        → EndsKnown (part_of (start_at gs g) (start_at gs (suc g)) c) xs (set_at b (trackAt gs ta g))
+        EndsKept (lane_by c gs n fa ta) xs b
+        → EndsKnown (part_of (start_at gs g) (start_at gs (suc g)) c) xs (set_at b (track_at gs ta g))
     ends-part kept =
-        part-ends ready.fit (start_at gs g) (start_at gs (suc g)) within (EndsIn xs (set_at b (trackAt gs ta g)))
-        (λ k from to. subst (λ (z : ℕ). EndsIn xs (set_at b z) (to_at c k) (toRightAt c k))
+        part-ends ready.fit (start_at gs g) (start_at gs (suc g)) within (EndsIn xs (set_at b (track_at gs ta g)))
+        (λ k from to. subst (λ (z : ℕ). EndsIn xs (set_at b z) (to_at c k) (to_right_at c k))
         (group-track ready.groups ta g k l from to) (kept k (omega (arith, within, to))))
 
     pub read-ends :
-        EndsKept (laneBy c gs n fa ta) xs b → EndsKnown (part_of r.start r.end c) xs (set_at b r.to)
+        EndsKept (lane_by c gs n fa ta) xs b → EndsKnown (part_of r.start r.end c) xs (set_at b r.to)
     read-ends kept = rw read.start_is (rw read.end_is (rw read.to_is (ends-part kept)))
 
 -- no hit without a cut
-hits-empty : (c : Columns) (k : ℕ) → hitsOver c k [] ≡ 0
+hits-empty : (c : Columns) (k : ℕ) → hits_over c k [] ≡ 0
 hits-empty c zero = refl
 hits-empty c (suc k) = omega (arith, hits-empty c k)
 
@@ -91,9 +91,9 @@ none-taken c {from} j {xs} {hits = hits} none shelf few = record {
     λ p. absurd p,
     λ p. absurd (omega (arith, none, p.1.carried.from, p.1.carried.below)),
   ));
-  counted = omega (arith, ap (hitsOver c (count_of c)) nothing, hits-empty c (count_of c));
+  counted = omega (arith, ap (hits_over c (count_of c)) nothing, hits-empty c (count_of c));
   few = few;
 }
   where
-    nothing : foundIn xs from ≡ []
+    nothing : found_in xs from ≡ []
     nothing = subst (λ (z : ℕ). slice from.done z xs ≡ []) none (slice_empty from.done xs)

@@ -7,8 +7,8 @@
 --     Laning              what taking does, by its answer
 -- Assumes nothing.
 use Rattle.std.specs.Prelude.{ℕ, suc, ◌*◌, ◌≤◌, ◌<◌, ◌≡◌, cond, List, length, ltb}
-use Rattle.refining.specs.Columns.{count_of, to_at, toRightAt}
-use Rattle.arrangement.specs.Index.{indexRoom}
+use Rattle.refining.specs.Columns.{count_of, to_at, to_right_at}
+use Rattle.arrangement.specs.Index.{index_room}
 use Rattle.carrying_match.specs.OneMatch.{EndsIn}
 use Rattle.turning.specs.Turning.{Usable}
 use Rattle.shelf.specs.Shelf.{set_at}
@@ -27,7 +27,7 @@ pub record ClearBook (xs fb : List ℕ) (n lo hi : ℕ) : Type 0 where
 
 -- of an index of so many places: an index of k matches takes so many, and none is used where there is none
 abbrev pub place_in : ℕ → ℕ → ℕ
-place_in places k = cond (ltb 0 places) (indexRoom k) 0
+place_in places k = cond (ltb 0 places) (index_room k) 0
 
 -- each group of n has its own index, behind those of the groups before it
 pub record UsableParts (is gs : List ℕ) (n : ℕ) (f g : List ℕ) : Type 0 where
@@ -40,7 +40,7 @@ pub record UsableParts (is gs : List ℕ) (n : ℕ) (f g : List ℕ) : Type 0 wh
 
 abbrev pub EndsKept : Lane → List ℕ → List ℕ → Type 0
 EndsKept l xs b =
-    (k : ℕ) → k < count_of l.columns → EndsIn xs (set_at b (l.to k)) (to_at l.columns k) (toRightAt l.columns k)
+    (k : ℕ) → k < count_of l.columns → EndsIn xs (set_at b (l.to k)) (to_at l.columns k) (to_right_at l.columns k)
 
 abbrev pub Laning :
     Lane → List ℕ → ℕ → ℕ → ℕ → List ℕ → List ℕ → ℕ → ℕ → List ℕ → List ℕ → Hits → Type 0

@@ -7,7 +7,7 @@ use Rattle.std.specs.Prelude.{ℕ, suc, ◌≤◌, ◌≡◌, List, length}
 use Rattle.refining.specs.Columns.{Columns, count_of, Fit}
 use Rattle.turning.specs.Turning.{Usable}
 use Rattle.shelf.specs.Shelf.{Shelf}
-use Rattle.tracks.specs.Groups.{start_at, trackAt, Groups, part}
+use Rattle.tracks.specs.Groups.{start_at, track_at, Groups, part}
 use Rattle.carrying_lane.specs.Parts.{OneOfTwo, ClearBook, UsableParts}
 use Rattle.carrying_lane.specs.declared.Group.{Group}
 
@@ -15,15 +15,15 @@ use Rattle.carrying_lane.specs.declared.Group.{Group}
 pub record GroupAt (gs : List ℕ) (g from_at to_at : ℕ) (r : Group) : Type 0 where
   pub start_is : r.start ≡ start_at gs g
   pub end_is : r.end ≡ start_at gs (suc g)
-  pub from_is : r.from ≡ trackAt gs from_at g
-  pub to_is : r.to ≡ trackAt gs to_at g
+  pub from_is : r.from ≡ track_at gs from_at g
+  pub to_is : r.to ≡ track_at gs to_at g
 
 -- n groups of matches with their indices, in parts of `is` or none; the sets that are taken from, outside of the
 -- shelf's places; and the shelf
 pub record Ready (c : Columns) (is gs fb : List ℕ) (n from_at to_at sets lo hi : ℕ) (xs b : List ℕ) : Type 0 where
   pub fit : Fit c
   pub few : count_of c ≤ 4294967296
-  pub usable : UsableParts is gs n c.from-lefts c.from-rights
+  pub usable : UsableParts is gs n c.from_lefts c.from_rights
   pub groups : Groups gs n (count_of c) sets
   pub clear : ClearBook xs fb sets lo hi
   pub shelf : Shelf xs b sets lo hi
@@ -35,7 +35,7 @@ pub record Ranged (c : Columns) (xs : List ℕ) (g : Group) (low high : ℕ) : T
   pub fit : Fit c
   pub order : g.start ≤ g.end
   pub within : g.end ≤ count_of c
-  pub index-order : low ≤ high
-  pub index-within : high ≤ length xs
+  pub index_order : low ≤ high
+  pub index_within : high ≤ length xs
   pub usable :
-      Usable (part low high xs) (part g.start g.end c.from-lefts) (part g.start g.end c.from-rights)
+      Usable (part low high xs) (part g.start g.end c.from_lefts) (part g.start g.end c.from_rights)

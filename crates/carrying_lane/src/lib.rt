@@ -1,11 +1,12 @@
 // Taking the newly found cuts of all sets of one side to the sets of the other, group by group: over the matches, which
 // carry them, or along them, as they are.
+#![tactic(auto)]
 ghost use Rattle.std.specs.Prelude.{◌≡◌, true, suc, ◌+◌, ◌*◌, ◌≤◌, ◌<◌, length};
-ghost use Rattle.refining.specs.Columns.{columnsOf, Fit};
+ghost use Rattle.refining.specs.Columns.{columns_of, Fit};
 ghost use Rattle.carrying_cuts.specs.Worker.{EndsKnown};
 ghost use Rattle.shelf.specs.Shelf.{set_at, Shelf};
 ghost use Rattle.carrying_group.specs.Group.{Clear, Grouping};
-ghost use Rattle.tracks.specs.Groups.{start_at, trackAt, Groups, laneBy, part_of};
+ghost use Rattle.tracks.specs.Groups.{start_at, track_at, Groups, lane_by, part_of};
 ghost use Rattle.carrying_lane.specs.Parts.{OneOfTwo, ClearBook, place_in, UsableParts, EndsKept, Laning};
 ghost use Rattle.carrying_lane.specs.Range.{GroupAt, Ready, Ranged};
 
@@ -69,7 +70,7 @@ fn carry_range(
     most: usize,
     ended: bool,
 ) -> Hits
-    requires ranged { Ranged (columnsOf lefts.now rights.now other_lefts.now other_rights.now reversed.now) index.now
+    requires ranged { Ranged (columns_of lefts.now rights.now other_lefts.now other_rights.now reversed.now) index.now
         group low high }
     requires shelf { Shelf work.old book.old sets lo hi }
     requires clear { Clear work.old from lo hi }
@@ -78,11 +79,11 @@ fn carry_range(
     requires ends_known { ended ≡ true
         → EndsKnown
         (part_of group.start group.end
-        (columnsOf lefts.now rights.now other_lefts.now other_rights.now reversed.now))
+        (columns_of lefts.now rights.now other_lefts.now other_rights.now reversed.now))
         work.old (set_at book.old group.to) }
     ensures { Grouping
         (part_of group.start group.end
-        (columnsOf lefts.now rights.now other_lefts.now
+        (columns_of lefts.now rights.now other_lefts.now
         other_rights.now reversed.now))
         from sets lo hi group.to work.old book.old hits most work.new
         book.new result }
@@ -132,21 +133,21 @@ fn carry_part(
     most: usize,
     ended: bool,
 ) -> Hits
-    requires ready { Ready (columnsOf lefts.now rights.now other_lefts.now other_rights.now reversed.now) index.now
+    requires ready { Ready (columns_of lefts.now rights.now other_lefts.now other_rights.now reversed.now) index.now
         groups.now from_book.now count from_at to_at sets lo hi work.old book.old }
     requires g_lt_count { g < count }
     requires hits_le_most { hits ≤ most }
     requires ends_kept { ended ≡ true
         → EndsKept
-        (laneBy (columnsOf lefts.now rights.now other_lefts.now other_rights.now reversed.now) groups.now
+        (lane_by (columns_of lefts.now rights.now other_lefts.now other_rights.now reversed.now) groups.now
         count from_at to_at)
         work.old book.old }
     ensures { Grouping
         (part_of (start_at groups.now g) (start_at groups.now (suc g))
-        (columnsOf lefts.now rights.now other_lefts.now
+        (columns_of lefts.now rights.now other_lefts.now
         other_rights.now reversed.now))
-        (set_at from_book.now (trackAt groups.now from_at g)) sets lo hi
-        (trackAt groups.now to_at g) work.old book.old hits most
+        (set_at from_book.now (track_at groups.now from_at g)) sets lo hi
+        (track_at groups.now to_at g) work.old book.old hits most
         work.new book.new result }
 {
     let group = group_at(groups, g, from_at, to_at);
@@ -201,7 +202,7 @@ pub fn carry_lane(
     most: usize,
     ended: bool,
 ) -> Hits
-    requires fit { Fit (columnsOf lefts.now rights.now other_lefts.now other_rights.now reversed.now) }
+    requires fit { Fit (columns_of lefts.now rights.now other_lefts.now other_rights.now reversed.now) }
     requires reversed_len_bound { length reversed.now ≤ 4294967296 }
     requires usable_parts { UsableParts index.now groups.now count lefts.now rights.now }
     requires groups { Groups groups.now count (length reversed.now) sets }
@@ -212,12 +213,12 @@ pub fn carry_lane(
     requires hits_le_most { hits ≤ most }
     requires ends_kept { ended ≡ true
         → EndsKept
-        (laneBy (columnsOf lefts.now rights.now other_lefts.now other_rights.now reversed.now) groups.now
+        (lane_by (columns_of lefts.now rights.now other_lefts.now other_rights.now reversed.now) groups.now
         count from_at to_at)
         work.old book.old }
     ensures { Laning
-        (laneBy
-        (columnsOf lefts.now rights.now other_lefts.now
+        (lane_by
+        (columns_of lefts.now rights.now other_lefts.now
         other_rights.now reversed.now)
         groups.now count from_at to_at)
         from_book.now sets lo hi work.old book.old hits most work.new

@@ -20,7 +20,7 @@ use Rattle.refinement.specs.Order.{◌∈◌, Rising}
 use Rattle.refinement.specs.Match.{between}
 use Rattle.runs.specs.Runs.{In, Same}
 use Rattle.runs.proofs.Membership.{in-wide}
-use Rattle.carrying_match.specs.OneMatch.{hitsOn}
+use Rattle.carrying_match.specs.OneMatch.{hits_on}
 
 module _ (xs : List ℕ) {hi : ℕ} (w : hi ≤ length xs) where
   none : (lo : ℕ) → lo + 0 ≡ hi → slice lo hi xs ≡ []
@@ -58,11 +58,11 @@ module _ (xs : List ℕ) {hi : ℕ} (w : hi ≤ length xs) where
 
   past-from :
       (i g n lo : ℕ) → lo + n ≤ hi → ((k : ℕ) → lo ≤ k → k < lo + n → between i g (get_or xs k 0) ≡ false)
-      → hitsOn i g (slice lo hi xs) ≡ hitsOn i g (slice (lo + n) hi xs)
+      → hits_on i g (slice lo hi xs) ≡ hits_on i g (slice (lo + n) hi xs)
   past-from i g zero lo h f = let e : lo + 0 ≡ lo = omega arith in rw e
   past-from i g (suc n) lo h f =
       let e : lo + suc n ≡ suc lo + n = omega arith in
-      let b : hitsOn i g (slice (suc lo) hi xs) ≡ hitsOn i g (slice (suc lo + n) hi xs) =
+      let b : hits_on i g (slice (suc lo) hi xs) ≡ hits_on i g (slice (suc lo + n) hi xs) =
       past-from i g n (suc lo) (omega arith) (λ k l u. f k (omega arith) (omega arith))
       in
       rw (e, slice-cons lo hi xs 0 (omega arith) w, f lo (omega arith) (omega arith)) (omega arith)
@@ -81,14 +81,14 @@ module _ (xs : List ℕ) {hi : ℕ} (w : hi ≤ length xs) where
 
     pub hits-past :
         (i g mid : ℕ) → lo ≤ mid → mid ≤ hi → ((k : ℕ) → lo ≤ k → k < mid → between i g (get_or xs k 0) ≡ false)
-        → hitsOn i g (slice lo hi xs) ≡ hitsOn i g (slice mid hi xs)
+        → hits_on i g (slice lo hi xs) ≡ hits_on i g (slice mid hi xs)
     hits-past i g mid l u f =
         let e : lo + (mid - lo) ≡ mid = omega arith in
         rw e at (past-from i g (mid - lo) lo (omega arith) (λ k a b. f k a (omega arith)))
 
     pub hits-none :
-        (i g : ℕ) → ((k : ℕ) → lo ≤ k → k < hi → between i g (get_or xs k 0) ≡ false) → hitsOn i g (slice lo hi xs) ≡ 0
-    hits-none i g f = hits-past i g hi o (omega arith) f ∙ ap (hitsOn i g) (slice_empty hi xs)
+        (i g : ℕ) → ((k : ℕ) → lo ≤ k → k < hi → between i g (get_or xs k 0) ≡ false) → hits_on i g (slice lo hi xs) ≡ 0
+    hits-none i g f = hits-past i g hi o (omega arith) f ∙ ap (hits_on i g) (slice_empty hi xs)
 
 same_from :
     (xs ys : List ℕ) (n lo hi : ℕ) → hi ≤ length xs → hi ≤ length ys → lo + n ≡ hi → Same xs ys lo hi

@@ -31,7 +31,7 @@ pub ready-then :
     {P : ℕ → Type 0} {xs ys : List ℕ} {from to t : CutSet} → Ready xs from to → Stored P xs to ys t
     → length ys ≡ length xs → Ready ys from t
 ready-then {xs = xs} {ys = ys} r p n = record {
-  from-good = good-apart xs ys r.apart p.outside n r.from-good;
-  to-good = p.good;
-  apart = apart-same p.base_same p.limit-same r.apart;
+  from_good = good-apart xs ys r.apart p.outside n r.from_good;
+  to_good = p.good;
+  apart = apart-same p.base_same p.limit_same r.apart;
 }

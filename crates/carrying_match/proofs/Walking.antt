@@ -15,31 +15,31 @@ use mathlib.Core.Logic.{◌↔◌, ◌⊎◌, inl, inr, ⊎_elim}
 use lib.ListN.{length, get_or}
 use lib.Seq.{slice, slice-cons}
 use borrow.Author.Tests.{leb-false, lt-leb}
-use Rattle.refinement.specs.Match.{between, carryTo}
+use Rattle.refinement.specs.Match.{between, carry_to}
 use Rattle.refinement.proofs.Geometry.{between-bounds, between-below, between-from}
 use Rattle.runs.specs.Runs.{In, Bound}
-use Rattle.cut_set.specs.Store.{Member, Found, FoundRun, foundIn, foundEnd, Stored, Cramped}
+use Rattle.cut_set.specs.Store.{Member, Found, FoundRun, found_in, found_end, Stored, Cramped}
 use Rattle.cut_set.specs.declared.CutSet.{CutSet}
 use Rattle.runs.proofs.Membership.{lt-or-le, in-wide, in_parts}
 use Rattle.cut_set.proofs.Laws.{done-used, stored-none, stored_same, stored-then, cramped-wide, cramped-then}
-use Rattle.carrying_match.specs.OneMatch.{EndsIn, ImageBy, hitsOn, Ready}
+use Rattle.carrying_match.specs.OneMatch.{EndsIn, ImageBy, hits_on, Ready}
 use Rattle.carrying_match.proofs.RunLists.{hits-past, hits-none}
 use Rattle.cut_set.proofs.Gathering.{base_done, used-limit, used-within}
 use Rattle.carrying_match.proofs.Storing.{same-apart}
 
 pub record Walked (i g k l : ℕ) (b : Bool) (xs : List ℕ) (from to : CutSet) (hits most lo end : ℕ) (ys : List ℕ)
     (t : CutSet) (count at : ℕ) : Type 0 where
-  pub ends : end ≡ foundEnd from
+  pub ends : end ≡ found_end from
   pub start : lo ≤ at
   pub until : at ≤ from.used
   pub lengths : length ys ≡ length xs
   pub stored : Stored (ImageBy i g k l b (In xs lo at)) xs to ys t
-  pub counted : hits + hitsOn i g (slice lo from.used xs) ≡ count + hitsOn i g (slice at from.used xs)
+  pub counted : hits + hits_on i g (slice lo from.used xs) ≡ count + hits_on i g (slice at from.used xs)
   pub few : count ≤ most
 
 -- the ends of a match are carried to ends
 end-image : (b : Bool) (i g k l h : ℕ) → k + (g - i) ≡ l → (h ≡ i) ⊎ (h ≡ g)
-    → (carryTo b i k l h ≡ k) ⊎ (carryTo b i k l h ≡ l)
+    → (carry_to b i k l h ≡ k) ⊎ (carry_to b i k l h ≡ l)
 end-image false i g k l h f (inl e) = inl (omega arith)
 end-image false i g k l h f (inr e) = inr (omega arith)
 end-image true i g k l h f (inl e) = inr (omega arith)
@@ -53,14 +53,14 @@ module _ {i g k l : ℕ} {b : Bool} {xs : List ℕ} where
 
 pub walk_start :
     {i g k l : ℕ} {b : Bool} {xs : List ℕ} {from to : CutSet} {lo end hits most : ℕ} → Ready xs from to
-    → end ≡ foundEnd from → Bound xs from.done from.used i lo → hits ≤ most
+    → end ≡ found_end from → Bound xs from.done from.used i lo → hits ≤ most
     → Walked i g k l b xs from to hits most lo end xs to hits lo
 walk_start r f e h = record {
   ends = f;
   start = omega arith;
   until = e.to;
   lengths = refl;
-  stored = stored-none r.to-good (λ y m. absurd (omega (arith, m.carried.from, m.carried.below)));
+  stored = stored-none r.to_good (λ y m. absurd (omega (arith, m.carried.from, m.carried.below)));
   counted = refl;
   few = h;
 }
@@ -69,28 +69,28 @@ module _ {i g k l : ℕ} {b : Bool} {xs : List ℕ} {from to : CutSet} {hits mos
     {t : CutSet} {count at : ℕ} (r : Ready xs from to) (up : FoundRun xs from)
     (e : Bound xs from.done from.used i lo) (w : Walked i g k l b xs from to hits most lo end ys t count at) where
   within : from.used ≤ length xs
-  within = used-within r.from-good
+  within = used-within r.from_good
 
   place_same : at < from.used → get_or ys at 0 ≡ get_or xs at 0
   place_same h = same-apart xs ys r.apart w.stored.outside at
-      (omega (arith, base_done r.from-good, e.from, w.start)) (omega (arith, used-limit r.from-good))
+      (omega (arith, base_done r.from_good, e.from, w.start)) (omega (arith, used-limit r.from_good))
 
-  skipped : hitsOn i g (foundIn xs from) ≡ hitsOn i g (slice lo from.used xs)
-  skipped = hits-past xs within (done-used r.from-good) i g lo e.from e.to
+  skipped : hits_on i g (found_in xs from) ≡ hits_on i g (slice lo from.used xs)
+  skipped = hits-past xs within (done-used r.from_good) i g lo e.from e.to
       (λ j l u. sym (between-below i g (get_or xs j 0) (e.less j l u)))
 
   -- the cuts from `at` on are not spanned
   stopped :
       ((j : ℕ) → at ≤ j → j < from.used → between i g (get_or xs j 0) ≡ false)
       → Stored (ImageBy i g k l b (Found xs from)) xs to ys t
-      × (count ≡ hits + hitsOn i g (foundIn xs from)) × (count ≤ most)
+      × (count ≡ hits + hits_on i g (found_in xs from)) × (count ≤ most)
   stopped f = (
     stored_same (λ y. (image-wide e.from w.until, narrow)) w.stored,
     omega (arith, w.counted, skipped, rest),
     w.few,
   )
     where
-      rest : hitsOn i g (slice at from.used xs) ≡ 0
+      rest : hits_on i g (slice at from.used xs) ≡ 0
       rest = hits-none xs within w.until i g f
 
       narrow : {y : ℕ} → ImageBy i g k l b (Found xs from) y → ImageBy i g k l b (In xs lo at) y
@@ -107,13 +107,13 @@ module _ {i g k l : ℕ} {b : Bool} {xs : List ℕ} {from to : CutSet} {hits mos
   pub walk-over :
       end ≤ at
       → Stored (ImageBy i g k l b (Found xs from)) xs to ys t
-      × (count ≡ hits + hitsOn i g (foundIn xs from)) × (count ≤ most)
+      × (count ≡ hits + hits_on i g (found_in xs from)) × (count ≤ most)
   walk-over past = stopped (λ j l u. absurd (omega (arith, w.ends)))
 
   pub walk-break :
       {cut : ℕ} → at < end → cut ≡ get_or ys at 0 → between i g cut ≡ false
       → Stored (ImageBy i g k l b (Found xs from)) xs to ys t
-      × (count ≡ hits + hitsOn i g (foundIn xs from)) × (count ≤ most)
+      × (count ≡ hits + hits_on i g (found_in xs from)) × (count ≤ most)
   walk-break more here s = stopped later
     where
       h : at < from.used
@@ -157,7 +157,7 @@ module _ {i g k l : ℕ} {b : Bool} {xs : List ℕ} {from to : CutSet} {hits mos
   cut-same = a.here ∙ place_same a.ready a.up a.bound w h
 
   next :
-      (y : ℕ) → (ImageBy i g k l b (In xs lo at) y ⊎ (y ≡ carryTo b i k l cut))
+      (y : ℕ) → (ImageBy i g k l b (In xs lo at) y ⊎ (y ≡ carry_to b i k l cut))
       ↔ ImageBy i g k l b (In xs lo (at + 1)) y
   next y = (
     λ q. ⊎_elim (image-wide (omega arith) (omega arith))
@@ -172,17 +172,17 @@ module _ {i g k l : ℕ} {b : Bool} {xs : List ℕ} {from to : CutSet} {hits mos
         (λ u. inl (record { x = q.x; carried = u; spans = q.spans; is = q.is }))
         (λ u. let f : u.place ≡ at = omega (arith, u.from, u.below) in
         let is_cut : q.x ≡ cut = sym u.is ∙ ap (λ (j : ℕ). get_or xs j 0) f ∙ sym cut-same in
-        inr (q.is ∙ ap (carryTo b i k l) is_cut))
+        inr (q.is ∙ ap (carry_to b i k l) is_cut))
         (in_parts at q.carried),
   )
 
-  hit : hitsOn i g (slice at from.used xs) ≡ 1 + hitsOn i g (slice (at + 1) from.used xs)
+  hit : hits_on i g (slice at from.used xs) ≡ 1 + hits_on i g (slice (at + 1) from.used xs)
   hit = let f : at + 1 ≡ suc at = omega arith in
       let spans : between i g (get_or xs at 0) ≡ true = rw cut-same at a.spans in
-      rw (f, slice-cons at from.used xs 0 h (used-within a.ready.from-good), spans)
+      rw (f, slice-cons at from.used xs 0 h (used-within a.ready.from_good), spans)
 
   pub walk_step :
-      {zs : List ℕ} {u : CutSet} {image : ℕ} → image ≡ carryTo b i k l cut → count < most
+      {zs : List ℕ} {u : CutSet} {image : ℕ} → image ≡ carry_to b i k l cut → count < most
       → length zs ≡ length ys → Stored (λ y. y ≡ image) ys t zs u
       → Walked i g k l b xs from to hits most lo end zs u (count + 1) (at + 1)
   walk_step f fewer n p = record {
@@ -199,7 +199,7 @@ module _ {i g k l : ℕ} {b : Bool} {xs : List ℕ} {from to : CutSet} {hits mos
   -- an end of the match is carried to an end, which is a member already
   pub walk-known :
       k + (g - i) ≡ l → EndsIn xs to k l → (cut ≡ i) ⊎ (cut ≡ g)
-      → Stored (λ y. y ≡ carryTo b i k l cut) ys t ys t
+      → Stored (λ y. y ≡ carry_to b i k l cut) ys t ys t
   walk-known f ends c = stored-none w.stored.good
       (λ y e. ⊎_elim
       (λ q. subst (Member ys t) (sym (e ∙ q)) (w.stored.stays k ends.0))
@@ -207,11 +207,11 @@ module _ {i g k l : ℕ} {b : Bool} {xs : List ℕ} {from to : CutSet} {hits mos
       (end-image b i g k l cut f c))
 
   pub walk-full :
-      {zs : List ℕ} {u : CutSet} {image : ℕ} → image ≡ carryTo b i k l cut → Cramped (λ y. y ≡ image) ys t zs u
+      {zs : List ℕ} {u : CutSet} {image : ℕ} → image ≡ carry_to b i k l cut → Cramped (λ y. y ≡ image) ys t zs u
       → Cramped (ImageBy i g k l b (Found xs from)) xs to zs u
   walk-full f c = cramped-wide
       (λ y q. image-wide a.bound.from (omega (arith, h)) ((next y).0 q))
       (cramped-then w.stored (cramped-wide (λ y e. e ∙ f) c))
 
-  pub walk-excess : most ≤ count → most < hits + hitsOn i g (foundIn xs from)
+  pub walk-excess : most ≤ count → most < hits + hits_on i g (found_in xs from)
   walk-excess q = omega (arith, w.counted, hit, skipped a.ready a.up a.bound w)

@@ -1,12 +1,12 @@
 -- What carrying the newly found cuts of one side over one match to the other side does.
 --     ImageBy      y is what the match carries a newly found cut to
---     hitsOn       how many cuts of a list the match spans
+--     hits_on       how many cuts of a list the match spans
 --     Ready        what carrying needs of the two sets
 --     EndsIn       the ends of a match on one side are members
 --     Carrying     what carrying does, by its answer
 -- Assumes nothing.
 use Rattle.std.specs.Prelude.{ℕ, ◌+◌, ◌≤◌, ◌<◌, ◌≡◌, Bool, true, cond, List, [], ◌∷◌}
-use Rattle.refinement.specs.Match.{between, carryTo}
+use Rattle.refinement.specs.Match.{between, carry_to}
 use Rattle.cut_set.specs.Store.{Good, Member, Stored, Cramped}
 use Rattle.cut_set.specs.declared.CutSet.{CutSet}
 use Rattle.carrying_match.specs.declared.Worked.{Worked}
@@ -16,11 +16,11 @@ pub record ImageBy (i g k l : ℕ) (b : Bool) (P : ℕ → Type 0) (y : ℕ) : T
   pub x : ℕ
   pub carried : P x
   pub spans : between i g x ≡ true
-  pub is : y ≡ carryTo b i k l x
+  pub is : y ≡ carry_to b i k l x
 
-abbrev pub hitsOn : ℕ → ℕ → List ℕ → ℕ
-hitsOn i g [] = 0
-hitsOn i g (x ∷ xs) = cond (between i g x) 1 0 + hitsOn i g xs
+abbrev pub hits_on : ℕ → ℕ → List ℕ → ℕ
+hits_on i g [] = 0
+hits_on i g (x ∷ xs) = cond (between i g x) 1 0 + hits_on i g xs
 
 -- two sets in parts of one buffer that share no place
 pub data Apart (s t : CutSet) : Type 0 where
@@ -29,8 +29,8 @@ pub data Apart (s t : CutSet) : Type 0 where
 
 -- what the worker is given: a set `from`, and a set `to` elsewhere in the buffer
 pub record Ready (xs : List ℕ) (from to : CutSet) : Type 0 where
-  pub from-good : Good xs from
-  pub to-good : Good xs to
+  pub from_good : Good xs from
+  pub to_good : Good xs to
   pub apart : Apart from to
 
 -- k and l, the ends of a match, are members

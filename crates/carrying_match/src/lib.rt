@@ -1,7 +1,8 @@
 // Carrying the newly found cuts of one side over one match to the other.
+#![tactic(auto)]
 ghost use Rattle.std.specs.Prelude.{◌≡◌, true, ◌⊎◌, ◌+◌, ◌-◌, ◌≤◌};
-ghost use Rattle.cut_set.specs.Store.{Found, FoundRun, foundIn};
-ghost use Rattle.carrying_match.specs.OneMatch.{Ready, EndsIn, ImageBy, hitsOn, Carrying};
+ghost use Rattle.cut_set.specs.Store.{Found, FoundRun, found_in};
+ghost use Rattle.carrying_match.specs.OneMatch.{Ready, EndsIn, ImageBy, hits_on, Carrying};
 
 use cut_set::{Added, CutSet};
 
@@ -52,7 +53,7 @@ pub fn carry_match(
     requires hits_le_most { hits ≤ most }
     requires ends_in { ended ≡ true → EndsIn work.old to other_left other_right }
     ensures { Carrying (ImageBy left right other_left other_right reversed (Found work.old from))
-        (hitsOn left right (foundIn work.old from)) work.old to hits most
+        (hits_on left right (found_in work.old from)) work.old to hits most
         work.new result }
 {
     let end = reading_cuts::found_end(from);

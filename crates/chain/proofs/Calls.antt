@@ -18,23 +18,23 @@ use borrow.Author.Tests.{leb-true, le-leb, eq-eqb, ne_eqb}
 use lib.Dec.{leb}
 use lib.ListN.{length, take, drop, replicate, length-take, length-replicate, take-append-drop}
 use Rattle.script.specs.Refusals.{number_of}
-use Rattle.script.specs.Reading.{Reading, admitted, refused, readScript, verdictOf}
+use Rattle.script.specs.Reading.{Reading, admitted, refused, read_script, verdict_of}
 use Rattle.script.specs.declared.Verdict.{Verdict}
 use Rattle.script.specs.declared.refusal.Refusal.{Refusal}
 use Rattle.script.specs.declared.refusal.Refusal.TheVariants.{WorkTooShort, TooManyPieces, PriceTooHigh, ChainTooShort}
 use Rattle.script.proofs.Outcome.{read-outcome}
 use Rattle.script.proofs.Admitted.{holds-admitted, reading-refused}
-use Rattle.rows.specs.Rows.{rowWidth, rows_of}
+use Rattle.rows.specs.Rows.{row_width, rows_of}
 use Rattle.rows.proofs.TableRows.{rows-length}
-use Rattle.refining.specs.Refining.{Given, givenBy, leastOf, capacityOf, workNeeded, zeroed, Refining, refiningOf}
+use Rattle.refining.specs.Refining.{Given, given_by, least_of, capacity_of, work_needed, zeroed, Refining, refining_of}
 use Rattle.refining.specs.Demands.{Admitted}
 use Rattle.refining.specs.declared.answers.Refined.{Refined}
 use Rattle.refining.proofs.Numbered.{admitted_of, admitted-matches}
 use Rattle.refining.proofs.RefiningCases.{written, exceeds-many, MatchesCase, short, crowded, writing, matches-case}
 use Rattle.refining.proofs.RefiningCases.{refining-refused, refining-admitted}
 use Rattle.refining.proofs.Demands.{script-twelve}
-use Rattle.backbone.specs.Backbone.{backboneOf, points_of}
-use Rattle.backbone.specs.Chaining.{mostPrice, mostRows, leastRows}
+use Rattle.backbone.specs.Backbone.{backbone_of, points_of}
+use Rattle.backbone.specs.Chaining.{most_price, most_rows, least_rows}
 use Rattle.backbone.specs.Demands.{Lent}
 use Rattle.backbone.specs.declared.Chained.TheVariants.{Best, Refused}
 use Rattle.backbone.proofs.Backbones.{backbone-unique}
@@ -45,7 +45,7 @@ use Rattle.backbone.proofs.Cases.{chaining-refused, chaining-admitted}
 use Rattle.best_chains.proofs.Apart.{least-apart}
 use Rattle.finding_chain.specs.Finding.{Findable, FoundChain}
 use Rattle.finding_chain.specs.declared.Found.{Found}
-use Rattle.chain.specs.Calls.{admitting, Refuses, scoresAfter, Chains}
+use Rattle.chain.specs.Calls.{admitting, Refuses, scores_after, Chains}
 
 -- ---- the test
 
@@ -63,30 +63,30 @@ module _ (price : ℕ) (table chain scores : List ℕ) {capacity : ℕ} {told : 
   pub admitting-lent : told ≡ true → Lent price table chain scores
   admitting-lent passed =
       let tests =
-      passed-all (leb price mostPrice) (leb capacity (length chain)) (leb capacity (length scores))
-      (leb capacity mostRows) (sym asked ∙ passed) in
+      passed-all (leb price most_price) (leb capacity (length chain)) (leb capacity (length scores))
+      (leb capacity most_rows) (sym asked ∙ passed) in
       let rows = rows-length table in
       record {
-        price-fits = leb-true price mostPrice tests.0;
+        price_fits = leb-true price most_price tests.0;
         chain_fits = omega (arith, leb-true capacity (length chain) tests.1);
-        scores-fit = omega (arith, leb-true capacity (length scores) tests.2);
-        numbers_fit = omega (arith, leb-true capacity mostRows tests.3);
+        scores_fit = omega (arith, leb-true capacity (length scores) tests.2);
+        numbers_fit = omega (arith, leb-true capacity most_rows tests.3);
       }
 
   pub admitting-unlent : told ≡ false → ¬ Lent price table chain scores
   admitting-unlent failed lent =
       let rows = rows-length table in
-      let cheap = le-leb price mostPrice lent.price-fits in
+      let cheap = le-leb price most_price lent.price_fits in
       let chain_fits = le-leb capacity (length chain) (omega (arith, lent.chain_fits)) in
-      let scores-fit = le-leb capacity (length scores) (omega (arith, lent.scores-fit)) in
-      let numbers_fit = le-leb capacity mostRows (omega (arith, lent.numbers_fit)) in
-      false≢true (sym failed ∙ asked ∙ rw (cheap, chain_fits, scores-fit, numbers_fit))
+      let scores_fit = le-leb capacity (length scores) (omega (arith, lent.scores_fit)) in
+      let numbers_fit = le-leb capacity most_rows (omega (arith, lent.numbers_fit)) in
+      false≢true (sym failed ∙ asked ∙ rw (cheap, chain_fits, scores_fit, numbers_fit))
 
 -- ---- a call that it does not pass
 
 pub refuse-script :
     (script : List ℕ) (price : ℕ) (table work : List ℕ) {told : Verdict} {r : Refusal}
-    → told ≡ verdictOf (readScript script) → told ≡ Verdict.Refused r → Refuses script price table work r
+    → told ≡ verdict_of (read_script script) → told ≡ Verdict.Refused r → Refuses script price table work r
 refuse-script script price table work reads v =
     record {
       refuses = λ chain scores _.
@@ -94,13 +94,13 @@ refuse-script script price table work reads v =
     }
 
 pub read-admitted :
-    (script : List ℕ) {told : Verdict} {p q count marks : ℕ} → told ≡ verdictOf (readScript script)
+    (script : List ℕ) {told : Verdict} {p q count marks : ℕ} → told ≡ verdict_of (read_script script)
     → told ≡ Verdict.Admitted p q count marks → (g : Given) × Admitted script g
 read-admitted script reads v =
-    let held = holds-admitted script reads v in (givenBy held.matches held.points, admitted_of held.read)
+    let held = holds-admitted script reads v in (given_by held.matches held.points, admitted_of held.read)
 
 module _ (script : List ℕ) (price : ℕ) (table work : List ℕ) (a : (g : Given) × Admitted script g) where
-  pub refuse-work : length work < workNeeded table → Refuses script price table work WorkTooShort
+  pub refuse-work : length work < work_needed table → Refuses script price table work WorkTooShort
   refuse-work little =
       record {
         refuses = λ chain scores _.
@@ -108,7 +108,7 @@ module _ (script : List ℕ) (price : ℕ) (table work : List ℕ) (a : (g : Giv
             ∙ call-short a.0 price table work chain scores little;
       }
 
-  pub refuse-price : workNeeded table ≤ length work → mostPrice < price → Refuses script price table work PriceTooHigh
+  pub refuse-price : work_needed table ≤ length work → most_price < price → Refuses script price table work PriceTooHigh
   refuse-price enough dear =
       record {
         refuses = λ chain scores _.
@@ -116,7 +116,7 @@ module _ (script : List ℕ) (price : ℕ) (table work : List ℕ) (a : (g : Giv
             ∙ call-dear a.0 price table work chain scores enough dear;
       }
 
-  pub refuse-chain : workNeeded table ≤ length work → price ≤ mostPrice → Refuses script price table work ChainTooShort
+  pub refuse-chain : work_needed table ≤ length work → price ≤ most_price → Refuses script price table work ChainTooShort
   refuse-chain enough cheap =
       record {
         refuses = λ chain scores unlent.
@@ -131,7 +131,7 @@ module _ (script : List ℕ) (price : ℕ) (table work : List ℕ) (a : (g : Giv
 
 -- the reply of refining and what it leaves, with the case that they are of
 data Made (script table work : List ℕ) : Refined → List ℕ → List ℕ → Type 0 where
-  unread : {r : Refusal} → readScript script ≡ refused r → Made script table work (Refined.Refused r) table work
+  unread : {r : Refusal} → read_script script ≡ refused r → Made script table work (Refined.Refused r) table work
   matched :
       {g : Given} {reply : Refined} {table' work' : List ℕ} → Admitted script g
       → MatchesCase g table work reply table' work' → Made script table work reply table' work'
@@ -140,10 +140,10 @@ data Made (script table work : List ℕ) : Refined → List ℕ → List ℕ →
 abbrev MadeBy : List ℕ → List ℕ → List ℕ → Refining → Type 0
 MadeBy script table work x = Made script table work x.reply x.table x.work
 
-made : (script table work : List ℕ) → MadeBy script table work (refiningOf script table work)
-made script table work = by-reading (readScript script) refl
+made : (script table work : List ℕ) → MadeBy script table work (refining_of script table work)
+made script table work = by-reading (read_script script) refl
   where
-    by-reading : (x : Reading) → readScript script ≡ x → MadeBy script table work (refiningOf script table work)
+    by-reading : (x : Reading) → read_script script ≡ x → MadeBy script table work (refining_of script table work)
     by-reading (refused r) e = rw (refining-refused script table work e) (unread e)
     by-reading (admitted ls ms ks) e =
         let a = admitted_of e in
@@ -157,10 +157,10 @@ zeroed-twice work = ap (λ (k : ℕ). replicate k 0) (length-replicate (length w
 pub record Tabled (script table work : List ℕ) (n : ℕ) (table' work' : List ℕ) : Type 0 where
   pub given : Given
   pub admits : Admitted script given
-  pub enough : workNeeded table ≤ length work
-  pub room : length (leastOf given) ≤ capacityOf table
-  pub count : n ≡ length (leastOf given)
-  pub rows : table' ≡ written (leastOf given) table
+  pub enough : work_needed table ≤ length work
+  pub room : length (least_of given) ≤ capacity_of table
+  pub count : n ≡ length (least_of given)
+  pub rows : table' ≡ written (least_of given) table
   pub clear : work' ≡ zeroed work
 
 made-tabled : {script table work : List ℕ} {reply : Refined} {n : ℕ} {table' work' : List ℕ}
@@ -169,14 +169,14 @@ made-tabled (unread e) is = let z : ◌≡◌ {A = ℕ} 0 1 = cc in absurd (omeg
 made-tabled (matched a (short h)) is = let z : ◌≡◌ {A = ℕ} 0 1 = cc in absurd (omega arith)
 made-tabled (matched a (crowded enough exceeds)) is = let z : ◌≡◌ {A = ℕ} 0 1 = cc in absurd (omega arith)
 made-tabled {n = n} (matched {g} a (writing enough room)) is =
-    let count : n ≡ length (leastOf g) = cc in
+    let count : n ≡ length (least_of g) = cc in
     record { given = g; admits = a; enough = enough; room = room; count = count; rows = refl; clear = refl }
 
 module _ (script : List ℕ) (price : ℕ) (table work chain scores : List ℕ) (lent : Lent price table chain scores) where
   made-refused :
       {reply : Refined} {table' work' : List ℕ} {r : Refusal} → Made script table work reply table' work'
       → reply ≡ Refined.Refused r
-      → Chains script price table work chain scores (Refused r) table' work' chain (scoresAfter r scores)
+      → Chains script price table work chain scores (Refused r) table' work' chain (scores_after r scores)
   made-refused {r = r} (unread {r = f} e) is =
       let same : r ≡ f = cc in
       let other = ne_eqb (number_of f) 12 (script-twelve (read-outcome e)) in
@@ -195,30 +195,30 @@ module _ (script : List ℕ) (price : ℕ) (table work chain scores : List ℕ) 
 
   module _ {n : ℕ} {table' work' : List ℕ} (t : Tabled script table work n table' work') where
     -- the rows in the table's start are those of the least table
-    tabled-rows : rows_of (take (rowWidth * n) table') ≡ leastRows t.given
+    tabled-rows : rows_of (take (row_width * n) table') ≡ least_rows t.given
     tabled-rows = rw (t.count, t.rows) (least-read t.given table)
 
-    pub tabled-findable : Findable (rows_of (take (rowWidth * n) table')) price work' chain scores
+    pub tabled-findable : Findable (rows_of (take (row_width * n) table')) price work' chain scores
     tabled-findable =
         let many = least-length t.given in
         let long : length (zeroed work) ≡ length work = length-replicate (length work) 0 in
         rw (tabled-rows, t.clear)
         (record {
           apart = least-apart t.admits;
-          priced = lent.price-fits;
+          priced = lent.price_fits;
           counted = omega (arith, t.room, lent.numbers_fit);
-          work-room = omega (arith, t.room, t.enough);
-          work-clear = sym (zeroed-twice work);
-          chain-room = omega (arith, t.room, lent.chain_fits);
-          score-room = omega (arith, t.room, lent.scores-fit);
+          work_room = omega (arith, t.room, t.enough);
+          work_clear = sym (zeroed-twice work);
+          chain_room = omega (arith, t.room, lent.chain_fits);
+          score_room = omega (arith, t.room, lent.scores_fit);
         })
 
     module _ {found : Found} {work'' chain' scores' : List ℕ} (kept : length chain' ≡ length chain)
-        (f : FoundChain (rows_of (take (rowWidth * n) table')) price work' chain scores found work'' chain' scores') where
+        (f : FoundChain (rows_of (take (row_width * n) table')) price work' chain scores found work'' chain' scores') where
       -- what is found is the computed backbone
       found-unique :
-          (take found.length chain' ≡ backboneOf price (leastRows t.given))
-          × (found.score ≡ points_of price (leastRows t.given))
+          (take found.length chain' ≡ backbone_of price (least_rows t.given))
+          × (found.score ≡ points_of price (least_rows t.given))
       found-unique =
           let best = least-backbone t.given (admitted-matches t.admits) price in
           backbone-unique best (rw tabled-rows at f.backbone)
@@ -227,13 +227,13 @@ module _ (script : List ℕ) (price : ℕ) (table work chain scores : List ℕ) 
           Chains script price table work chain scores (Best found.score n found.length) table' work'' chain'
           scores'
       tabled-found =
-          let ks = backboneOf price (leastRows t.given) in
+          let ks = backbone_of price (least_rows t.given) in
           let long : found.length ≡ length ks =
           sym (ap length (sym found-unique.0) ∙ length-take found.length chain' ∙ omega (arith, f.within)) in
           let chained : chain' ≡ ks ++ drop (length ks) chain =
           rw (← long, ← f.past, ← found-unique.0) (sym (take-append-drop found.length chain')) in
-          let clear : work'' ≡ zeroed work = f.work-zero ∙ ap zeroed t.clear ∙ zeroed-twice work in
-          rw (found-unique.1, t.count, long, t.rows, clear, chained, f.scores-zero)
+          let clear : work'' ≡ zeroed work = f.work_zero ∙ ap zeroed t.clear ∙ zeroed-twice work in
+          rw (found-unique.1, t.count, long, t.rows, clear, chained, f.scores_zero)
           (chaining-admitted script price table work chain scores t.admits
           ∙ call-found t.given price table work chain scores t.enough lent t.room)
 
@@ -241,17 +241,17 @@ module _ (script : List ℕ) (price : ℕ) (table work chain scores : List ℕ) 
 
 pub scores-cleared :
     (r : Refusal) (scores : List ℕ) {n : ℕ} {scores' : List ℕ} → n ≡ number_of r → n ≡ 12 → scores' ≡ zeroed scores
-    → scores' ≡ scoresAfter r scores
+    → scores' ≡ scores_after r scores
 scores-cleared r scores named twelve is = rw (eq-eqb (number_of r) 12 (sym named ∙ twelve)) is
 
-pub scores-kept : (r : Refusal) (scores : List ℕ) {n : ℕ} → n ≡ number_of r → n ≢ 12 → scores ≡ scoresAfter r scores
+pub scores-kept : (r : Refusal) (scores : List ℕ) {n : ℕ} → n ≡ number_of r → n ≢ 12 → scores ≡ scores_after r scores
 scores-kept r scores named other = rw (ne_eqb (number_of r) 12 (λ e. other (named ∙ e)))
 
 -- ---- by the equations that refining ensures
 
 module _ (script table work : List ℕ) {reply : Refined} {table' work' : List ℕ}
-    (replies : reply ≡ (refiningOf script table work).reply) (tables : table' ≡ (refiningOf script table work).table)
-    (works : work' ≡ (refiningOf script table work).work) where
+    (replies : reply ≡ (refining_of script table work).reply) (tables : table' ≡ (refining_of script table work).table)
+    (works : work' ≡ (refining_of script table work).work) where
   is_made : Made script table work reply table' work'
   is_made = rw (replies, tables, works) (made script table work)
 
@@ -260,7 +260,7 @@ module _ (script table work : List ℕ) {reply : Refined} {table' work' : List �
 
   pub refined-refused :
       (price : ℕ) (chain scores : List ℕ) {r : Refusal} {scores' : List ℕ} → Lent price table chain scores
-      → reply ≡ Refined.Refused r → scores' ≡ scoresAfter r scores
+      → reply ≡ Refined.Refused r → scores' ≡ scores_after r scores
       → Chains script price table work chain scores (Refused r) table' work' chain scores'
   refined-refused price chain scores lent is after =
       rw after (made-refused script price table work chain scores lent is_made is)

@@ -1,8 +1,9 @@
 // The chaining call: the backbone of a cross, which stands above the refining call.
+#![tactic(auto)]
 ghost use Rattle.std.specs.Prelude.{◌≡◌};
-ghost use Rattle.backbone.specs.Chaining.{chainingOf};
-ghost use Rattle.backbone.specs.Demands.{Lent, chainedAnswer, ChainingDemand};
-ghost use Rattle.chain.specs.Calls.{admitting, Refuses, scoresAfter, Chains};
+ghost use Rattle.backbone.specs.Chaining.{chaining_of};
+ghost use Rattle.backbone.specs.Demands.{Lent, chained_answer, ChainingDemand};
+ghost use Rattle.chain.specs.Calls.{admitting, Refuses, scores_after, Chains};
 
 use backbone::Chained;
 use clearing::clear;
@@ -53,7 +54,7 @@ fn refuse(script: &[u8], price: u32, table: &[u32], work: &[u32]) -> Refusal
 
 // What a refusal by refining does to the score buffer: after 12 it is zero too.
 fn clear_after(refusal: Refusal, scores: &mut [u32])
-    ensures { scores.new ≡ scoresAfter refusal scores.old }
+    ensures { scores.new ≡ scores_after refusal scores.old }
 {
     if number_of(refusal) == 12 {
         clear(scores);
@@ -100,22 +101,22 @@ pub fn chain(
     scores: &mut [u32],
 ) -> Chained
     ensures reply { result
-        ≡ (chainingOf script.now price table.old work.old chain.old
+        ≡ (chaining_of script.now price table.old work.old chain.old
         scores.old).reply }
     ensures table { table.new
-        ≡ (chainingOf script.now price table.old work.old chain.old
+        ≡ (chaining_of script.now price table.old work.old chain.old
         scores.old).table }
     ensures work { work.new
-        ≡ (chainingOf script.now price table.old work.old chain.old
+        ≡ (chaining_of script.now price table.old work.old chain.old
         scores.old).work }
     ensures chain { chain.new
-        ≡ (chainingOf script.now price table.old work.old chain.old
+        ≡ (chaining_of script.now price table.old work.old chain.old
         scores.old).chain }
     ensures scores { scores.new
-        ≡ (chainingOf script.now price table.old work.old chain.old
+        ≡ (chaining_of script.now price table.old work.old chain.old
         scores.old).scores }
     ensures demand { ChainingDemand script.now price table.old work.old chain.old
-        scores.old (chainedAnswer result) table.new work.new chain.new
+        scores.old (chained_answer result) table.new work.new chain.new
         scores.new }
 {
     if admits(price, row_count(table), chain.len(), scores.len()) {

@@ -1,4 +1,5 @@
 // A lent buffer set to zero.
+#![tactic(auto)]
 ghost use Rattle.std.specs.Prelude.{◌≡◌};
 ghost use Rattle.refining.specs.Refining.{zeroed};
 

@@ -1,8 +1,9 @@
 // All cuts: the ends of the matches and the marks that they span, taken from side to side until neither gains one.
+#![tactic(auto)]
 ghost use Rattle.std.specs.Prelude.{◌≡◌, true, false, ◌*◌, ◌≤◌, length, replicate};
-ghost use Rattle.refining.specs.Columns.{columnsOf, Fit};
-ghost use Rattle.tracks.specs.Tracks.{marksOf};
-ghost use Rattle.tracks.specs.Engine.{booksOf};
+ghost use Rattle.refining.specs.Columns.{columns_of, Fit};
+ghost use Rattle.tracks.specs.Tracks.{marks_of};
+ghost use Rattle.tracks.specs.Engine.{books_of};
 ghost use Rattle.tracks.specs.Groups.{Groups, grouped};
 ghost use Rattle.driving.specs.Driving.{Driving, Closure};
 ghost use Rattle.beginning.specs.Beginning.{Lent};
@@ -50,19 +51,19 @@ fn go_on(
     first: Closing,
     capacity: usize,
 ) -> Closed
-    requires lent { Lent (columnsOf left_a.now right_a.now left_b.now right_b.now reversed.now) groups.now
+    requires lent { Lent (columns_of left_a.now right_a.now left_b.now right_b.now reversed.now) groups.now
         mark_tracks.now mark_positions.now count sets }
     requires reversed_len_bound { length reversed.now ≤ 4294967296 }
     requires straight_value { straight.now ≡ replicate (length reversed.now) false }
-    requires driving { Driving (columnsOf left_a.now right_a.now left_b.now right_b.now reversed.now) groups.now
-        count (marksOf mark_tracks.now mark_positions.now) sets capacity work.old book_a.old
+    requires driving { Driving (columns_of left_a.now right_a.now left_b.now right_b.now reversed.now) groups.now
+        count (marks_of mark_tracks.now mark_positions.now) sets capacity work.old book_a.old
         book_b.old first }
     ensures { Closure
         (grouped
-        (columnsOf left_a.now right_a.now left_b.now right_b.now
+        (columns_of left_a.now right_a.now left_b.now right_b.now
         reversed.now)
-        groups.now count (marksOf mark_tracks.now mark_positions.now))
-        sets capacity work.new (booksOf book_a.new book_b.new) result }
+        groups.now count (marks_of mark_tracks.now mark_positions.now))
+        sets capacity work.new (books_of book_a.new book_b.new) result }
 {
     let room = index_room(left_a.len());
     if indexable(left_a.len(), room, index_a.len(), index_b.len()) {
@@ -113,7 +114,7 @@ pub fn close(
     sets: usize,
     capacity: usize,
 ) -> Closed
-    requires fit { Fit (columnsOf left_a.now right_a.now left_b.now right_b.now reversed.now) }
+    requires fit { Fit (columns_of left_a.now right_a.now left_b.now right_b.now reversed.now) }
     requires reversed_len_bound { length reversed.now ≤ 4294967296 }
     requires straight_value { straight.now ≡ replicate (length reversed.now) false }
     requires groups { Groups groups.now count (length reversed.now) sets }
@@ -124,10 +125,10 @@ pub fn close(
     requires capacity_in_bounds { 4 * capacity ≤ length work.old }
     ensures { Closure
         (grouped
-        (columnsOf left_a.now right_a.now left_b.now right_b.now
+        (columns_of left_a.now right_a.now left_b.now right_b.now
         reversed.now)
-        groups.now count (marksOf mark_tracks.now mark_positions.now))
-        sets capacity work.new (booksOf book_a.new book_b.new) result }
+        groups.now count (marks_of mark_tracks.now mark_positions.now))
+        sets capacity work.new (books_of book_a.new book_b.new) result }
 {
     let first = begin(
         left_a,

@@ -1,7 +1,7 @@
 -- The closure of the first edition: two tracks, A and B, and every match goes from the one to the other.
 --     at u h              the position h of the side u as a place
 --     CutOn g u h         the position h of the side u is a cut of what is given
---     twoGroups, two      one group, from the track 0 to the track 1; the matches of columns with these tracks, beside
+--     two_groups, two      one group, from the track 0 to the track 1; the matches of columns with these tracks, beside
 --                         marks
 --     AllCutsOfA          the set holds exactly the cuts of A, and the least table has room
 --     Closure             what the closure does, by its answer
@@ -14,7 +14,7 @@ use Rattle.refinement.specs.Cut.{Cut}
 use Rattle.cut_set.specs.Store.{Good, Member}
 use Rattle.cut_set.specs.declared.CutSet.{CutSet}
 use Rattle.refining.specs.Columns.{Columns, count_of}
-use Rattle.refining.specs.Refining.{Given, leastOf}
+use Rattle.refining.specs.Refining.{Given, least_of}
 use Rattle.refining.specs.Demands.{EveryExceeds}
 use Rattle.tracks.specs.Tracks.{Tracked}
 use Rattle.tracks.specs.Groups.{grouped}
@@ -28,16 +28,16 @@ abbrev pub CutOn : Given → Side → ℕ → Type 0
 CutOn g u h = Cut g.matches g.marks (at u h)
 
 -- from match 0 on, from the track 0 to the track 1, up to the last
-abbrev pub twoGroups : ℕ → List ℕ
-twoGroups count = 0 ∷ 0 ∷ 1 ∷ count ∷ []
+abbrev pub two_groups : ℕ → List ℕ
+two_groups count = 0 ∷ 0 ∷ 1 ∷ count ∷ []
 
 abbrev pub two : Columns → List Place → Tracked
-two c marks = grouped c (twoGroups (count_of c)) 1 marks
+two c marks = grouped c (two_groups (count_of c)) 1 marks
 
 pub record AllCutsOfA (g : Given) (cap : ℕ) (ys : List ℕ) (s : CutSet) : Type 0 where
   pub good : Good ys s
   pub cuts : (x : ℕ) → Member ys s x ↔ CutOn g A x
-  pub fits : length (leastOf g) ≤ cap
+  pub fits : length (least_of g) ≤ cap
 
 abbrev pub Closure : Given → ℕ → List ℕ → ClosedTwo → Type 0
 Closure g cap ys (ClosedTwo.CutsOfA s) = AllCutsOfA g cap ys s

@@ -1,10 +1,11 @@
 // The closure of the first edition: two tracks, and every match goes from the first to the second. A mark's side is its
 // track.
+#![tactic(auto)]
 ghost use Rattle.std.specs.Prelude.{◌≡◌, false, ◌*◌, ◌≤◌, length, replicate};
-ghost use Rattle.refining.specs.Columns.{columnsOf, Fit};
-ghost use Rattle.refining.specs.Refining.{heldIn};
-ghost use Rattle.tracks.specs.Tracks.{marksOf};
-ghost use Rattle.closing_two.specs.FirstEdition.{twoGroups, Closure};
+ghost use Rattle.refining.specs.Columns.{columns_of, Fit};
+ghost use Rattle.refining.specs.Refining.{held_in};
+ghost use Rattle.tracks.specs.Tracks.{marks_of};
+ghost use Rattle.closing_two.specs.FirstEdition.{two_groups, Closure};
 
 use closing::close;
 use cut_set::CutSet;
@@ -36,19 +37,19 @@ fn close_lent(
     book_b: &mut [usize],
     capacity: usize,
 ) -> ClosedTwo
-    requires fit { Fit (columnsOf left_a.now right_a.now left_b.now right_b.now reversed.now) }
+    requires fit { Fit (columns_of left_a.now right_a.now left_b.now right_b.now reversed.now) }
     requires capacity_in_bounds { 4 * capacity ≤ length work.old }
     requires reversed_len_bound { length reversed.now ≤ 4294967296 }
     requires straight_value { straight.now ≡ replicate (length reversed.now) false }
-    requires groups_value { groups.now ≡ twoGroups (length reversed.now) }
+    requires groups_value { groups.now ≡ two_groups (length reversed.now) }
     requires mark_sides_len { length mark_sides.now ≡ length mark_positions.now }
     requires book_a_len { length book_a.old ≡ 16 }
     requires book_b_len { length book_b.old ≡ 16 }
     ensures { Closure
-        (heldIn
-        (columnsOf left_a.now right_a.now left_b.now right_b.now
+        (held_in
+        (columns_of left_a.now right_a.now left_b.now right_b.now
         reversed.now)
-        (marksOf mark_sides.now mark_positions.now))
+        (marks_of mark_sides.now mark_positions.now))
         capacity work.new result }
 {
     match close(
@@ -90,16 +91,16 @@ pub fn close_two(
     work: &mut [u32],
     capacity: usize,
 ) -> ClosedTwo
-    requires fit { Fit (columnsOf left_a.now right_a.now left_b.now right_b.now reversed.now) }
+    requires fit { Fit (columns_of left_a.now right_a.now left_b.now right_b.now reversed.now) }
     requires capacity_in_bounds { 4 * capacity ≤ length work.old }
     requires reversed_len_bound { length reversed.now ≤ 4294967296 }
     requires straight_value { straight.now ≡ replicate (length reversed.now) false }
     requires mark_sides_len { length mark_sides.now ≡ length mark_positions.now }
     ensures { Closure
-        (heldIn
-        (columnsOf left_a.now right_a.now left_b.now right_b.now
+        (held_in
+        (columns_of left_a.now right_a.now left_b.now right_b.now
         reversed.now)
-        (marksOf mark_sides.now mark_positions.now))
+        (marks_of mark_sides.now mark_positions.now))
         capacity work.new result }
 {
     let groups = [0, 0, 1, reversed.len()];

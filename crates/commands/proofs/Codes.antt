@@ -2,7 +2,7 @@
 --     match-command       a remainder whose first byte begins a match, by whether that is 52
 --     mark-command        one that begins with 4D
 --     end-command         one that begins with 45
---     unknown-command     one whose first byte begins no command
+--     unknown_command     one whose first byte begins no command
 -- Assumes nothing.
 use Prim.Native.Nat.{ℕ}
 use mathlib.Core.Path.{◌≡◌, refl, sym, ap, ◌∙◌}
@@ -13,7 +13,7 @@ use native.Mathlib.Decide.{ℕ_discrete}
 use borrow.Author.Tests.{eq-eqb, ne_eqb}
 use lib.Dec.{eqb}
 use lib.ListN.{length, get_or}
-use Rattle.script.specs.Commands.{commandOf, match_of, mark_of, end_of}
+use Rattle.script.specs.Commands.{command_of, match_of, mark_of, end_of}
 use Rattle.script.specs.declared.command.Command.{Command}
 use Rattle.script.specs.declared.command.Command.TheVariants.{Unknown}
 
@@ -39,25 +39,25 @@ module _ {X : Type 0} (code : ℕ) (f : Bool → X) (x : X) where
 module _ (s : List ℕ) (some : length s ≢ 0) (later : get_or s 0 0 ≢ 0x4C) {is-match : Bool}
     (asked : is-match ≡ eqb (get_or s 0 0) 0x44 || eqb (get_or s 0 0) 0x52) where
   pub match-command : {reversed : Bool} {r : Command} → is-match ≡ true → reversed ≡ eqb (get_or s 0 0) 0x52
-      → r ≡ match_of reversed s → r ≡ commandOf s
+      → r ≡ match_of reversed s → r ≡ command_of s
   match-command told way is =
       rw (ne_eqb (length s) 0 some, ne_eqb (get_or s 0 0) 0x4C later)
       (is ∙ ap (λ (b : Bool). match_of b s) way ∙ sym (match-told (get_or s 0 0) (λ b. match_of b s) _ (sym asked ∙ told)))
 
   neither : is-match ≡ false
-      → commandOf s ≡ cond (eqb (get_or s 0 0) 0x4D) (mark_of s) (cond (eqb (get_or s 0 0) 0x45) (end_of s) Unknown)
+      → command_of s ≡ cond (eqb (get_or s 0 0) 0x4D) (mark_of s) (cond (eqb (get_or s 0 0) 0x45) (end_of s) Unknown)
   neither other =
       rw (ne_eqb (length s) 0 some, ne_eqb (get_or s 0 0) 0x4C later)
       (other-told (get_or s 0 0) (λ b. match_of b s) _ (sym asked ∙ other))
 
-  pub mark-command : {r : Command} → is-match ≡ false → get_or s 0 0 ≡ 0x4D → r ≡ mark_of s → r ≡ commandOf s
+  pub mark-command : {r : Command} → is-match ≡ false → get_or s 0 0 ≡ 0x4D → r ≡ mark_of s → r ≡ command_of s
   mark-command other e is = rw (neither other, eq-eqb (get_or s 0 0) 0x4D e) is
 
   pub end-command : {r : Command} → is-match ≡ false → get_or s 0 0 ≢ 0x4D → get_or s 0 0 ≡ 0x45 → r ≡ end_of s
-      → r ≡ commandOf s
-  end-command other no-mark e is =
-      rw (neither other, ne_eqb (get_or s 0 0) 0x4D no-mark, eq-eqb (get_or s 0 0) 0x45 e) is
+      → r ≡ command_of s
+  end-command other no_mark e is =
+      rw (neither other, ne_eqb (get_or s 0 0) 0x4D no_mark, eq-eqb (get_or s 0 0) 0x45 e) is
 
-  pub unknown-command : is-match ≡ false → get_or s 0 0 ≢ 0x4D → get_or s 0 0 ≢ 0x45 → Unknown ≡ commandOf s
-  unknown-command other no-mark n =
-      rw (neither other, ne_eqb (get_or s 0 0) 0x4D no-mark, ne_eqb (get_or s 0 0) 0x45 n)
+  pub unknown_command : is-match ≡ false → get_or s 0 0 ≢ 0x4D → get_or s 0 0 ≢ 0x45 → Unknown ≡ command_of s
+  unknown_command other no_mark n =
+      rw (neither other, ne_eqb (get_or s 0 0) 0x4D no_mark, ne_eqb (get_or s 0 0) 0x45 n)

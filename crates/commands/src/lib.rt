@@ -1,6 +1,7 @@
 // One command at the start of a remainder of the script: what stands there, without what it means for the script.
+#![tactic(auto)]
 ghost use Rattle.std.specs.Prelude.{◌≡◌, ◌||◌, ◌+◌, ◌<◌, ◌≤◌, eqb, length};
-ghost use Rattle.script.specs.Commands.{matchWidth, number_at, commandOf, lengthsOf, fields_of, match_of};
+ghost use Rattle.script.specs.Commands.{match_width, number_at, command_of, lengths_of, fields_of, match_of};
 ghost use Rattle.script.specs.Commands.{mark_of, end_of, bit_of};
 
 use script::command::{Command, LENGTHS_WIDTH, MARK_WIDTH, MATCH_WIDTH, Mark, Match};
@@ -23,7 +24,7 @@ pub fn number_at(rest: &[u8], at: usize) -> u32
 }
 
 fn read_lengths(rest: &[u8]) -> Command
-    ensures { result ≡ lengthsOf rest.now }
+    ensures { result ≡ lengths_of rest.now }
 {
     if rest.len() < LENGTHS_WIDTH {
         return Command::LengthsCutShort;
@@ -36,7 +37,7 @@ fn read_lengths(rest: &[u8]) -> Command
 
 // The three numbers of a match command, beside the direction that its first byte tells.
 pub fn read_fields(rest: &[u8], reversed: bool) -> Match
-    requires { matchWidth ≤ length rest.now }
+    requires { match_width ≤ length rest.now }
     ensures { result ≡ fields_of reversed rest.now }
 {
     Match {
@@ -102,7 +103,7 @@ pub fn bit(reversed: bool) -> u32
 
 // The command at the start of a remainder.
 pub fn read_command(rest: &[u8]) -> Command
-    ensures { result ≡ commandOf rest.now }
+    ensures { result ≡ command_of rest.now }
 {
     if rest.len() == 0 {
         return Command::Missing;

@@ -8,25 +8,25 @@ use native.Mathlib.Omega.{arith}
 use mathlib.Core.Bool.{Bool}
 use mathlib.Core.List.{List}
 use lib.ListN.{length, get_or}
-use Rattle.refining.specs.Columns.{columnsOf}
-use Rattle.carrying_match.specs.OneMatch.{hitsOn}
-use Rattle.carrying_cuts.specs.Worker.{hitsOver}
+use Rattle.refining.specs.Columns.{columns_of}
+use Rattle.carrying_match.specs.OneMatch.{hits_on}
+use Rattle.carrying_cuts.specs.Worker.{hits_over}
 use Rattle.carrying_cuts.proofs.Passing.{hits_more}
 use Rattle.counting_hits.specs.Counting.{MoreHits}
 
 pub record Spent (f g ns : List ℕ) (room free k : ℕ) : Type 0 where
-  pub counted : (t u : List ℕ) (ways : List Bool) → room ≤ free + hitsOver (columnsOf f g t u ways) k ns
+  pub counted : (t u : List ℕ) (ways : List Bool) → room ≤ free + hits_over (columns_of f g t u ways) k ns
 
 pub spend-start : {f g ns : List ℕ} {room : ℕ} → Spent f g ns room room 0
 spend-start = record { counted = λ t u ways. omega arith }
 
 module _ {f g ns : List ℕ} {room free k hits : ℕ} (s : Spent f g ns room free k)
-    (few : hits ≤ hitsOn (get_or f k 0) (get_or g k 0) ns) where
+    (few : hits ≤ hits_on (get_or f k 0) (get_or g k 0) ns) where
   -- the hits of the match at index k are hits of the first n
   upto :
       (t u : List ℕ) (ways : List Bool) (n : ℕ) → k < n
-      → hitsOver (columnsOf f g t u ways) k ns + hits ≤ hitsOver (columnsOf f g t u ways) n ns
-  upto t u ways n h = omega (arith, hits_more (columnsOf f g t u ways) ns (suc k) n (omega arith))
+      → hits_over (columns_of f g t u ways) k ns + hits ≤ hits_over (columns_of f g t u ways) n ns
+  upto t u ways n h = omega (arith, hits_more (columns_of f g t u ways) ns (suc k) n (omega arith))
 
   pub spend-step : {step : ℕ} → 0 < step → hits ≤ free → Spent f g ns room (free - hits) (k + step)
   spend-step {step} p h =

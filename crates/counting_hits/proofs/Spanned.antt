@@ -15,9 +15,9 @@ use borrow.Author.Tests.{le-leb}
 use Rattle.refinement.specs.Match.{between}
 use Rattle.refinement.proofs.Geometry.{between-below, between-from}
 use Rattle.runs.specs.Runs.{Bound}
-use Rattle.cut_set.specs.Store.{Good, foundIn}
+use Rattle.cut_set.specs.Store.{Good, found_in}
 use Rattle.cut_set.specs.declared.CutSet.{CutSet}
-use Rattle.carrying_match.specs.OneMatch.{hitsOn}
+use Rattle.carrying_match.specs.OneMatch.{hits_on}
 use Rattle.carrying_match.proofs.RunLists.{hits-past}
 use Rattle.cut_set.proofs.Laws.{done-used}
 
@@ -27,10 +27,10 @@ found_within g = omega (arith, g.room, g.within)
 -- n places, all of them spanned, are n hits at least
 spanned-places :
     (xs : List ℕ) {hi : ℕ} → hi ≤ length xs → (i g n lo : ℕ) → lo + n ≤ hi
-    → ((k : ℕ) → lo ≤ k → k < lo + n → between i g (get_or xs k 0) ≡ true) → n ≤ hitsOn i g (slice lo hi xs)
+    → ((k : ℕ) → lo ≤ k → k < lo + n → between i g (get_or xs k 0) ≡ true) → n ≤ hits_on i g (slice lo hi xs)
 spanned-places xs w i g zero lo h f = omega arith
 spanned-places xs {hi} w i g (suc n) lo h f =
-    let later : n ≤ hitsOn i g (slice (suc lo) hi xs) =
+    let later : n ≤ hits_on i g (slice (suc lo) hi xs) =
     spanned-places xs w i g n (suc lo) (omega arith) (λ k l u. f k (omega arith) (omega arith))
     in
     rw (slice-cons lo hi xs 0 (omega arith) w, f lo (omega arith) (omega arith)) (omega arith)
@@ -40,7 +40,7 @@ module _ {xs : List ℕ} {s : CutSet} {left right first last : ℕ} (good : Good
   -- n places from `first` on that hold no cut behind the right end
   hits-from :
       (n : ℕ) → first + n ≤ s.used → ((k : ℕ) → first ≤ k → k < first + n → get_or xs k 0 ≤ right)
-      → n ≤ hitsOn left right (foundIn xs s)
+      → n ≤ hits_on left right (found_in xs s)
   hits-from n h f =
       rw (hits-past xs (found_within good) (done-used good) left right first a.from a.to
       (λ k l u. sym (between-below left right (get_or xs k 0) (a.less k l u))))
@@ -51,12 +51,12 @@ module _ {xs : List ℕ} {s : CutSet} {left right first last : ℕ} (good : Good
   below_last : (k : ℕ) → first ≤ k → k < last → get_or xs k 0 < right
   below_last k l u = b.less k (omega (arith, a.from)) u
 
-  pub hits-before : last - first ≤ hitsOn left right (foundIn xs s)
+  pub hits-before : last - first ≤ hits_on left right (found_in xs s)
   hits-before = hits-from (last - first) (omega (arith, b.to))
       (λ k l u. omega (arith, below_last k l (omega arith)))
 
   pub hits-to :
-      last < s.used → get_or xs last 0 ≤ right → last - first + 1 ≤ hitsOn left right (foundIn xs s)
+      last < s.used → get_or xs last 0 ≤ right → last - first + 1 ≤ hits_on left right (found_in xs s)
   hits-to h e = hits-from (last - first + 1) (omega arith) (λ k l u. go k l u (ℕ_discrete k last))
     where
       go : (k : ℕ) → first ≤ k → k < first + (last - first + 1) → Dec (k ≡ last) → get_or xs k 0 ≤ right

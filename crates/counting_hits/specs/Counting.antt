@@ -3,11 +3,11 @@
 --                              any ends on the other side, have more than `room` hits among the cuts ns
 -- Assumes nothing.
 use Rattle.std.specs.Prelude.{ℕ, ◌<◌, ◌≡◌, Bool, List, length}
-use Rattle.refining.specs.Columns.{columnsOf, count_of}
-use Rattle.carrying_cuts.specs.Worker.{hitsOver}
+use Rattle.refining.specs.Columns.{columns_of, count_of}
+use Rattle.carrying_cuts.specs.Worker.{hits_over}
 
 -- t, u and ways, the ends on the other side and the directions, are not read: the caller puts its own for them
 abbrev pub MoreHits : List ℕ → List ℕ → List ℕ → ℕ → Type 0
 MoreHits f g ns room =
     (t u : List ℕ) (ways : List Bool) → length f ≡ length ways
-    → room < hitsOver (columnsOf f g t u ways) (count_of (columnsOf f g t u ways)) ns
+    → room < hits_over (columns_of f g t u ways) (count_of (columns_of f g t u ways)) ns

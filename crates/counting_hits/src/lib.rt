@@ -1,7 +1,8 @@
 // Counting hits, the pairs of a newly found cut and a match that spans it, before any is carried.
+#![tactic(auto)]
 ghost use Rattle.std.specs.Prelude.{◌≡◌, true, ◌<◌, ◌≤◌, length};
-ghost use Rattle.cut_set.specs.Store.{Good, FoundRun, foundIn};
-ghost use Rattle.carrying_match.specs.OneMatch.{hitsOn};
+ghost use Rattle.cut_set.specs.Store.{Good, FoundRun, found_in};
+ghost use Rattle.carrying_match.specs.OneMatch.{hits_on};
 ghost use Rattle.counting_hits.specs.Counting.{MoreHits};
 
 use cut_set::CutSet;
@@ -11,7 +12,7 @@ use cut_set::CutSet;
 fn hits_of(work: &[u32], from: CutSet, left: u32, right: u32) -> usize
     requires good { Good work.now from }
     requires found_run { FoundRun work.now from }
-    ensures { result ≤ hitsOn left right (foundIn work.now from) }
+    ensures { result ≤ hits_on left right (found_in work.now from) }
 {
     let first = cut_set::first_found(work, from, left);
     let last = cut_set::first_found(work, from, right);
@@ -41,7 +42,7 @@ pub fn exceed(
     requires step_nonzero { 0 < step }
     requires step_bound { step ≤ 4096 }
     ensures { result ≡ true
-        → MoreHits lefts.now rights.now (foundIn work.now from) room }
+        → MoreHits lefts.now rights.now (found_in work.now from) room }
 {
     let mut free = room;
     let mut k = 0;

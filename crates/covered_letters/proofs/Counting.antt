@@ -17,8 +17,8 @@ use lib.Seq.{length-take-le}
 use Rattle.refinement.specs.declared.Side.{Side}
 use Rattle.rows.specs.Rows.{rows_of}
 use Rattle.rows.specs.declared.Row.{Row}
-use Rattle.table.specs.Covering.{coverOf}
-use Rattle.table.specs.Tally.{isCovered, tally}
+use Rattle.table.specs.Covering.{cover_of}
+use Rattle.table.specs.Tally.{is_covered, tally}
 use Rattle.table.proofs.Tally.{tally-between, tally-empty, tally-at-most}
 use Rattle.table.proofs.Covers.{cover-tally}
 use Rattle.table.proofs.Laws.{table-ends}
@@ -50,10 +50,10 @@ window-counted {s} {rs} {from} {lows = lows} {highs = highs} {store = store} g s
     let xs = take store.used lows in
     let ys = take store.used highs in
     let stored = g.held.stored in
-    let all = sum.summed store.to stored.none-behind in
+    let all = sum.summed store.to stored.none_behind in
     let none = tally-empty (under xs ys) from (stored-before stored) in
     let onward : from ≤ store.to = omega (arith, g.held.onward) in
-    let between = tally-between (isCovered s rs) (under xs ys) from store.to onward
+    let between = tally-between (is_covered s rs) (under xs ys) from store.to onward
     (λ h l l'. sym (g.all h l l')) in
     record { onward = g.held.onward; shorter = g.shorter; counted = omega (arith, all, none, between) }
 
@@ -67,14 +67,14 @@ unfolding tally
 begun_first c = record { shorter = c.shorter; counted = omega (arith, c.counted) }
 
 module _ {s : Side} {rs : List Row} {from letters : ℕ} {w : Window} (c : Counted s rs from w)
-    (sum : letters ≡ tally (isCovered s rs) from) where
-  pub counted_next : letters + w.letters ≡ tally (isCovered s rs) w.to
+    (sum : letters ≡ tally (is_covered s rs) from) where
+  pub counted_next : letters + w.letters ≡ tally (is_covered s rs) w.to
   counted_next = omega (arith, c.counted)
 
   pub counted-fits : letters + w.letters ≤ end
-  counted-fits = omega (arith, counted_next, tally-at-most (isCovered s rs) w.to, c.shorter)
+  counted-fits = omega (arith, counted_next, tally-at-most (is_covered s rs) w.to, c.shorter)
 
 pub cover-counted : (s : Side) (t : List ℕ) {from letters : ℕ} → ((k : ℕ) → get_or t k 0 < 2 ^ 32) → end ≤ from
-    → letters ≡ tally (isCovered s (rows_of t)) from → letters ≡ coverOf s (rows_of t)
+    → letters ≡ tally (is_covered s (rows_of t)) from → letters ≡ cover_of s (rows_of t)
 cover-counted s t {from} fits ended sum =
     sum ∙ sym (cover-tally s (rows_of t) from (λ r m. omega (arith, table-ends s t fits r m)))

@@ -2,9 +2,10 @@
 // rows are gathered in local arrays and summed up, in windows of letters where there is not room for all. A sample of
 // the rows chooses the windows of a long table. One that refining made has at most 2,048 stretches to gather, one for
 // each match, and takes one pass.
+#![tactic(auto)]
 ghost use Rattle.std.specs.Prelude.{◌+◌, ◌≤◌, ◌<◌, ◌≡◌, length};
 ghost use Rattle.rows.specs.Rows.{rows_of};
-ghost use Rattle.table.specs.Covering.{coverOf};
+ghost use Rattle.table.specs.Covering.{cover_of};
 ghost use Rattle.stretches.specs.Stores.{Rooms};
 ghost use Rattle.row_stretches.specs.Passes.{end};
 ghost use Rattle.covered_letters.specs.Windows.{Counted, Begun};
@@ -144,7 +145,7 @@ fn count_with_many(table: &[u32], side: Side, from: u64) -> Window
 // The letters counted before, and those of the windows behind.
 fn count_on(table: &[u32], side: Side, counted: Window) -> u64
     requires { Begun side (rows_of table.now) counted }
-    ensures { result ≡ coverOf side (rows_of table.now) }
+    ensures { result ≡ cover_of side (rows_of table.now) }
 {
     let mut letters = counted.letters;
     let mut from = counted.to;
@@ -159,7 +160,7 @@ fn count_on(table: &[u32], side: Side, counted: Window) -> u64
 // Counts window by window. A short table is not worth large arrays: those are on the stack of `count_on` alone, which
 // is called twice lest the compiler make it a part of this function.
 pub fn cover_of(table: &[u32], side: Side) -> u64
-    ensures { result ≡ coverOf side (rows_of table.now) }
+    ensures { result ≡ cover_of side (rows_of table.now) }
 {
     if FEW < row_count(table) {
         return count_on(table, side, Window { letters: 0, to: 0 });

@@ -27,10 +27,10 @@ use Rattle.cut_set.specs.declared.CutSet.{CutSet}
 
 module _ {xs : List ℕ} {s : CutSet} (g : Good xs s) where
   pub base_done : s.base ≤ s.done
-  base_done = omega (arith, g.finished-long.order, g.finished-middle.order, g.finished-short.order)
+  base_done = omega (arith, g.finished_long.order, g.finished_middle.order, g.finished_short.order)
 
   pub done-fresh : s.done ≤ s.fresh
-  done-fresh = g.found-run.order
+  done-fresh = g.found_run.order
 
   pub base-fresh : s.base ≤ s.fresh
   base-fresh = omega (arith, base_done, done-fresh)
@@ -58,17 +58,17 @@ module _ {xs : List ℕ} {s : CutSet} (g : Good xs s) where
 
   pub good-standing : Standing xs s
   good-standing = record {
-    finished-long = g.finished-long;
-    finished-middle = g.finished-middle;
-    finished-short = g.finished-short;
-    found-run = g.found-run;
+    finished_long = g.finished_long;
+    finished_middle = g.finished_middle;
+    finished_short = g.finished_short;
+    found_run = g.found_run;
     notes = g.notes;
     within = g.within;
   }
 
 -- the set with its newly found run up to `end`, and nothing added behind it
-abbrev pub gatheredTo : CutSet → ℕ → CutSet
-gatheredTo s end = record {
+abbrev pub gathered_to : CutSet → ℕ → CutSet
+gathered_to s end = record {
   base = s.base;
   long = s.long;
   mid = s.mid;
@@ -90,13 +90,13 @@ module _ {xs ys : List ℕ} {s : CutSet} {end : ℕ} (g : Good xs s) (n : length
   pub sorted_apart : SortedApart ys s end
   sorted_apart = record {
     standing = record {
-      finished-long = run-same {xs = xs}
-          (same-front (omega (arith, g.finished-middle.order, g.finished-short.order, done-fresh g))) n
-          g.finished-long;
-      finished-middle = run-same {xs = xs} (same-front (omega (arith, g.finished-short.order, done-fresh g))) n
-          g.finished-middle;
-      finished-short = run-same {xs = xs} (same-front (done-fresh g)) n g.finished-short;
-      found-run = run-same {xs = xs} (same-front (omega arith)) n g.found-run;
+      finished_long = run-same {xs = xs}
+          (same-front (omega (arith, g.finished_middle.order, g.finished_short.order, done-fresh g))) n
+          g.finished_long;
+      finished_middle = run-same {xs = xs} (same-front (omega (arith, g.finished_short.order, done-fresh g))) n
+          g.finished_middle;
+      finished_short = run-same {xs = xs} (same-front (done-fresh g)) n g.finished_short;
+      found_run = run-same {xs = xs} (same-front (omega arith)) n g.found_run;
       notes = record {
         order = g.notes.order;
         few = g.notes.few;
@@ -136,7 +136,7 @@ module _ {xs ys : List ℕ} {s : CutSet} {end : ℕ} (g : Good xs s) (n : length
 
     pub new-mergeable : Mergeable zs s.done s.fresh r
     new-mergeable = record {
-      low = run-same {xs = xs} (front (omega arith)) (m ∙ n) g.found-run;
+      low = run-same {xs = xs} (front (omega arith)) (m ∙ n) g.found_run;
       high = record {
         order = q.from;
         within = omega (arith, m, n, r-used, used-within g);
@@ -192,18 +192,18 @@ module _ {xs ys : List ℕ} {s : CutSet} {end : ℕ} (g : Good xs s) (n : length
           (λ j. (v.noted h).now y (in-same (λ k a b. sym (low k b)) j))
           (in_parts s.done i)
 
-      good : Good ws (gatheredTo s r)
+      good : Good ws (gathered_to s r)
       good = record {
-        finished-long = run-same {xs = xs}
-            (start (omega (arith, g.finished-middle.order, g.finished-short.order))) (l ∙ m ∙ n) g.finished-long;
-        finished-middle = run-same {xs = xs} (start g.finished-short.order) (l ∙ m ∙ n) g.finished-middle;
-        finished-short = run-same {xs = xs} (start (omega arith)) (l ∙ m ∙ n) g.finished-short;
-        found-run = record {
+        finished_long = run-same {xs = xs}
+            (start (omega (arith, g.finished_middle.order, g.finished_short.order))) (l ∙ m ∙ n) g.finished_long;
+        finished_middle = run-same {xs = xs} (start g.finished_short.order) (l ∙ m ∙ n) g.finished_middle;
+        finished_short = run-same {xs = xs} (start (omega arith)) (l ∙ m ∙ n) g.finished_short;
+        found_run = record {
           order = omega (arith, done-fresh g, q.from);
           within = omega (arith, l, m, n, r-used, used-within g);
           rising = merged.rising;
         };
-        few-finished = g.few-finished;
+        few_finished = g.few_finished;
         added = omega arith;
         room = omega (arith, r_top);
         notes = record { order = g.notes.order; few = g.notes.few; noted = noted };
@@ -234,12 +234,12 @@ module _ {xs ys : List ℕ} {s : CutSet} {end : ℕ} (g : Good xs s) (n : length
           old : In xs s.base s.fresh y → In zs s.base r y
           old j = in-wide (omega arith) q.from (in-same (front (omega arith)) j)
 
-      pub gathered : Gathered xs s ws (gatheredTo s r)
+      pub gathered : Gathered xs s ws (gathered_to s r)
       gathered = record {
         kept = record {
           good = good;
           base_same = refl;
-          limit-same = refl;
+          limit_same = refl;
           members = λ y. (
             λ i. back s.base (base-fresh g) y ((to-zs s.base (base_done g) y).0 i),
             λ i. (to-zs s.base (base_done g) y).1 (forth y i),
@@ -249,13 +249,13 @@ module _ {xs ys : List ℕ} {s : CutSet} {end : ℕ} (g : Good xs s) (n : length
               (λ h. v.only k (inr h) ∙ behind k (omega (arith, g.notes.order)))
               u;
         };
-        done-same = refl;
+        done_same = refl;
         finished = λ y. (
           in-same (λ k a b. sym (start (omega arith) k a b)),
           in-same (start (omega arith)),
         );
         only = λ y i. back s.done (done-fresh g) y ((merged.same y).0 i);
-        run-kept = λ y i. (merged.same y).1
+        run_kept = λ y i. (merged.same y).1
             (in-wide (omega arith) q.from (in-same (front (omega arith)) i));
         more = q.from;
         run = merged.rising;
@@ -267,15 +267,15 @@ gathered_none {xs} {s} g e = record {
   kept = record {
     good = g;
     base_same = refl;
-    limit-same = refl;
+    limit_same = refl;
     members = λ y. Iff.rfl;
     outside = λ k o. refl;
   };
-  done-same = refl;
+  done_same = refl;
   finished = λ y. Iff.rfl;
   only = λ y i. i;
-  run-kept = λ y i. i;
+  run_kept = λ y i. i;
   more = omega arith;
-  run = rw (sym e) g.found-run.rising;
+  run = rw (sym e) g.found_run.rising;
   ready = e;
 }

@@ -31,11 +31,11 @@ done-used g = omega (arith, done-fresh g, g.added)
 pub good-same : (xs ys : List ℕ) {s : CutSet} → Same xs ys s.base s.limit → length ys ≡ length xs → Good xs s →
     Good ys s
 good-same xs ys {s} same n g = record {
-  finished-long = run (omega arith) (omega (arith, middle, short, done-used g)) g.finished-long;
-  finished-middle = run g.finished-long.order (omega (arith, short, done-used g)) g.finished-middle;
-  finished-short = run (omega (arith, g.finished-long.order, middle)) (done-used g) g.finished-short;
-  found-run = run (base_done g) g.added g.found-run;
-  few-finished = g.few-finished;
+  finished_long = run (omega arith) (omega (arith, middle, short, done-used g)) g.finished_long;
+  finished_middle = run g.finished_long.order (omega (arith, short, done-used g)) g.finished_middle;
+  finished_short = run (omega (arith, g.finished_long.order, middle)) (done-used g) g.finished_short;
+  found_run = run (base_done g) g.added g.found_run;
+  few_finished = g.few_finished;
   added = g.added;
   room = g.room;
   notes = record {
@@ -50,10 +50,10 @@ good-same xs ys {s} same n g = record {
 }
   where
     middle : s.long ≤ s.mid
-    middle = g.finished-middle.order
+    middle = g.finished_middle.order
 
     short : s.mid ≤ s.done
-    short = g.finished-short.order
+    short = g.finished_short.order
 
     run : {lo hi : ℕ} → s.base ≤ lo → hi ≤ s.used → Run xs lo hi → Run ys lo hi
     run l h p = run-same {xs = xs} (λ k a b. same k (omega arith) (omega (arith, used-limit g))) n p
@@ -66,11 +66,11 @@ pub stored-none : {P : ℕ → Type 0} {xs : List ℕ} {s : CutSet} → Good xs 
 stored-none g h = record {
   good = g;
   base_same = refl;
-  limit-same = refl;
-  done-same = refl;
+  limit_same = refl;
+  done_same = refl;
   finished = λ y. Iff.rfl;
   stays = λ y p. p;
-  run-kept = λ y p. p;
+  run_kept = λ y p. p;
   only = λ y p. inl p;
   held = h;
   more = omega arith;
@@ -82,18 +82,18 @@ pub stored-then : {P Q : ℕ → Type 0} {xs ys zs : List ℕ} {s t u : CutSet} 
 stored-then {xs = xs} {ys} {zs} {s} {t} {u} p q = record {
   good = q.good;
   base_same = q.base_same ∙ p.base_same;
-  limit-same = q.limit-same ∙ p.limit-same;
-  done-same = q.done-same ∙ p.done-same;
+  limit_same = q.limit_same ∙ p.limit_same;
+  done_same = q.done_same ∙ p.done_same;
   finished = λ y. Iff.trans (q.finished y) (p.finished y);
   stays = λ y m. q.stays y (p.stays y m);
-  run-kept = λ y m. q.run-kept y (p.run-kept y m);
+  run_kept = λ y m. q.run_kept y (p.run_kept y m);
   only = λ y m. ⊎_elim
       (λ f. ⊎_elim inl (λ h. inr (inl h)) (p.only y f))
       (λ h. inr (inr h))
       (q.only y m);
   held = λ y h. ⊎_elim (λ h'. q.stays y (p.held y h')) (q.held y) h;
   more = omega (arith, p.more, q.more);
-  outside = λ k o. q.outside k (outside-same s t p.base_same p.limit-same o) ∙ p.outside k o;
+  outside = λ k o. q.outside k (outside-same s t p.base_same p.limit_same o) ∙ p.outside k o;
 }
 
 pub stored-wide : {P Q : ℕ → Type 0} {xs ys : List ℕ} {s t : CutSet} → ((y : ℕ) → P y → Q y)
@@ -101,11 +101,11 @@ pub stored-wide : {P Q : ℕ → Type 0} {xs ys : List ℕ} {s t : CutSet} → (
 stored-wide w h p = record {
   good = p.good;
   base_same = p.base_same;
-  limit-same = p.limit-same;
-  done-same = p.done-same;
+  limit_same = p.limit_same;
+  done_same = p.done_same;
   finished = p.finished;
   stays = p.stays;
-  run-kept = p.run-kept;
+  run_kept = p.run_kept;
   only = λ y m. ⊎_elim inl (λ q. inr (w y q)) (p.only y m);
   held = h;
   more = p.more;

@@ -102,16 +102,16 @@ module _ {xs ys : List ℕ} {s : CutSet} {end r : ℕ} (g : SortedApart xs s end
   }
     where
       a : s.base ≤ s.long
-      a = g.standing.finished-long.order
+      a = g.standing.finished_long.order
 
       b : s.long ≤ s.mid
-      b = g.standing.finished-middle.order
+      b = g.standing.finished_middle.order
 
       c : s.mid ≤ s.done
-      c = g.standing.finished-short.order
+      c = g.standing.finished_short.order
 
       d : s.done ≤ s.fresh
-      d = g.standing.found-run.order
+      d = g.standing.found_run.order
 
       none : (y : ℕ)
           → (((In xs s.mid s.done y → ⊥) × (In xs s.long s.mid y → ⊥)) × (In xs s.base s.long y → ⊥))
@@ -128,11 +128,11 @@ module _ {xs ys : List ℕ} {s : CutSet} {end kept k : ℕ} (g : SortedApart xs 
 
   pub kept-standing : Standing ys s
   kept-standing = record {
-    finished-long = run (omega (arith, b.finished-middle.order, b.finished-short.order, b.found-run.order))
-        b.finished-long;
-    finished-middle = run (omega (arith, b.finished-short.order, b.found-run.order)) b.finished-middle;
-    finished-short = run b.found-run.order b.finished-short;
-    found-run = run (omega arith) b.found-run;
+    finished_long = run (omega (arith, b.finished_middle.order, b.finished_short.order, b.found_run.order))
+        b.finished_long;
+    finished_middle = run (omega (arith, b.finished_short.order, b.found_run.order)) b.finished_middle;
+    finished_short = run b.found_run.order b.finished_short;
+    found_run = run (omega arith) b.found_run;
     notes = record {
       order = b.notes.order;
       few = b.notes.few;

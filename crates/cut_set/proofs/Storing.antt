@@ -56,14 +56,14 @@ module _ {xs : List ℕ} {s : CutSet} (x : ℕ) (g : Good xs s) (free : RoomForO
   pub appended : Stored (λ y. y ≡ x) xs s (set xs s.used x) (grown s)
   appended = record {
     good = record {
-      finished-long = run-same {xs = xs}
-          (front (omega (arith, g.finished-middle.order, g.finished-short.order, done-fresh g, g.added))) n
-          g.finished-long;
-      finished-middle = run-same {xs = xs}
-          (front (omega (arith, g.finished-short.order, done-fresh g, g.added))) n g.finished-middle;
-      finished-short = run-same {xs = xs} (front (omega (arith, done-fresh g, g.added))) n g.finished-short;
-      found-run = run-same {xs = xs} (front g.added) n g.found-run;
-      few-finished = g.few-finished;
+      finished_long = run-same {xs = xs}
+          (front (omega (arith, g.finished_middle.order, g.finished_short.order, done-fresh g, g.added))) n
+          g.finished_long;
+      finished_middle = run-same {xs = xs}
+          (front (omega (arith, g.finished_short.order, done-fresh g, g.added))) n g.finished_middle;
+      finished_short = run-same {xs = xs} (front (omega (arith, done-fresh g, g.added))) n g.finished_short;
+      found_run = run-same {xs = xs} (front g.added) n g.found_run;
+      few_finished = g.few_finished;
       added = omega (arith, g.added);
       room = omega arith;
       notes = record {
@@ -77,11 +77,11 @@ module _ {xs : List ℕ} {s : CutSet} (x : ℕ) (g : Good xs s) (free : RoomForO
           (sym (front g.added i il ih) ∙ e ∙ front g.added j jl jh);
     };
     base_same = refl;
-    limit-same = refl;
-    done-same = refl;
+    limit_same = refl;
+    done_same = refl;
     finished = λ y. (narrow below y, widen below y);
     stays = λ y i. in-wide (omega arith) (omega arith) (widen (omega arith) y i);
-    run-kept = λ y i. widen g.added y i;
+    run_kept = λ y i. widen g.added y i;
     only = λ y i. ⊎_elim
         (λ j. inl (narrow (omega arith) y j))
         (λ j. let e : j.place ≡ s.used = omega (arith, j.from, j.below) in
@@ -109,24 +109,24 @@ pub gathered-stored : {P : ℕ → Type 0} {xs ys zs : List ℕ} {s t u : CutSet
 gathered-stored {s = s} {t = t} g p = record {
   good = p.good;
   base_same = p.base_same ∙ g.kept.base_same;
-  limit-same = p.limit-same ∙ g.kept.limit-same;
-  done-same = p.done-same ∙ g.done-same;
+  limit_same = p.limit_same ∙ g.kept.limit_same;
+  done_same = p.done_same ∙ g.done_same;
   finished = λ y. Iff.trans (p.finished y) (g.finished y);
   stays = λ y i. p.stays y ((g.kept.members y).1 i);
-  run-kept = λ y i. p.run-kept y (g.run-kept y i);
+  run_kept = λ y i. p.run_kept y (g.run_kept y i);
   only = λ y i. ⊎_elim (λ q. inl (g.only y q)) inr (p.only y i);
   held = p.held;
   more = omega (arith, g.more, p.more);
-  outside = λ k o. p.outside k (outside-same s t g.kept.base_same g.kept.limit-same o) ∙ g.kept.outside k o;
+  outside = λ k o. p.outside k (outside-same s t g.kept.base_same g.kept.limit_same o) ∙ g.kept.outside k o;
 }
 
 pub good-bare : {xs : List ℕ} {s : CutSet} → Good xs s → Good xs (bare s)
 good-bare g = record {
-  finished-long = g.finished-long;
-  finished-middle = g.finished-middle;
-  finished-short = g.finished-short;
-  found-run = g.found-run;
-  few-finished = g.few-finished;
+  finished_long = g.finished_long;
+  finished_middle = g.finished_middle;
+  finished_short = g.finished_short;
+  found_run = g.found_run;
+  few_finished = g.few_finished;
   added = g.added;
   room = omega (arith, g.room, g.notes.order);
   notes = record { order = omega arith; few = omega arith; noted = λ h y i. absurd (omega arith) };
@@ -139,14 +139,14 @@ gathered-bare g = record {
   kept = record {
     good = good-bare g.kept.good;
     base_same = g.kept.base_same;
-    limit-same = g.kept.limit-same;
+    limit_same = g.kept.limit_same;
     members = g.kept.members;
     outside = g.kept.outside;
   };
-  done-same = g.done-same;
+  done_same = g.done_same;
   finished = g.finished;
   only = g.only;
-  run-kept = g.run-kept;
+  run_kept = g.run_kept;
   more = g.more;
   run = g.run;
   ready = g.ready;

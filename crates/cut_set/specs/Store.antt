@@ -2,7 +2,7 @@
 --     Good xs s               s keeps a set in xs
 --     Finished, Found, Member     what is finished, what is newly found, and either
 --     NothingFound, NothingAdded      nothing is newly found; nothing was added since the set was gathered
---     foundIn, foundEnd       what is newly found, as a list; the place behind it
+--     found_in, found_end       what is newly found, as a list; the place behind it
 --     FoundRun, AllRun        what is newly found is one run; all members are
 --     Emptied, Gathered, AllFinished, Joined      what the calls that only rearrange do
 --     Stored P, Crowded P     all numbers with P are now in the set; there is no room for one of them
@@ -29,11 +29,11 @@ pub record NotesOf (xs : List ℕ) (s : CutSet) : Type 0 where
 -- newly found ones in a rising run, none of them finished; and behind it what was added since, in any order, which may be
 -- members already. To sort that, half as many places are free.
 pub record Good (xs : List ℕ) (s : CutSet) : Type 0 where
-  pub finished-long : Run xs s.base s.long
-  pub finished-middle : Run xs s.long s.mid
-  pub finished-short : Run xs s.mid s.done
-  pub found-run : Run xs s.done s.fresh
-  pub few-finished : s.done ≤ s.mid + 512
+  pub finished_long : Run xs s.base s.long
+  pub finished_middle : Run xs s.long s.mid
+  pub finished_short : Run xs s.mid s.done
+  pub found_run : Run xs s.done s.fresh
+  pub few_finished : s.done ≤ s.mid + 512
   pub added : s.fresh ≤ s.used
   pub room : s.used + (s.used - s.fresh) / 2 ≤ s.top
   pub notes : NotesOf xs s
@@ -61,11 +61,11 @@ abbrev pub NothingAdded : CutSet → Type 0
 NothingAdded s = s.fresh ≡ s.used
 
 -- the newly found members in the order of their places, and the place behind the last one
-abbrev pub foundIn : List ℕ → CutSet → List ℕ
-foundIn xs s = slice s.done s.used xs
+abbrev pub found_in : List ℕ → CutSet → List ℕ
+found_in xs s = slice s.done s.used xs
 
-abbrev pub foundEnd : CutSet → ℕ
-foundEnd s = s.used
+abbrev pub found_end : CutSet → ℕ
+found_end s = s.used
 
 -- the newly found members are one rising run, the places [done, used)
 abbrev pub FoundRun : List ℕ → CutSet → Type 0
@@ -87,27 +87,27 @@ pub record Part (xs : List ℕ) (base limit : ℕ) : Type 0 where
 -- a set with no member in that part
 pub record Emptied (xs : List ℕ) (base limit : ℕ) (s : CutSet) : Type 0 where
   pub good : Good xs s
-  pub base-is : s.base ≡ base
+  pub base_is : s.base ≡ base
   pub limit_is : s.limit ≡ limit
-  pub done-is : s.done ≡ base
-  pub fresh-is : s.fresh ≡ base
-  pub used-is : s.used ≡ base
+  pub done_is : s.done ≡ base
+  pub fresh_is : s.fresh ≡ base
+  pub used_is : s.used ≡ base
 
 -- t keeps in ys the members that s keeps in xs, in the same part
 pub record Kept (xs : List ℕ) (s : CutSet) (ys : List ℕ) (t : CutSet) : Type 0 where
   pub good : Good ys t
   pub base_same : t.base ≡ s.base
-  pub limit-same : t.limit ≡ s.limit
+  pub limit_same : t.limit ≡ s.limit
   pub members : (y : ℕ) → Member ys t y ↔ Member xs s y
   pub outside : Outside s xs ys
 
 -- besides, the newly found ones are now one run, without what was added though it was finished
 pub record Gathered (xs : List ℕ) (s : CutSet) (ys : List ℕ) (t : CutSet) : Type 0 where
   pub kept : Kept xs s ys t
-  pub done-same : t.done ≡ s.done
+  pub done_same : t.done ≡ s.done
   pub finished : (y : ℕ) → Finished ys t y ↔ Finished xs s y
   pub only : (y : ℕ) → Found ys t y → Found xs s y
-  pub run-kept : (y : ℕ) → In xs s.done s.fresh y → In ys t.done t.fresh y
+  pub run_kept : (y : ℕ) → In xs s.done s.fresh y → In ys t.done t.fresh y
   pub more : s.fresh ≤ t.fresh
   pub run : FoundRun ys t
   pub ready : NothingAdded t
@@ -115,7 +115,7 @@ pub record Gathered (xs : List ℕ) (s : CutSet) (ys : List ℕ) (t : CutSet) : 
 -- besides, all members are now finished
 pub record AllFinished (xs : List ℕ) (s : CutSet) (ys : List ℕ) (t : CutSet) : Type 0 where
   pub kept : Kept xs s ys t
-  pub used-same : t.used ≡ s.used
+  pub used_same : t.used ≡ s.used
   pub all : NothingFound t
 
 -- besides, all members are now one rising run
@@ -127,11 +127,11 @@ pub record Joined (xs : List ℕ) (s : CutSet) (ys : List ℕ) (t : CutSet) : Ty
 pub record Stored (P : ℕ → Type 0) (xs : List ℕ) (s : CutSet) (ys : List ℕ) (t : CutSet) : Type 0 where
   pub good : Good ys t
   pub base_same : t.base ≡ s.base
-  pub limit-same : t.limit ≡ s.limit
-  pub done-same : t.done ≡ s.done
+  pub limit_same : t.limit ≡ s.limit
+  pub done_same : t.done ≡ s.done
   pub finished : (y : ℕ) → Finished ys t y ↔ Finished xs s y
   pub stays : (y : ℕ) → Member xs s y → Member ys t y
-  pub run-kept : (y : ℕ) → In xs s.done s.fresh y → In ys t.done t.fresh y
+  pub run_kept : (y : ℕ) → In xs s.done s.fresh y → In ys t.done t.fresh y
   pub only : (y : ℕ) → Found ys t y → Found xs s y ⊎ P y
   pub held : (y : ℕ) → P y → Member ys t y
   pub more : s.fresh ≤ t.fresh
@@ -162,10 +162,10 @@ RoomForOne s = s.used + (s.used + 1 - s.fresh) / 2 < s.top
 
 -- the runs of a set and its notes, whatever stands behind the runs
 pub record Standing (xs : List ℕ) (s : CutSet) : Type 0 where
-  pub finished-long : Run xs s.base s.long
-  pub finished-middle : Run xs s.long s.mid
-  pub finished-short : Run xs s.mid s.done
-  pub found-run : Run xs s.done s.fresh
+  pub finished_long : Run xs s.base s.long
+  pub finished_middle : Run xs s.long s.mid
+  pub finished_short : Run xs s.mid s.done
+  pub found_run : Run xs s.done s.fresh
   pub notes : NotesOf xs s
   pub within : s.limit ≤ length xs
 

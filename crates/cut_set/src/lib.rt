@@ -8,6 +8,7 @@
 //
 // Unused places may hold notes, a bit for each member (the crate `noting`): a number that is not noted is new, and need
 // not be searched for. They give way where the places are needed.
+#![tactic(auto)]
 ghost use Rattle.std.specs.Prelude.{◌≡◌, true, ◌<◌, ◌≤◌};
 ghost use Rattle.runs.specs.Runs.{In, Answers, Bound};
 ghost use Rattle.cut_set.specs.Store.{Part, Good, FoundRun, NothingAdded, Member, Emptied, Gathered, Stored};

@@ -11,7 +11,7 @@ use Rattle.cut_set.specs.Store.{Emptied, Gathered, AllFinished, Joined, Adding}
 use Rattle.cut_set.specs.declared.CutSet.{CutSet}
 use Rattle.cut_set.specs.declared.Added.{Added}
 use Rattle.cut_set.specs.declared.Added.TheVariants.{Held, Full}
-use Rattle.cut_set_doors.specs.Doors.{setOf, AddedBy}
+use Rattle.cut_set_doors.specs.Doors.{set_of, AddedBy}
 
 pub emptied-through : {a : List ℕ} {base limit : ℕ} {t t' : CutSet} → t' ≡ t → Emptied a base limit t →
     Emptied a base limit t'
@@ -27,8 +27,8 @@ module _ {a a' : List ℕ} {s s' t t' : CutSet} (read : s ≡ s') (written : t' 
   pub joined-through : Joined a s a' t → Joined a s' a' t'
   joined-through h = rw (written, ← read) h
 
-module _ {a a' es : List ℕ} {x : ℕ} {s : CutSet} {r : Added} (read : s ≡ setOf es) where
-  pub held-through : {fs : List ℕ} {t : CutSet} → r ≡ Held t → setOf fs ≡ t → Adding a s x a' r →
+module _ {a a' es : List ℕ} {x : ℕ} {s : CutSet} {r : Added} (read : s ≡ set_of es) where
+  pub held-through : {fs : List ℕ} {t : CutSet} → r ≡ Held t → set_of fs ≡ t → Adding a s x a' r →
       AddedBy a es x a' fs true
   held-through told written h = record {
     held = λ e. rw (written, ← read) (rw told at h);

@@ -2,17 +2,18 @@
 // is eight numbers in a slice of the caller's, in the order of CutSet's fields. Nothing asks a caller in C for what a
 // `requires` says: it has to start with cut_set_empty, change neither slice but by these calls, call cut_set_gather
 // between an addition and the calls that say so, and start anew once an addition found no room.
+#![tactic(auto)]
 ghost use Rattle.std.specs.Prelude.{◌≡◌, ◌≤◌, length};
 ghost use Rattle.runs.specs.Runs.{Answers, Bound};
 ghost use Rattle.cut_set.specs.Store.{Part, FoundRun, NothingAdded, Member, Emptied, Gathered, AllFinished, Joined};
-ghost use Rattle.cut_set_doors.specs.Doors.{setOf, Lent, AddedBy};
+ghost use Rattle.cut_set_doors.specs.Doors.{set_of, Lent, AddedBy};
 
 use cut_set::{Added, CutSet};
 
 // The set that eight numbers say.
 fn read_set(ends: &[usize]) -> CutSet
     requires { 8 ≤ length ends.now }
-    ensures { result ≡ setOf ends.now }
+    ensures { result ≡ set_of ends.now }
 {
     CutSet {
         base: ends[0],
@@ -29,7 +30,7 @@ fn read_set(ends: &[usize]) -> CutSet
 // Writes a set's eight numbers.
 fn write_set(ends: &mut [usize], s: CutSet)
     requires { 8 ≤ length ends.old }
-    ensures { setOf ends.new ≡ s }
+    ensures { set_of ends.new ≡ s }
 {
     ends[0] = s.base;
     ends[1] = s.long;
@@ -46,7 +47,7 @@ fn write_set(ends: &mut [usize], s: CutSet)
 pub extern "C" fn cut_set_empty(a: &[u32], ends: &mut [usize], base: usize, limit: usize)
     requires part { Part a.now base limit }
     requires in_bounds { 8 ≤ length ends.old }
-    ensures { Emptied a.now base limit (setOf ends.new) }
+    ensures { Emptied a.now base limit (set_of ends.new) }
 {
     write_set(ends, cut_set::empty(a, base, limit));
 }
@@ -55,8 +56,8 @@ pub extern "C" fn cut_set_empty(a: &[u32], ends: &mut [usize], base: usize, limi
 #[unsafe(no_mangle)]
 pub extern "C" fn cut_set_member(a: &[u32], ends: &[usize], x: u32) -> bool
     requires lent { Lent a.now ends.now }
-    requires nothing_added { NothingAdded (setOf ends.now) }
-    ensures { Answers (Member a.now (setOf ends.now) x) result }
+    requires nothing_added { NothingAdded (set_of ends.now) }
+    ensures { Answers (Member a.now (set_of ends.now) x) result }
 {
     cut_set::member(a, read_set(ends), x)
 }
@@ -81,7 +82,7 @@ pub extern "C" fn cut_set_add(a: &mut [u32], ends: &mut [usize], x: u32) -> bool
 #[unsafe(no_mangle)]
 pub extern "C" fn cut_set_gather(a: &mut [u32], ends: &mut [usize])
     requires { Lent a.old ends.old }
-    ensures { Gathered a.old (setOf ends.old) a.new (setOf ends.new) }
+    ensures { Gathered a.old (set_of ends.old) a.new (set_of ends.new) }
 {
     let t = cut_set::gather(a, read_set(ends));
     write_set(ends, t);
@@ -91,8 +92,8 @@ pub extern "C" fn cut_set_gather(a: &mut [u32], ends: &mut [usize])
 #[unsafe(no_mangle)]
 pub extern "C" fn cut_set_first_found(a: &[u32], ends: &[usize], x: u32) -> usize
     requires lent { Lent a.now ends.now }
-    requires found_run { FoundRun a.now (setOf ends.now) }
-    ensures { Bound a.now (setOf ends.now).done (setOf ends.now).used x result }
+    requires found_run { FoundRun a.now (set_of ends.now) }
+    ensures { Bound a.now (set_of ends.now).done (set_of ends.now).used x result }
 {
     cut_set::first_found(a, read_set(ends), x)
 }
@@ -101,9 +102,9 @@ pub extern "C" fn cut_set_first_found(a: &[u32], ends: &[usize], x: u32) -> usiz
 #[unsafe(no_mangle)]
 pub extern "C" fn cut_set_finish(a: &mut [u32], ends: &mut [usize])
     requires lent { Lent a.old ends.old }
-    requires nothing_added { NothingAdded (setOf ends.old) }
-    ensures { AllFinished a.old (setOf ends.old) a.new
-        (setOf ends.new) }
+    requires nothing_added { NothingAdded (set_of ends.old) }
+    ensures { AllFinished a.old (set_of ends.old) a.new
+        (set_of ends.new) }
 {
     let t = settling::finish(a, read_set(ends));
     write_set(ends, t);
@@ -113,7 +114,7 @@ pub extern "C" fn cut_set_finish(a: &mut [u32], ends: &mut [usize])
 #[unsafe(no_mangle)]
 pub extern "C" fn cut_set_join(a: &mut [u32], ends: &mut [usize])
     requires { Lent a.old ends.old }
-    ensures { Joined a.old (setOf ends.old) a.new (setOf ends.new) }
+    ensures { Joined a.old (set_of ends.old) a.new (set_of ends.new) }
 {
     let t = settling::join(a, read_set(ends));
     write_set(ends, t);

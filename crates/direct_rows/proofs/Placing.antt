@@ -12,11 +12,11 @@ use native.Mathlib.Omega.{arith}
 use lib.ListN.{length, get_or, set, length-set}
 use lib.Seq.{get_or-set_same, get_or-set_other}
 use borrow.Author.Count.{below_more}
-use Rattle.direct_rows.specs.Direct.{placeAt, Placeable, Placed}
+use Rattle.direct_rows.specs.Direct.{place_at, Placeable, Placed}
 
 pub record PlacedTo (order places places' : List ℕ) (t : ℕ) : Type 0 where
   pub long : length places' ≡ length places
-  pub placed : (i : ℕ) → i < t → placeAt places' (get_or order i 0) ≡ i
+  pub placed : (i : ℕ) → i < t → place_at places' (get_or order i 0) ≡ i
 
 pub none-placed : {order places : List ℕ} → PlacedTo order places places 0
 none-placed = record { long = refl; placed = λ i h. absurd (omega arith) }

@@ -1,5 +1,5 @@
 -- Rows counted share by share.
---     belowShare by s r               r is in a share before s
+--     below_share by s r               r is in a share before s
 --     Below                           the pieces of the shares before one are counted
 --     below-starts, below_more        before the first share, and after one more
 --     below-bound, below_all          no more than rows; behind the last share
@@ -7,9 +7,9 @@
 -- Assumes nothing.
 use Rattle.std.proofs.Common.{◌≡◌, ℕ, ◌+◌, ◌*◌, ◌/◌, ◌<◌, ◌≤◌, Bool, true, false, cond, eqb, ltb, List, [], length, sym, ◌∙◌, zero-le, mul_comm, div-lt_iff_lt-mul, mul-lt-mul_of_pos_right, arith, lit<, le-ltb, lt-ltb, eq-eqb, ne_eqb}
 use native.Mathlib.Decide.{dec_lt, ℕ_discrete}
-use Rattle.table.specs.Distinct.{firstOfEach}
+use Rattle.table.specs.Distinct.{first_of_each}
 use Rattle.table.specs.Summing.{count}
-use Rattle.distinct_store.specs.Store.{scattered, mixed, spot, share_of, inShare, Sharing}
+use Rattle.distinct_store.specs.Store.{scattered, mixed, spot, share_of, in_share, Sharing}
 use Rattle.rows.specs.declared.Row.{Row}
 use Rattle.distinct_store.specs.declared.Dealing.{Dealing}
 use Rattle.distinct_store.specs.declared.Counting.{Counting}
@@ -17,8 +17,8 @@ use Rattle.distinct_pieces.specs.Attempts.{Attempt}
 use Rattle.table.proofs.Counting.{count-inside, count-agrees, count-every, count-no-one, count-joined}
 use Rattle.table.proofs.Pieces.{firsts-inside}
 
-abbrev pub belowShare : Dealing → ℕ → Row → Bool
-belowShare by share r = ltb (share_of by r) share
+abbrev pub below_share : Dealing → ℕ → Row → Bool
+below_share by share r = ltb (share_of by r) share
 
 next-share : (x s : ℕ) → cond (ltb x s) 1 0 + cond (eqb x s) 1 0 ≡ cond (ltb x (s + 1)) 1 0
 next-share x s =
@@ -38,32 +38,32 @@ share-below mixed shares h some =
 -- all shares before `share` are counted
 pub record Below (by : Dealing) (rs : List Row) (all share : ℕ) : Type 0 where
   pub reached : share ≤ by.shares
-  pub counted : all ≡ count (belowShare by share) (firstOfEach rs)
+  pub counted : all ≡ count (below_share by share) (first_of_each rs)
 
 pub below-starts : (by : Dealing) (rs : List Row) → Below by rs 0 0
 below-starts by rs =
-    let none = count-agrees (belowShare by 0) false (λ r. le-ltb (share_of by r) 0 (omega arith)) (firstOfEach rs) in
-    record { reached = zero-le; counted = sym (none ∙ count-no-one (firstOfEach rs)) }
+    let none = count-agrees (below_share by 0) false (λ r. le-ltb (share_of by r) 0 (omega arith)) (first_of_each rs) in
+    record { reached = zero-le; counted = sym (none ∙ count-no-one (first_of_each rs)) }
 
 module _ {by : Dealing} {rs : List Row} {all share : ℕ} (b : Below by rs all share) where
   pub below-bound : all ≤ length rs
   below-bound =
-      omega (arith, b.counted, count-inside (belowShare by share) (firstOfEach rs), firsts-inside [] rs)
+      omega (arith, b.counted, count-inside (below_share by share) (first_of_each rs), firsts-inside [] rs)
 
-  pub below_more : (found : ℕ) → share < by.shares → found ≡ count (inShare by share) (firstOfEach rs)
+  pub below_more : (found : ℕ) → share < by.shares → found ≡ count (in_share by share) (first_of_each rs)
       → Below by rs (all + found) (share + 1)
   below_more found more counted =
-      let joined = count-joined (belowShare by share) (inShare by share) (belowShare by (share + 1))
-      (λ r. next-share (share_of by r) share) (firstOfEach rs) in
+      let joined = count-joined (below_share by share) (in_share by share) (below_share by (share + 1))
+      (λ r. next-share (share_of by r) share) (first_of_each rs) in
       record { reached = omega arith; counted = omega (arith, joined, b.counted) }
 
-  pub below_all : 0 < by.shares → by.shares ≤ share → all ≡ length (firstOfEach rs)
+  pub below_all : 0 < by.shares → by.shares ≤ share → all ≡ length (first_of_each rs)
   unfolding spot mixed scattered
   below_all some ended =
       let last : share ≡ by.shares = omega (arith, b.reached) in
-      let every = count-agrees (belowShare by share) true (λ r. lt-ltb (share_of by r) share (rw last (dealt r)))
-      (firstOfEach rs) in
-      b.counted ∙ every ∙ count-every (firstOfEach rs)
+      let every = count-agrees (below_share by share) true (λ r. lt-ltb (share_of by r) share (rw last (dealt r)))
+      (first_of_each rs) in
+      b.counted ∙ every ∙ count-every (first_of_each rs)
     where
       dealt : (r : Row) → share_of by r < by.shares
       dealt r = share-below _ by.shares (omega arith) some

@@ -2,9 +2,10 @@
 // over the table counts one share with the help of a store in a local array. The factors that rows are dealt by are
 // drawn from all rows, so that no rows can be made for them. Should rows be dealt badly all the same, a count gives up
 // after so many probes; a long table is tried once more with other factors, and at last the pieces are sorted.
+#![tactic(auto)]
 ghost use Rattle.std.specs.Prelude.{◌≡◌, ◌^◌, ◌<◌, length};
 ghost use Rattle.rows.specs.Rows.{rows_of};
-ghost use Rattle.table.specs.Distinct.{firstOfEach};
+ghost use Rattle.table.specs.Distinct.{first_of_each};
 ghost use Rattle.distinct_store.specs.Store.{Sharing};
 ghost use Rattle.distinct_pieces.specs.Attempts.{Attempt};
 
@@ -192,7 +193,7 @@ fn count_long(table: &[u32], attempt: u64) -> Counting
 // What was counted; in windows, if it was given up.
 fn settled(table: &[u32], counting: Counting) -> usize
     requires { Attempt (rows_of table.now) counting }
-    ensures { result ≡ length (firstOfEach (rows_of table.now)) }
+    ensures { result ≡ length (first_of_each (rows_of table.now)) }
 {
     match counting {
         Counting::Counted { found, left: _ } => found,
@@ -202,7 +203,7 @@ fn settled(table: &[u32], counting: Counting) -> usize
 
 // A short table is one share, and not worth a large array.
 pub fn count_distinct(table: &[u32]) -> usize
-    ensures { result ≡ length (firstOfEach (rows_of table.now)) }
+    ensures { result ≡ length (first_of_each (rows_of table.now)) }
 {
     let rows = row_count(table);
     if rows <= SMALL_ROWS {

@@ -6,9 +6,9 @@
 -- Assumes nothing.
 use Rattle.std.proofs.Common.{◌≡◌, ℕ, ◌+◌, ◌<◌, ◌≤◌, Bool, true, false, cond, List, [], length, take, sym, refl, ap, ◌∙◌, zero-le, arith, length-take-le, take_all, eq-eqb, ne_eqb}
 use Rattle.rows.specs.Rows.{row_at}
-use Rattle.table.specs.Distinct.{occurs, firstsAfter, firstOfEach}
+use Rattle.table.specs.Distinct.{occurs, firsts_after, first_of_each}
 use Rattle.table.specs.Summing.{total, count}
-use Rattle.distinct_store.specs.Store.{share_of, inShare, Empty, Entered, firstsDealt, Dealt}
+use Rattle.distinct_store.specs.Store.{share_of, in_share, Empty, Entered, firsts_dealt, Dealt}
 use Rattle.rows.specs.declared.Row.{Row}
 use Rattle.distinct_store.specs.declared.Dealing.{Dealing}
 use Rattle.table.proofs.Counting.{total-snoc, count-inside}
@@ -17,7 +17,7 @@ use Rattle.distinct_store.proofs.Slots.{same-share, kept_more}
 
 pub dealt-starts : (by : Dealing) (share : ℕ) (rs : List Row) {slots : List ℕ} → Empty slots
     → Dealt by share rs slots 0 0
-unfolding total firstsAfter occurs
+unfolding total firsts_after occurs
 dealt-starts by share rs e =
     record {
       passed = zero-le;
@@ -37,22 +37,22 @@ module _ {by : Dealing} {share : ℕ} {rs : List Row} {slots : List ℕ} {found 
       omega (
         arith,
         d.counted,
-        count-inside (inShare by share) (firstOfEach (take k rs)),
+        count-inside (in_share by share) (first_of_each (take k rs)),
         firsts-inside [] (take k rs),
         length-take-le k rs d.passed,
       )
 
-  pub dealt-all : length rs ≤ k → found ≡ count (inShare by share) (firstOfEach rs)
+  pub dealt-all : length rs ≤ k → found ≡ count (in_share by share) (first_of_each rs)
   dealt-all ended = rw (take_all k rs ended) at d.counted
 
   module _ (inside : k < length rs) where
-    none_more : occurs (row_at rs k) (take k rs) ≡ true → found ≡ firstsDealt by share rs (k + 1)
-    none_more o = d.counted ∙ sym (ap (count (inShare by share)) (firsts-known rs k inside o))
+    none_more : occurs (row_at rs k) (take k rs) ≡ true → found ≡ firsts_dealt by share rs (k + 1)
+    none_more o = d.counted ∙ sym (ap (count (in_share by share)) (firsts-known rs k inside o))
 
     one_more : occurs (row_at rs k) (take k rs) ≡ false
-        → firstsDealt by share rs (k + 1) ≡ found + cond (inShare by share (row_at rs k)) 1 0
+        → firsts_dealt by share rs (k + 1) ≡ found + cond (in_share by share (row_at rs k)) 1 0
     one_more o =
-        let snoc = total-snoc (λ r. cond (inShare by share r) 1 0) (firstOfEach (take k rs)) (row_at rs k) in
+        let snoc = total-snoc (λ r. cond (in_share by share r) 1 0) (first_of_each (take k rs)) (row_at rs k) in
         rw (firsts-fresh rs k inside o, snoc, d.counted)
 
     pub dealt-other : (share_of by (row_at rs k) ≡ share → ⊥) → Dealt by share rs slots found (k + 1)
@@ -64,7 +64,7 @@ module _ {by : Dealing} {share : ℕ} {rs : List Row} {slots : List ℕ} {found 
               (λ r mine e. absurd (apart (same-share by (row_at rs k) r e ∙ mine)));
         }
       where
-        go : (b : Bool) → occurs (row_at rs k) (take k rs) ≡ b → found ≡ firstsDealt by share rs (k + 1)
+        go : (b : Bool) → occurs (row_at rs k) (take k rs) ≡ b → found ≡ firsts_dealt by share rs (k + 1)
         go true o = none_more o
         go false o = sym (one_more o ∙ rw (ne_eqb (share_of by (row_at rs k)) share apart) (omega arith))
 

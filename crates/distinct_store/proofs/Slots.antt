@@ -27,7 +27,7 @@ same_spot : (by : Dealing) (r s : Row) → same r s ≡ true → spot by r ≡ s
 unfolding spot mixed summed
 same_spot by r s e =
     let f = same-fields r s e in
-    rw (f.left-a, f.left-b, f.letters, f.direction)
+    rw (f.left_a, f.left_b, f.letters, f.direction)
 
 pub same-share : (by : Dealing) (r s : Row) → same r s ≡ true → share_of by r ≡ share_of by s
 same-share by r s e = rw (same_spot by r s e)

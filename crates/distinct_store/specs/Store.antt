@@ -5,21 +5,21 @@
 --     mixed by r                        the sum folded and scattered: what a piece is dealt by
 --     spot by r                         the same, spread over the shares
 --     share_of by r, home_of by r         the share, and the slot where looking for the piece starts
---     inShare by s r                    r is in share s
+--     in_share by s r                    r is in share s
 --     stored_at rs slots j               the row stored in slot j
 --     Inside, Empty                     every number stored is a row's; nothing is stored
 --     Held rs slots r                   a row of the same piece as r is stored
 --     Kept by s rs k slots              the slots are a store of the pieces of share s among the first k rows of rs
 --     Gap, Seeking                      what looking for a piece tells, by its answer
 --     Entered, Enrolling                what a store is and knows after one more row of its share, by its answer
---     firstsDealt by s rs k             how many pieces of share s have their first row among the first k rows of rs
+--     firsts_dealt by s rs k             how many pieces of share s have their first row among the first k rows of rs
 --     Dealt                             between two rows of a pass: so many pieces counted, and the store kept
 --     Sharing                           what the count of one share is, unless it was given up
 -- A slot holds a row's number counted from 1, or 0 where it is free. From a row's home to its slot no slot is free.
 -- Assumes nothing.
 use Rattle.std.specs.Prelude.{◌≡◌, ℕ, ◌+◌, ◌-◌, ◌*◌, ◌/◌, ◌%◌, ◌^◌, ◌<◌, ◌≤◌, Bool, true, false, List, length, take, ◌==◌, bit_xor, slice_index, slice_index_or}
 use Rattle.rows.specs.Rows.{row_at}
-use Rattle.table.specs.Distinct.{same, occurs, firstOfEach}
+use Rattle.table.specs.Distinct.{same, occurs, first_of_each}
 use Rattle.table.specs.Summing.{count}
 use Rattle.rows.specs.declared.Row.{Row}
 use Rattle.distinct_store.specs.declared.Dealing.{Dealing}
@@ -57,8 +57,8 @@ share_of by r = spot by r / 2 ^ 32
 abbrev pub home_of : Dealing → Row → ℕ
 home_of by r = spot by r % 2 ^ 32 * by.homes / 2 ^ 32
 
-abbrev pub inShare : Dealing → ℕ → Row → Bool
-inShare by share r = share_of by r == share
+abbrev pub in_share : Dealing → ℕ → Row → Bool
+in_share by share r = share_of by r == share
 
 abbrev pub stored_at : List Row → List ℕ → ℕ → Row
 stored_at rs slots j = row_at rs (slice_index slots j - 1)
@@ -102,14 +102,14 @@ Enrolling by share rs k slots (Enrolled.Known left) = Entered by share rs k slot
 Enrolling by share rs k slots (Enrolled.Fresh left) = Entered by share rs k slots false
 Enrolling by share rs k slots Enrolled.Lost = Unit {0}
 
-abbrev pub firstsDealt : Dealing → ℕ → List Row → ℕ → ℕ
-firstsDealt by share rs k = count (inShare by share) (firstOfEach (take k rs))
+abbrev pub firsts_dealt : Dealing → ℕ → List Row → ℕ → ℕ
+firsts_dealt by share rs k = count (in_share by share) (first_of_each (take k rs))
 
 pub record Dealt (by : Dealing) (share : ℕ) (rs : List Row) (slots : List ℕ) (found k : ℕ) : Type 0 where
   pub passed : k ≤ length rs
-  pub counted : found ≡ firstsDealt by share rs k
+  pub counted : found ≡ firsts_dealt by share rs k
   pub kept : Kept by share rs k slots
 
 abbrev pub Sharing : Dealing → ℕ → List Row → Counting → Type 0
-Sharing by share rs (Counting.Counted found left) = found ≡ count (inShare by share) (firstOfEach rs)
+Sharing by share rs (Counting.Counted found left) = found ≡ count (in_share by share) (first_of_each rs)
 Sharing by share rs Counting.GaveUp = Unit {0}

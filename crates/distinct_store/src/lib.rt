@@ -2,6 +2,7 @@
 // into shares by a number that depends on the piece alone, and a store holds the pieces of one share. Looking for a
 // piece goes from its home slot on to the first free one, and is given up at the last slot or when the probes that are
 // allowed are spent: the caller then deals in another way.
+#![tactic(auto)]
 ghost use Rattle.std.specs.Prelude.{◌≡◌, ◌+◌, ◌*◌, ◌^◌, ◌<◌, length};
 ghost use Rattle.rows.specs.Rows.{rows_of, row_at};
 ghost use Rattle.table.specs.Distinct.{same};

@@ -19,32 +19,32 @@ use borrow.Author.Tests.{lt-ltb, le-ltb}
 use lib.ListN.{length, take, drop}
 use Rattle.script.specs.Commands.{bit_of}
 use Rattle.script.specs.Refusals.{number_of, place_of}
-use Rattle.script.specs.Reading.{Reading, admitted, refused, readScript, verdictOf}
-use Rattle.script.specs.Finding.{findingOf}
+use Rattle.script.specs.Reading.{Reading, admitted, refused, read_script, verdict_of}
+use Rattle.script.specs.Finding.{finding_of}
 use Rattle.script.specs.declared.refusal.Refusal.{Refusal}
 use Rattle.script.specs.declared.Verdict.{Verdict}
 use Rattle.script.specs.declared.Finding.{Finding}
-use Rattle.records.specs.Writing.{writingOf}
-use Rattle.records.specs.Listing.{listingOf}
+use Rattle.records.specs.Writing.{writing_of}
+use Rattle.records.specs.Listing.{listing_of}
 use Rattle.records.specs.declared.Written.{Written}
 use Rattle.records.specs.declared.Listed.{Listed}
 use Rattle.refinement.specs.declared.Side.{Side}
-use Rattle.refining.specs.Refining.{refiningOf}
-use Rattle.refining.specs.Carrying.{carryingOf}
+use Rattle.refining.specs.Refining.{refining_of}
+use Rattle.refining.specs.Carrying.{carrying_of}
 use Rattle.refining.specs.declared.answers.Refined.{Refined}
 use Rattle.refining.specs.declared.answers.Carried.{Carried}
-use Rattle.positions.specs.CarryingAll.{carryingAllOf}
+use Rattle.positions.specs.CarryingAll.{carrying_all_of}
 use Rattle.positions.specs.declared.CarriedAll.{CarriedAll}
-use Rattle.reporting.specs.Reporting.{reportOf, reportingOfText, reportingOf}
-use Rattle.backbone.specs.Chaining.{chainingOf}
+use Rattle.reporting.specs.Reporting.{report_of, reporting_of_text, reporting_of}
+use Rattle.backbone.specs.Chaining.{chaining_of}
 use Rattle.backbone.specs.declared.Chained.{Chained}
 use Rattle.table.specs.Finding.{size_of, part_of}
-use Rattle.table.specs.Summing.{summaryOf}
-use Rattle.doors.specs.Doors.{Reply, gives, refuses, door, Read, ofReading, readDoor, OneMatch, ofFinding}
-use Rattle.doors.specs.Doors.{matchDoor, ofRefined, refineDoor, ofCarried, carryDoor, carryFromA, carryFromB}
-use Rattle.doors.specs.Doors.{rowsDoor, summaryDoor, ReportReply, ofReported, reportDoor}
-use Rattle.doors.specs.Doors.{ofWritten, writeDoor, ofListed, recordsDoor, OneChain, ofChained, chainDoor}
-use Rattle.doors.specs.Doors.{ofCarriedAll, carryAllDoor, carryAllFromA, carryAllFromB}
+use Rattle.table.specs.Summing.{summary_of}
+use Rattle.doors.specs.Doors.{Reply, gives, refuses, door, Read, of_reading, read_door, OneMatch, of_finding}
+use Rattle.doors.specs.Doors.{match_door, of_refined, refine_door, of_carried, carry_door, carry_from_a, carry_from_b}
+use Rattle.doors.specs.Doors.{rows_door, summary_door, ReportReply, of_reported, report_door}
+use Rattle.doors.specs.Doors.{of_written, write_door, of_listed, records_door, OneChain, of_chained, chain_door}
+use Rattle.doors.specs.Doors.{of_carried_all, carry_all_door, carry_all_from_a, carry_all_from_b}
 
 -- ---- what the doors on scripts share
 
@@ -52,16 +52,16 @@ data Heard (X : Type 0) : Type 0 where
   success : X → Heard X
   failure : (number place : ℕ) → Heard X
 
-abbrev heardBy : {X : Type 0} → ℕ → ℕ → X → Heard X
-heardBy zero place x = success x
-heardBy (suc n) place x = failure (suc n) place
+abbrev heard_by : {X : Type 0} → ℕ → ℕ → X → Heard X
+heard_by zero place x = success x
+heard_by (suc n) place x = failure (suc n) place
 
 abbrev heard : {X : Type 0} → Reply X → Heard X
-heard x = heardBy x.number x.place x.given
+heard x = heard_by x.number x.place x.given
 
 -- "A refusal returns its number and a place."
-abbrev refusalHeard : {X : Type 0} → Refusal → Heard X
-refusalHeard r = failure (number_of r) (place_of r)
+abbrev refusal_heard : {X : Type 0} → Refusal → Heard X
+refusal_heard r = failure (number_of r) (place_of r)
 
 -- where `place` and `was` stood behind the pointers, the reply tells y and leaves the rest
 record Hears {X : Type 0} (place : ℕ) (was : X) (y : Heard X) (x : Reply X) : Type 0 where
@@ -69,7 +69,7 @@ record Hears {X : Type 0} (place : ℕ) (was : X) (y : Heard X) (x : Reply X) : 
   -- "After success too, lent numbers .. that no rule .. names keep their values."
   place_kept : x.number ≡ 0 → x.place ≡ place
   -- "a refused call leaves each lent number unaltered"
-  rest-kept : x.number ≢ 0 → x.given ≡ was
+  rest_kept : x.number ≢ 0 → x.given ≡ was
 
 pub number-some : (r : Refusal) → 1 ≤ number_of r
 number-some Refusal.Headless = omega arith
@@ -95,171 +95,171 @@ number-some (Refusal.NoSuchSide at) = omega arith
 number-some (Refusal.MarkBeyond at) = omega arith
 number-some Refusal.CountsDiffer = omega arith
 
-some-heard : {X : Type 0} (n place : ℕ) (x : X) → 1 ≤ n → heardBy n place x ≡ failure n place
+some-heard : {X : Type 0} (n place : ℕ) (x : X) → 1 ≤ n → heard_by n place x ≡ failure n place
 some-heard zero place x h = absurd (omega arith)
 some-heard (suc n) place x h = refl
 
 module _ {X : Type 0} (place : ℕ) (was : X) where
   success-heard : (x : X) → Hears place was (success x) (door (gives x) place was)
-  success-heard x = record { told = refl; place_kept = λ _. refl; rest-kept = λ n. absurd (n refl) }
+  success-heard x = record { told = refl; place_kept = λ _. refl; rest_kept = λ n. absurd (n refl) }
 
-  refusal-heard : (r : Refusal) → Hears place was (refusalHeard r) (door (refuses r) place was)
+  refusal-heard : (r : Refusal) → Hears place was (refusal_heard r) (door (refuses r) place was)
   refusal-heard r =
       let some = number-some r in
       record {
         told = some-heard (number_of r) (place_of r) was some;
         place_kept = λ e. absurd (omega arith);
-        rest-kept = λ _. refl;
+        rest_kept = λ _. refl;
       }
 
 -- ---- the doors on scripts
 
 -- the verdict on the script
-abbrev verdictHeard : Verdict → Heard Read
-verdictHeard (Verdict.Admitted p q n k) = success (record { p = p; q = q; count = n; marks = k })
-verdictHeard (Verdict.Refused r) = refusalHeard r
+abbrev verdict_heard : Verdict → Heard Read
+verdict_heard (Verdict.Admitted p q n k) = success (record { p = p; q = q; count = n; marks = k })
+verdict_heard (Verdict.Refused r) = refusal_heard r
 
 read-heard : (script : List ℕ) (place : ℕ) (was : Read)
-    → Hears place was (verdictHeard (verdictOf (readScript script))) (readDoor script place was)
-read-heard script place was = go (readScript script)
+    → Hears place was (verdict_heard (verdict_of (read_script script))) (read_door script place was)
+read-heard script place was = go (read_script script)
   where
-    go : (a : Reading) → Hears place was (verdictHeard (verdictOf a)) (door (ofReading a) place was)
+    go : (a : Reading) → Hears place was (verdict_heard (verdict_of a)) (door (of_reading a) place was)
     go (admitted ls ms ks) = success-heard place was _
     go (refused r) = refusal-heard place was r
 
 -- the length of the script that is written
-abbrev writtenHeard : Written → Heard ℕ
-writtenHeard (Written.Bytes n) = success n
-writtenHeard (Written.Refused r) = refusalHeard r
+abbrev written_heard : Written → Heard ℕ
+written_heard (Written.Bytes n) = success n
+written_heard (Written.Refused r) = refusal_heard r
 
 write-heard : (p q : ℕ) (records marks script : List ℕ) (place was : ℕ)
-    → Hears place was (writtenHeard (writingOf p q records marks script).reply)
-    (writeDoor p q records marks script place was)
-write-heard p q records marks script place was = go (writingOf p q records marks script).reply
+    → Hears place was (written_heard (writing_of p q records marks script).reply)
+    (write_door p q records marks script place was)
+write-heard p q records marks script place was = go (writing_of p q records marks script).reply
   where
-    go : (a : Written) → Hears place was (writtenHeard a) (door (ofWritten a) place was)
+    go : (a : Written) → Hears place was (written_heard a) (door (of_written a) place was)
     go (Written.Bytes n) = success-heard place was _
     go (Written.Refused r) = refusal-heard place was r
 
 -- the lengths and the counts of the records and marks that are read
-abbrev listedHeard : Listed → Heard Read
-listedHeard (Listed.Records p q n k) = success (record { p = p; q = q; count = n; marks = k })
-listedHeard (Listed.Refused r) = refusalHeard r
+abbrev listed_heard : Listed → Heard Read
+listed_heard (Listed.Records p q n k) = success (record { p = p; q = q; count = n; marks = k })
+listed_heard (Listed.Refused r) = refusal_heard r
 
 records-heard : (script records marks : List ℕ) (place : ℕ) (was : Read)
-    → Hears place was (listedHeard (listingOf script records marks).reply) (recordsDoor script records marks place was)
-records-heard script records marks place was = go (listingOf script records marks).reply
+    → Hears place was (listed_heard (listing_of script records marks).reply) (records_door script records marks place was)
+records-heard script records marks place was = go (listing_of script records marks).reply
   where
-    go : (a : Listed) → Hears place was (listedHeard a) (door (ofListed a) place was)
+    go : (a : Listed) → Hears place was (listed_heard a) (door (of_listed a) place was)
     go (Listed.Records p q n k) = success-heard place was _
     go (Listed.Refused r) = refusal-heard place was r
 
 -- the match that is found
-abbrev findingHeard : Finding → Heard OneMatch
-findingHeard (Finding.Found m) =
+abbrev finding_heard : Finding → Heard OneMatch
+finding_heard (Finding.Found m) =
     success
-    (record { left-a = m.left_a; left-b = m.left_b; letters = m.length; reversed = bit_of m.reversed })
-findingHeard (Finding.Refused r) = refusalHeard r
+    (record { left_a = m.left_a; left_b = m.left_b; letters = m.length; reversed = bit_of m.reversed })
+finding_heard (Finding.Refused r) = refusal_heard r
 
 match-heard : (script : List ℕ) (number place : ℕ) (was : OneMatch)
-    → Hears place was (findingHeard (findingOf (readScript script) number)) (matchDoor script number place was)
-match-heard script number place was = go (findingOf (readScript script) number)
+    → Hears place was (finding_heard (finding_of (read_script script) number)) (match_door script number place was)
+match-heard script number place was = go (finding_of (read_script script) number)
   where
-    go : (a : Finding) → Hears place was (findingHeard a) (door (ofFinding a) place was)
+    go : (a : Finding) → Hears place was (finding_heard a) (door (of_finding a) place was)
     go (Finding.Found m) = success-heard place was _
     go (Finding.Refused r) = refusal-heard place was r
 
 -- the count of rows
-abbrev refinedHeard : Refined → Heard ℕ
-refinedHeard (Refined.Rows n) = success n
-refinedHeard (Refined.Refused r) = refusalHeard r
+abbrev refined_heard : Refined → Heard ℕ
+refined_heard (Refined.Rows n) = success n
+refined_heard (Refined.Refused r) = refusal_heard r
 
 refine-heard : (script table work : List ℕ) (place was : ℕ)
-    → Hears place was (refinedHeard (refiningOf script table work).reply) (refineDoor script table work place was)
-refine-heard script table work place was = go (refiningOf script table work).reply
+    → Hears place was (refined_heard (refining_of script table work).reply) (refine_door script table work place was)
+refine-heard script table work place was = go (refining_of script table work).reply
   where
-    go : (a : Refined) → Hears place was (refinedHeard a) (door (ofRefined a) place was)
+    go : (a : Refined) → Hears place was (refined_heard a) (door (of_refined a) place was)
     go (Refined.Rows n) = success-heard place was _
     go (Refined.Refused r) = refusal-heard place was r
 
 -- the score, the count of rows and the chain's length
-abbrev chainedHeard : Chained → Heard OneChain
-chainedHeard (Chained.Best s n l) = success (record { score = s; rows = n; length = l })
-chainedHeard (Chained.Refused r) = refusalHeard r
+abbrev chained_heard : Chained → Heard OneChain
+chained_heard (Chained.Best s n l) = success (record { score = s; rows = n; length = l })
+chained_heard (Chained.Refused r) = refusal_heard r
 
 chain-heard : (script : List ℕ) (price : ℕ) (table work chain scores : List ℕ) (place : ℕ) (was : OneChain)
-    → Hears place was (chainedHeard (chainingOf script price table work chain scores).reply)
-    (chainDoor script price table work chain scores place was)
-chain-heard script price table work chain scores place was = go (chainingOf script price table work chain scores).reply
+    → Hears place was (chained_heard (chaining_of script price table work chain scores).reply)
+    (chain_door script price table work chain scores place was)
+chain-heard script price table work chain scores place was = go (chaining_of script price table work chain scores).reply
   where
-    go : (a : Chained) → Hears place was (chainedHeard a) (door (ofChained a) place was)
+    go : (a : Chained) → Hears place was (chained_heard a) (door (of_chained a) place was)
     go (Chained.Best s n l) = success-heard place was _
     go (Chained.Refused r) = refusal-heard place was r
 
 -- the carried position
-abbrev carriedHeard : Carried → Heard ℕ
-carriedHeard (Carried.To x) = success x
-carriedHeard (Carried.Refused r) = refusalHeard r
+abbrev carried_heard : Carried → Heard ℕ
+carried_heard (Carried.To x) = success x
+carried_heard (Carried.Refused r) = refusal_heard r
 
 carry-heard : (side : Side) (script : List ℕ) (number position place was : ℕ)
-    → Hears place was (carriedHeard (carryingOf script number side position))
-    (carryDoor side script number position place was)
-carry-heard side script number position place was = go (carryingOf script number side position)
+    → Hears place was (carried_heard (carrying_of script number side position))
+    (carry_door side script number position place was)
+carry-heard side script number position place was = go (carrying_of script number side position)
   where
-    go : (a : Carried) → Hears place was (carriedHeard a) (door (ofCarried a) place was)
+    go : (a : Carried) → Hears place was (carried_heard a) (door (of_carried a) place was)
     go (Carried.To x) = success-heard place was _
     go (Carried.Refused r) = refusal-heard place was r
 
 module _ (script : List ℕ) (number position place was : ℕ) where
   carry-a-heard :
-      Hears place was (carriedHeard (carryingOf script number Side.A position))
-      (carryFromA script number position place was)
+      Hears place was (carried_heard (carrying_of script number Side.A position))
+      (carry_from_a script number position place was)
   carry-a-heard = carry-heard Side.A script number position place was
 
   carry-b-heard :
-      Hears place was (carriedHeard (carryingOf script number Side.B position))
-      (carryFromB script number position place was)
+      Hears place was (carried_heard (carrying_of script number Side.B position))
+      (carry_from_b script number position place was)
   carry-b-heard = carry-heard Side.B script number position place was
 
 -- the carried positions, all of them
-abbrev carriedAllHeard : CarriedAll → List ℕ → Heard (List ℕ)
-carriedAllHeard CarriedAll.All carried = success carried
-carriedAllHeard (CarriedAll.Refused r) carried = refusalHeard r
+abbrev carried_all_heard : CarriedAll → List ℕ → Heard (List ℕ)
+carried_all_heard CarriedAll.All carried = success carried
+carried_all_heard (CarriedAll.Refused r) carried = refusal_heard r
 
 carry-all-heard : (side : Side) (script : List ℕ) (number : ℕ) (positions : List ℕ) (place : ℕ) (was : List ℕ)
-    → let made = carryingAllOf script number side positions was in
-    Hears place was (carriedAllHeard made.reply made.carried)
-    (carryAllDoor side script number positions place was)
+    → let made = carrying_all_of script number side positions was in
+    Hears place was (carried_all_heard made.reply made.carried)
+    (carry_all_door side script number positions place was)
 carry-all-heard side script number positions place was =
-    let made = carryingAllOf script number side positions was in go made.reply made.carried
+    let made = carrying_all_of script number side positions was in go made.reply made.carried
   where
     go : (a : CarriedAll) (carried : List ℕ)
-        → Hears place was (carriedAllHeard a carried) (door (ofCarriedAll a carried) place was)
+        → Hears place was (carried_all_heard a carried) (door (of_carried_all a carried) place was)
     go CarriedAll.All carried = success-heard place was carried
     go (CarriedAll.Refused r) carried = refusal-heard place was r
 
 module _ (script : List ℕ) (number : ℕ) (positions : List ℕ) (place : ℕ) (was : List ℕ) where
-  carry-all-a-heard : let made = carryingAllOf script number Side.A positions was in
-      Hears place was (carriedAllHeard made.reply made.carried)
-      (carryAllFromA script number positions place was)
+  carry-all-a-heard : let made = carrying_all_of script number Side.A positions was in
+      Hears place was (carried_all_heard made.reply made.carried)
+      (carry_all_from_a script number positions place was)
   carry-all-a-heard = carry-all-heard Side.A script number positions place was
 
-  carry-all-b-heard : let made = carryingAllOf script number Side.B positions was in
-      Hears place was (carriedAllHeard made.reply made.carried)
-      (carryAllFromB script number positions place was)
+  carry-all-b-heard : let made = carrying_all_of script number Side.B positions was in
+      Hears place was (carried_all_heard made.reply made.carried)
+      (carry_all_from_b script number positions place was)
   carry-all-b-heard = carry-all-heard Side.B script number positions place was
 
 -- ---- the doors on tables
 
 -- "the very part of the caller's table that holds them"
-rows-heard : (t : List ℕ) (n : ℕ) → let x = rowsDoor t n in take (x.end - x.start) (drop x.start t) ≡ part_of n t
+rows-heard : (t : List ℕ) (n : ℕ) → let x = rows_door t n in take (x.end - x.start) (drop x.start t) ≡ part_of n t
 rows-heard t n =
-    let x = rowsDoor t n in
+    let x = rows_door t n in
     let size : x.end - x.start ≡ size_of n t = omega arith in
     rw size refl
 
-summary-heard : (t : List ℕ) → let x = summaryDoor t in
-    record { pieces = x.pieces; distinct = x.distinct; covers = x.covers; classes = x.classes } ≡ summaryOf t
+summary-heard : (t : List ℕ) → let x = summary_door t in
+    record { pieces = x.pieces; distinct = x.distinct; covers = x.covers; classes = x.classes } ≡ summary_of t
 summary-heard t = refl
 
 -- ---- the door for the text
@@ -275,11 +275,11 @@ record Texts (printed text : List ℕ) (x : ReportReply) (text' : List ℕ) : Ty
   refused : x.number ≢ 0 → x.number ≡ 16
 
 report-heard : (script text : List ℕ)
-    → Texts (reportOf script) text (reportDoor script text) (reportingOf script text).text
-report-heard script text = go (reportOf script)
+    → Texts (report_of script) text (report_door script text) (reporting_of script text).text
+report-heard script text = go (report_of script)
   where
-    go : (printed : List ℕ) → let x = reportingOfText printed text in
-        Texts printed text (ofReported x.reply) x.text
+    go : (printed : List ℕ) → let x = reporting_of_text printed text in
+        Texts printed text (of_reported x.reply) x.text
     go printed =
         elim (dec_le (length printed) (length text)) [
           | yes room ↦ rw (le-ltb (length text) (length printed) room)

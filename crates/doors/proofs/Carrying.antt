@@ -10,66 +10,66 @@ use native.Mathlib.Omega.{arith}
 use Rattle.refinement.specs.declared.Side.{Side}
 use Rattle.refinement.specs.declared.Side.TheVariants.{A, B}
 use Rattle.refinement.specs.Match.{other}
-use Rattle.refining.specs.Carrying.{carryingOf}
+use Rattle.refining.specs.Carrying.{carrying_of}
 use Rattle.refining.specs.declared.answers.Carried.{Carried}
 use Rattle.refining.specs.declared.answers.Carried.TheVariants.{To, Refused}
 use Rattle.refining.proofs.CarryingOutcome.{carrying-back}
-use Rattle.positions.specs.CarryingAll.{carryingAllOf}
+use Rattle.positions.specs.CarryingAll.{carrying_all_of}
 use Rattle.positions.specs.declared.CarriedAll.{CarriedAll}
 use Rattle.positions.proofs.Laws.{carried-back}
-use Rattle.doors.specs.Doors.{door, ofCarried, carryDoor, carryFromA, carryFromB}
-use Rattle.doors.specs.Doors.{ofCarriedAll, carryAllDoor, carryAllFromA, carryAllFromB}
+use Rattle.doors.specs.Doors.{door, of_carried, carry_door, carry_from_a, carry_from_b}
+use Rattle.doors.specs.Doors.{of_carried_all, carry_all_door, carry_all_from_a, carry_all_from_b}
 use Rattle.doors.proofs.Agreement.{number-some}
 
 module _ (script : List ℕ) (number position place was place' was' : ℕ) where
-  there_and_back : (s : Side) → let there = carryDoor s script number position place was in there.number ≡ 0
-      → carryDoor (other s) script number there.given place' was'
+  there_and_back : (s : Side) → let there = carry_door s script number position place was in there.number ≡ 0
+      → carry_door (other s) script number there.given place' was'
       ≡ record { number = 0; place = place'; given = position }
-  there_and_back s = go (carryingOf script number s position) refl
+  there_and_back s = go (carrying_of script number s position) refl
     where
-      go : (a : Carried) → carryingOf script number s position ≡ a → let there = door (ofCarried a) place was in
-          there.number ≡ 0 → carryDoor (other s) script number there.given place' was'
+      go : (a : Carried) → carrying_of script number s position ≡ a → let there = door (of_carried a) place was in
+          there.number ≡ 0 → carry_door (other s) script number there.given place' was'
           ≡ record { number = 0; place = place'; given = position }
       go (To x) e z = rw (carrying-back script number s position e)
       go (Refused r) e z = absurd (omega (arith, number-some r))
 
-  a-then-b : let there = carryFromA script number position place was in there.number ≡ 0
-      → carryFromB script number there.given place' was' ≡ record { number = 0; place = place'; given = position }
+  a-then-b : let there = carry_from_a script number position place was in there.number ≡ 0
+      → carry_from_b script number there.given place' was' ≡ record { number = 0; place = place'; given = position }
   a-then-b z = there_and_back A z
 
-  b-then-a : let there = carryFromB script number position place was in there.number ≡ 0
-      → carryFromA script number there.given place' was' ≡ record { number = 0; place = place'; given = position }
+  b-then-a : let there = carry_from_b script number position place was in there.number ≡ 0
+      → carry_from_a script number there.given place' was' ≡ record { number = 0; place = place'; given = position }
   b-then-a z = there_and_back B z
 
 module _ (script : List ℕ) (number : ℕ) (positions : List ℕ) (place : ℕ) (was : List ℕ) (place' : ℕ) (was' : List ℕ)
   where
-    all-there-and-back : (s : Side) → let there = carryAllDoor s script number positions place was in
+    all-there-and-back : (s : Side) → let there = carry_all_door s script number positions place was in
         there.number ≡ 0 → length there.given ≡ length was'
-        → carryAllDoor (other s) script number there.given place' was'
+        → carry_all_door (other s) script number there.given place' was'
         ≡ record { number = 0; place = place'; given = positions }
     all-there-and-back s =
-        let made = carryingAllOf script number s positions was in go made.reply made.carried refl refl
+        let made = carrying_all_of script number s positions was in go made.reply made.carried refl refl
       where
-        go : (a : CarriedAll) (xs : List ℕ) → (carryingAllOf script number s positions was).reply ≡ a
-            → (carryingAllOf script number s positions was).carried ≡ xs
-            → let there = door (ofCarriedAll a xs) place was in
+        go : (a : CarriedAll) (xs : List ℕ) → (carrying_all_of script number s positions was).reply ≡ a
+            → (carrying_all_of script number s positions was).carried ≡ xs
+            → let there = door (of_carried_all a xs) place was in
             there.number ≡ 0 → length there.given ≡ length was'
-            → carryAllDoor (other s) script number there.given place' was'
+            → carry_all_door (other s) script number there.given place' was'
             ≡ record { number = 0; place = place'; given = positions }
         go CarriedAll.All xs e h z long =
-            let made : carryingAllOf script number s positions was ≡ record { reply = CarriedAll.All; carried = xs } =
+            let made : carrying_all_of script number s positions was ≡ record { reply = CarriedAll.All; carried = xs } =
             rw (← e, ← h) in
             rw (carried-back script number s positions was was' xs made long)
         go (CarriedAll.Refused r) xs e h z long = absurd (omega (arith, number-some r))
 
-    all-a-then-b : let there = carryAllFromA script number positions place was in there.number ≡ 0
+    all-a-then-b : let there = carry_all_from_a script number positions place was in there.number ≡ 0
         → length there.given ≡ length was'
-        → carryAllFromB script number there.given place' was'
+        → carry_all_from_b script number there.given place' was'
         ≡ record { number = 0; place = place'; given = positions }
     all-a-then-b z = all-there-and-back A z
 
-    all-b-then-a : let there = carryAllFromB script number positions place was in there.number ≡ 0
+    all-b-then-a : let there = carry_all_from_b script number positions place was in there.number ≡ 0
         → length there.given ≡ length was'
-        → carryAllFromA script number there.given place' was'
+        → carry_all_from_a script number there.given place' was'
         ≡ record { number = 0; place = place'; given = positions }
     all-b-then-a z = all-there-and-back B z

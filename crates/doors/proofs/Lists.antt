@@ -10,15 +10,15 @@ use mathlib.Core.List.{List, ◌++◌}
 use native.Mathlib.Omega.{arith}
 use lib.ListN.{length, take, drop}
 use Rattle.script.specs.Demands.{counted}
-use Rattle.records.specs.Writing.{writingOf}
-use Rattle.records.specs.Listing.{listingOf}
+use Rattle.records.specs.Writing.{writing_of}
+use Rattle.records.specs.Listing.{listing_of}
 use Rattle.records.specs.Demands.{MatchesFirst}
 use Rattle.records.specs.declared.Written.{Written}
 use Rattle.records.specs.declared.Listed.{Listed}
 use Rattle.records.proofs.Bytes.{Bytes}
 use Rattle.records.proofs.Lists.{list_length, point-list-length}
 use Rattle.records.proofs.Demands.{writing-demand, listing-demand}
-use Rattle.doors.specs.Doors.{door, Read, ofWritten, writeDoor, ofListed, recordsDoor}
+use Rattle.doors.specs.Doors.{door, Read, of_written, write_door, of_listed, records_door}
 use Rattle.doors.proofs.Agreement.{number-some}
 
 -- ---- records to bytes to records
@@ -28,23 +28,23 @@ record ReadBack (p q : ℕ) (ns zs script lent points : List ℕ) (place : ℕ) 
   count : ℕ
   marks : ℕ
   counted : 4 * count ≡ length ns
-  counted-marks : 2 * marks ≡ length zs
+  counted_marks : 2 * marks ≡ length zs
   told :
-      recordsDoor script lent points place was
+      records_door script lent points place was
       ≡ record { number = 0; place = place; given = record { p = p; q = q; count = count; marks = marks } }
-  held : (listingOf script lent points).records ≡ ns ++ drop (length ns) lent
-  held-marks : (listingOf script lent points).marks ≡ zs ++ drop (length zs) points
+  held : (listing_of script lent points).records ≡ ns ++ drop (length ns) lent
+  held_marks : (listing_of script lent points).marks ≡ zs ++ drop (length zs) points
 
-write-then-read : (p q : ℕ) (ns zs out : List ℕ) (place was : ℕ) → let there = writeDoor p q ns zs out place was in
+write-then-read : (p q : ℕ) (ns zs out : List ℕ) (place was : ℕ) → let there = write_door p q ns zs out place was in
     there.number ≡ 0 → (lent points : List ℕ) (place' : ℕ) (was' : Read) → length ns ≤ length lent
     → length zs ≤ length points
-    → ReadBack p q ns zs (take there.given (writingOf p q ns zs out).script) lent points place' was'
+    → ReadBack p q ns zs (take there.given (writing_of p q ns zs out).script) lent points place' was'
 write-then-read p q ns zs out place was z lent points place' was' room spots =
-    go (writingOf p q ns zs out).reply refl z
+    go (writing_of p q ns zs out).reply refl z
   where
-    go : (a : Written) → (writingOf p q ns zs out).reply ≡ a
-        → let there = door (ofWritten a) place was in there.number ≡ 0
-        → ReadBack p q ns zs (take there.given (writingOf p q ns zs out).script) lent points place' was'
+    go : (a : Written) → (writing_of p q ns zs out).reply ≡ a
+        → let there = door (of_written a) place was in there.number ≡ 0
+        → ReadBack p q ns zs (take there.given (writing_of p q ns zs out).script) lent points place' was'
     go (Written.Refused r) e z = absurd (omega (arith, number-some r))
     go (Written.Bytes n) e z =
         let back = (writing-demand p q ns zs out {reply = Written.Bytes n} (sym e) refl).undone refl in
@@ -53,33 +53,33 @@ write-then-read p q ns zs out place was z lent points place' was' room spots =
           count = length back.matches;
           marks = length back.marks;
           counted = sym (list_length back.matches) ∙ ap length back.listed;
-          counted-marks = sym (point-list-length back.marks) ∙ ap length back.listed-marks;
+          counted_marks = sym (point-list-length back.marks) ∙ ap length back.listed_marks;
           told = rw again;
           held = rw again;
-          held-marks = rw again;
+          held_marks = rw again;
         }
 
 -- ---- bytes to records to bytes
 
 -- the writer's door on lengths, records and marks gives a script, in any buffer that has room for it
 record WrittenBack (s : List ℕ) (p q : ℕ) (ns zs lent : List ℕ) (place was : ℕ) : Type 0 where
-  told : writeDoor p q ns zs lent place was ≡ record { number = 0; place = place; given = length s }
+  told : write_door p q ns zs lent place was ≡ record { number = 0; place = place; given = length s }
   script : List ℕ
-  held : (writingOf p q ns zs lent).script ≡ script ++ drop (length s) lent
+  held : (writing_of p q ns zs lent).script ≡ script ++ drop (length s) lent
   same : MatchesFirst s → script ≡ s
   only : script ≡ s → MatchesFirst s
 
 read-then-write : (s : List ℕ) → Bytes s → (out points : List ℕ) (place : ℕ) (was : Read)
-    → let there = recordsDoor s out points place was in let given = there.given in
+    → let there = records_door s out points place was in let given = there.given in
     there.number ≡ 0 → (lent : List ℕ) (place' was' : ℕ) → length s ≤ length lent
-    → let x = listingOf s out points in
+    → let x = listing_of s out points in
     WrittenBack s given.p given.q (take (4 * given.count) x.records) (take (2 * given.marks) x.marks) lent
     place' was'
-read-then-write s bytes out points place was z lent place' was' room = go (listingOf s out points).reply refl z
+read-then-write s bytes out points place was z lent place' was' room = go (listing_of s out points).reply refl z
   where
-    go : (a : Listed) → (listingOf s out points).reply ≡ a
-        → let there = door (ofListed a) place was in there.number ≡ 0
-        → let given = there.given in let x = listingOf s out points in
+    go : (a : Listed) → (listing_of s out points).reply ≡ a
+        → let there = door (of_listed a) place was in there.number ≡ 0
+        → let given = there.given in let x = listing_of s out points in
         WrittenBack s given.p given.q (take (4 * given.count) x.records) (take (2 * given.marks) x.marks)
         lent place' was'
     go (Listed.Refused r) e z = absurd (omega (arith, number-some r))

@@ -2,39 +2,39 @@
 --     Reply X          the number returned, and what stands behind the pointers: the place, and what is handed out
 --     Said X           what a call of the library says, whatever its kind: something to hand out, or a refusal
 --     door             what a door makes of it
---     readDoor, matchDoor, refineDoor, carryFromA, carryFromB     the doors on scripts
---     carryAllFromA, carryAllFromB     the doors for lists of positions
---     chainDoor        the door for the backbone
---     writeDoor, recordsDoor     the doors for lists
---     rowsDoor, summaryDoor     the doors on tables, which refuse nothing
---     reportDoor       the door for the text
+--     read_door, match_door, refine_door, carry_from_a, carry_from_b     the doors on scripts
+--     carry_all_from_a, carry_all_from_b     the doors for lists of positions
+--     chain_door        the door for the backbone
+--     write_door, records_door     the doors for lists
+--     rows_door, summary_door     the doors on tables, which refuse nothing
+--     report_door       the door for the text
 -- `place` and `was` stood behind the pointers before the call. Assumes nothing.
 use Rattle.std.specs.Prelude.{ℕ, List, length}
 use Rattle.script.specs.Commands.{bit_of}
 use Rattle.script.specs.Refusals.{number_of, place_of}
-use Rattle.script.specs.Reading.{Reading, admitted, refused, readScript, letters}
-use Rattle.script.specs.Finding.{findingOf}
+use Rattle.script.specs.Reading.{Reading, admitted, refused, read_script, letters}
+use Rattle.script.specs.Finding.{finding_of}
 use Rattle.script.specs.declared.refusal.Refusal.{Refusal}
 use Rattle.script.specs.declared.refusal.Refusal.TheVariants.{BufferTooShort}
 use Rattle.script.specs.declared.Finding.{Finding}
-use Rattle.records.specs.Writing.{writingOf}
-use Rattle.records.specs.Listing.{listingOf}
+use Rattle.records.specs.Writing.{writing_of}
+use Rattle.records.specs.Listing.{listing_of}
 use Rattle.records.specs.declared.Written.{Written}
 use Rattle.records.specs.declared.Listed.{Listed}
 use Rattle.refinement.specs.declared.Side.{Side}
 use Rattle.refinement.specs.declared.Side.TheVariants.{A, B}
-use Rattle.refining.specs.Refining.{refiningOf}
-use Rattle.refining.specs.Carrying.{carryingOf}
+use Rattle.refining.specs.Refining.{refining_of}
+use Rattle.refining.specs.Carrying.{carrying_of}
 use Rattle.refining.specs.declared.answers.Refined.{Refined}
 use Rattle.refining.specs.declared.answers.Carried.{Carried}
-use Rattle.positions.specs.CarryingAll.{carryingAllOf}
+use Rattle.positions.specs.CarryingAll.{carrying_all_of}
 use Rattle.positions.specs.declared.CarriedAll.{CarriedAll}
-use Rattle.reporting.specs.Reporting.{reportingOf}
+use Rattle.reporting.specs.Reporting.{reporting_of}
 use Rattle.reporting.specs.declared.Reported.{Reported}
-use Rattle.backbone.specs.Chaining.{chainingOf}
+use Rattle.backbone.specs.Chaining.{chaining_of}
 use Rattle.backbone.specs.declared.Chained.{Chained}
 use Rattle.table.specs.Finding.{span_of}
-use Rattle.table.specs.Summing.{summaryOf}
+use Rattle.table.specs.Summing.{summary_of}
 use Rattle.table.specs.declared.finding.Span.{Span}
 use Rattle.table.specs.declared.summing.Summary.{Summary}
 
@@ -67,65 +67,65 @@ pub record Read : Type 0 where
   pub marks : ℕ
 
 -- of an admitted script its lengths and its counts of matches and marks
-abbrev pub ofReading : Reading → Said Read
-ofReading (admitted ls ms ks) =
+abbrev pub of_reading : Reading → Said Read
+of_reading (admitted ls ms ks) =
     gives (record { p = letters ls 0; q = letters ls 1; count = length ms; marks = length ks })
-ofReading (refused r) = refuses r
+of_reading (refused r) = refuses r
 
 -- notchergrey_read
-abbrev pub readDoor : List ℕ → ℕ → Read → Reply Read
-readDoor script place was = door (ofReading (readScript script)) place was
+abbrev pub read_door : List ℕ → ℕ → Read → Reply Read
+read_door script place was = door (of_reading (read_script script)) place was
 
 -- ---- lists
 
 -- SCOPE, "Written": the script's length
-abbrev pub ofWritten : Written → Said ℕ
-ofWritten (Written.Bytes n) = gives n
-ofWritten (Written.Refused r) = refuses r
+abbrev pub of_written : Written → Said ℕ
+of_written (Written.Bytes n) = gives n
+of_written (Written.Refused r) = refuses r
 
 -- notchergrey_write; what the lent bytes are after it is the library's `writingOf`
-abbrev pub writeDoor : ℕ → ℕ → List ℕ → List ℕ → List ℕ → ℕ → ℕ → Reply ℕ
-writeDoor p q records marks script place was = door (ofWritten (writingOf p q records marks script).reply) place was
+abbrev pub write_door : ℕ → ℕ → List ℕ → List ℕ → List ℕ → ℕ → ℕ → Reply ℕ
+write_door p q records marks script place was = door (of_written (writing_of p q records marks script).reply) place was
 
 -- SCOPE, "Listed": the lengths and the counts of records and marks
-abbrev pub ofListed : Listed → Said Read
-ofListed (Listed.Records p q count marks) = gives (record { p = p; q = q; count = count; marks = marks })
-ofListed (Listed.Refused r) = refuses r
+abbrev pub of_listed : Listed → Said Read
+of_listed (Listed.Records p q count marks) = gives (record { p = p; q = q; count = count; marks = marks })
+of_listed (Listed.Refused r) = refuses r
 
 -- notchergrey_read_records; what the lent numbers are after it is the library's `listingOf`
-abbrev pub recordsDoor : List ℕ → List ℕ → List ℕ → ℕ → Read → Reply Read
-recordsDoor script records marks place was = door (ofListed (listingOf script records marks).reply) place was
+abbrev pub records_door : List ℕ → List ℕ → List ℕ → ℕ → Read → Reply Read
+records_door script records marks place was = door (of_listed (listing_of script records marks).reply) place was
 
 -- ---- one match
 
 -- behind left_a, left_b, length and reversed
 pub record OneMatch : Type 0 where
-  pub left-a : ℕ
-  pub left-b : ℕ
+  pub left_a : ℕ
+  pub left_b : ℕ
   pub letters : ℕ
   pub reversed : ℕ
 
 -- of a match that is there its numbers
-abbrev pub ofFinding : Finding → Said OneMatch
-ofFinding (Finding.Found m) =
+abbrev pub of_finding : Finding → Said OneMatch
+of_finding (Finding.Found m) =
     gives
-    (record { left-a = m.left_a; left-b = m.left_b; letters = m.length; reversed = bit_of m.reversed })
-ofFinding (Finding.Refused r) = refuses r
+    (record { left_a = m.left_a; left_b = m.left_b; letters = m.length; reversed = bit_of m.reversed })
+of_finding (Finding.Refused r) = refuses r
 
 -- notchergrey_match; SCOPE, "Numbering": from 1
-abbrev pub matchDoor : List ℕ → ℕ → ℕ → OneMatch → Reply OneMatch
-matchDoor script number place was = door (ofFinding (findingOf (readScript script) number)) place was
+abbrev pub match_door : List ℕ → ℕ → ℕ → OneMatch → Reply OneMatch
+match_door script number place was = door (of_finding (finding_of (read_script script) number)) place was
 
 -- ---- refining
 
 -- SCOPE, "Success": the count of rows
-abbrev pub ofRefined : Refined → Said ℕ
-ofRefined (Refined.Rows n) = gives n
-ofRefined (Refined.Refused r) = refuses r
+abbrev pub of_refined : Refined → Said ℕ
+of_refined (Refined.Rows n) = gives n
+of_refined (Refined.Refused r) = refuses r
 
 -- notchergrey_refine; what the lent table and work buffer hold after it is the library's `refiningOf`
-abbrev pub refineDoor : List ℕ → List ℕ → List ℕ → ℕ → ℕ → Reply ℕ
-refineDoor script table work place was = door (ofRefined (refiningOf script table work).reply) place was
+abbrev pub refine_door : List ℕ → List ℕ → List ℕ → ℕ → ℕ → Reply ℕ
+refine_door script table work place was = door (of_refined (refining_of script table work).reply) place was
 
 -- ---- the backbone
 
@@ -136,52 +136,52 @@ pub record OneChain : Type 0 where
   pub length : ℕ
 
 -- SCOPE, "Chained": the score, the count of rows and the chain's length
-abbrev pub ofChained : Chained → Said OneChain
-ofChained (Chained.Best score rows length) = gives (record { score = score; rows = rows; length = length })
-ofChained (Chained.Refused r) = refuses r
+abbrev pub of_chained : Chained → Said OneChain
+of_chained (Chained.Best score rows length) = gives (record { score = score; rows = rows; length = length })
+of_chained (Chained.Refused r) = refuses r
 
 -- notchergrey_chain; what the four lent buffers hold after it is the library's `chainingOf`
-abbrev pub chainDoor : List ℕ → ℕ → List ℕ → List ℕ → List ℕ → List ℕ → ℕ → OneChain → Reply OneChain
-chainDoor script price table work chain scores place was =
-    door (ofChained (chainingOf script price table work chain scores).reply) place was
+abbrev pub chain_door : List ℕ → ℕ → List ℕ → List ℕ → List ℕ → List ℕ → ℕ → OneChain → Reply OneChain
+chain_door script price table work chain scores place was =
+    door (of_chained (chaining_of script price table work chain scores).reply) place was
 
 -- ---- carrying
 
 -- where the position lies on the other side
-abbrev pub ofCarried : Carried → Said ℕ
-ofCarried (Carried.To x) = gives x
-ofCarried (Carried.Refused r) = refuses r
+abbrev pub of_carried : Carried → Said ℕ
+of_carried (Carried.To x) = gives x
+of_carried (Carried.Refused r) = refuses r
 
 -- from the side named
-abbrev pub carryDoor : Side → List ℕ → ℕ → ℕ → ℕ → ℕ → Reply ℕ
-carryDoor side script number position place was = door (ofCarried (carryingOf script number side position)) place was
+abbrev pub carry_door : Side → List ℕ → ℕ → ℕ → ℕ → ℕ → Reply ℕ
+carry_door side script number position place was = door (of_carried (carrying_of script number side position)) place was
 
 -- notchergrey_carry_from_a
-abbrev pub carryFromA : List ℕ → ℕ → ℕ → ℕ → ℕ → Reply ℕ
-carryFromA script number position place was = carryDoor A script number position place was
+abbrev pub carry_from_a : List ℕ → ℕ → ℕ → ℕ → ℕ → Reply ℕ
+carry_from_a script number position place was = carry_door A script number position place was
 
 -- notchergrey_carry_from_b; SCOPE, "Carrying": the way back (laws a-then-b, b-then-a)
-abbrev pub carryFromB : List ℕ → ℕ → ℕ → ℕ → ℕ → Reply ℕ
-carryFromB script number position place was = carryDoor B script number position place was
+abbrev pub carry_from_b : List ℕ → ℕ → ℕ → ℕ → ℕ → Reply ℕ
+carry_from_b script number position place was = carry_door B script number position place was
 
 -- SCOPE, "Carrying together": all numbers of the lent buffer
-abbrev pub ofCarriedAll : CarriedAll → List ℕ → Said (List ℕ)
-ofCarriedAll CarriedAll.All carried = gives carried
-ofCarriedAll (CarriedAll.Refused r) carried = refuses r
+abbrev pub of_carried_all : CarriedAll → List ℕ → Said (List ℕ)
+of_carried_all CarriedAll.All carried = gives carried
+of_carried_all (CarriedAll.Refused r) carried = refuses r
 
 -- from the side named; `was` stood in the lent buffer before the call
-abbrev pub carryAllDoor : Side → List ℕ → ℕ → List ℕ → ℕ → List ℕ → Reply (List ℕ)
-carryAllDoor side script number positions place was =
-    let made = carryingAllOf script number side positions was in
-    door (ofCarriedAll made.reply made.carried) place was
+abbrev pub carry_all_door : Side → List ℕ → ℕ → List ℕ → ℕ → List ℕ → Reply (List ℕ)
+carry_all_door side script number positions place was =
+    let made = carrying_all_of script number side positions was in
+    door (of_carried_all made.reply made.carried) place was
 
 -- notchergrey_carry_all_from_a
-abbrev pub carryAllFromA : List ℕ → ℕ → List ℕ → ℕ → List ℕ → Reply (List ℕ)
-carryAllFromA script number positions place was = carryAllDoor A script number positions place was
+abbrev pub carry_all_from_a : List ℕ → ℕ → List ℕ → ℕ → List ℕ → Reply (List ℕ)
+carry_all_from_a script number positions place was = carry_all_door A script number positions place was
 
 -- notchergrey_carry_all_from_b; SCOPE, "Carrying together": the way back (laws all-a-then-b, all-b-then-a)
-abbrev pub carryAllFromB : List ℕ → ℕ → List ℕ → ℕ → List ℕ → Reply (List ℕ)
-carryAllFromB script number positions place was = carryAllDoor B script number positions place was
+abbrev pub carry_all_from_b : List ℕ → ℕ → List ℕ → ℕ → List ℕ → Reply (List ℕ)
+carry_all_from_b script number positions place was = carry_all_door B script number positions place was
 
 -- ---- tables
 
@@ -192,12 +192,12 @@ pub record RowsReply : Type 0 where
   pub end : ℕ
 
 -- always 0, and where the rows of a match stand
-abbrev pub ofSpan : Span → RowsReply
-ofSpan s = record { number = 0; start = s.start; end = s.end }
+abbrev pub of_span : Span → RowsReply
+of_span s = record { number = 0; start = s.start; end = s.end }
 
 -- notchergrey_rows_of
-abbrev pub rowsDoor : List ℕ → ℕ → RowsReply
-rowsDoor table number = ofSpan (span_of number table)
+abbrev pub rows_door : List ℕ → ℕ → RowsReply
+rows_door table number = of_span (span_of number table)
 
 -- what is returned, and what stands behind the pointers
 pub record SummaryReply : Type 0 where
@@ -208,13 +208,13 @@ pub record SummaryReply : Type 0 where
   pub classes : List ℕ
 
 -- always 0, and every number of the summary
-abbrev pub ofSummary : Summary → SummaryReply
-ofSummary s =
+abbrev pub of_summary : Summary → SummaryReply
+of_summary s =
     record { number = 0; pieces = s.pieces; distinct = s.distinct; covers = s.covers; classes = s.classes }
 
 -- notchergrey_summary
-abbrev pub summaryDoor : List ℕ → SummaryReply
-summaryDoor table = ofSummary (summaryOf table)
+abbrev pub summary_door : List ℕ → SummaryReply
+summary_door table = of_summary (summary_of table)
 
 -- ---- the text
 
@@ -224,10 +224,10 @@ pub record ReportReply : Type 0 where
   pub length : ℕ
 
 -- a text that fits: 0 and its length; else the number of a buffer that is too short, and the length that it needs
-abbrev pub ofReported : Reported → ReportReply
-ofReported (Reported.Printed n) = record { number = 0; length = n }
-ofReported (Reported.TextTooShort n) = record { number = number_of BufferTooShort; length = n }
+abbrev pub of_reported : Reported → ReportReply
+of_reported (Reported.Printed n) = record { number = 0; length = n }
+of_reported (Reported.TextTooShort n) = record { number = number_of BufferTooShort; length = n }
 
 -- notchergrey_report; what the lent text holds after it is the library's `reportingOf`
-abbrev pub reportDoor : List ℕ → List ℕ → ReportReply
-reportDoor script text = ofReported (reportingOf script text).reply
+abbrev pub report_door : List ℕ → List ℕ → ReportReply
+report_door script text = of_reported (reporting_of script text).reply

@@ -12,15 +12,15 @@ use native.Mathlib.Omega.{arith}
 use lib.ListN.{length}
 use Rattle.refinement.specs.Match.{Place}
 use Rattle.refining.specs.Columns.{Columns}
-use Rattle.tracks.specs.Engine.{booksOf, unused}
+use Rattle.tracks.specs.Engine.{books_of, unused}
 use Rattle.stepping.specs.Steps.{Going}
 use Rattle.stepping.specs.declared.Closing.{Closing}
 use Rattle.driving.specs.Driving.{Driving, Driven}
 
 abbrev pub pending : ℕ → ℕ → List ℕ → List ℕ → Closing → ℕ
 pending n cap a b Closing.Done = 0
-pending n cap a b (Closing.MoreA k) = suc (unused (booksOf a b) n cap)
-pending n cap a b (Closing.MoreB k) = suc (unused (booksOf a b) n cap)
+pending n cap a b (Closing.MoreA k) = suc (unused (books_of a b) n cap)
+pending n cap a b (Closing.MoreB k) = suc (unused (books_of a b) n cap)
 pending n cap a b Closing.TooMany = 0
 
 module _ (c : Columns) (gs : List ℕ) (g n cap free : ℕ) (ys a b : List ℕ) (marks : List Place) where
@@ -41,23 +41,23 @@ module _ (c : Columns) (gs : List ℕ) (g n cap free : ℕ) (ys a b : List ℕ) 
 -- the work and the books are as long as at the start, some marks hold, and so do those that held at the start
 pub record Kept (c : Columns) (gs : List ℕ) (g n cap : ℕ) (xs a₀ b₀ : List ℕ) (first : Closing) (ys a b : List ℕ)
     (closing : Closing) : Type 0 where
-  pub same-work : length ys ≡ length xs
-  pub same-a : length a ≡ length a₀
-  pub same-b : length b ≡ length b₀
+  pub same_work : length ys ≡ length xs
+  pub same_a : length a ≡ length a₀
+  pub same_b : length b ≡ length b₀
   pub driven : Driven c gs g n cap ys a b closing
   pub still : (marks : List Place) → Driving c gs g marks n cap xs a₀ b₀ first → Driving c gs g marks n cap ys a b closing
 
 pub kept-start :
     {c : Columns} {gs : List ℕ} {g n cap : ℕ} {xs a b : List ℕ} {first : Closing} → Driven c gs g n cap xs a b first
     → Kept c gs g n cap xs a b first xs a b first
-kept-start h = record { same-work = refl; same-a = refl; same-b = refl; driven = h; still = λ marks d. d }
+kept-start h = record { same_work = refl; same_a = refl; same_b = refl; driven = h; still = λ marks d. d }
 
 -- what a step does that the answer `due` asks for
 abbrev pub Passes :
     Columns → List ℕ → ℕ → ℕ → ℕ → List ℕ → List ℕ → List ℕ → Closing → List ℕ → List ℕ → List ℕ → Closing → Type 0
 Passes c gs g n cap xs a b due ys a' b' answer =
     (marks : List Place) → Driving c gs g marks n cap xs a b due
-    → Going c gs g marks n cap (unused (booksOf a b) n cap) ys a' b' answer
+    → Going c gs g marks n cap (unused (books_of a b) n cap) ys a' b' answer
 
 module _ {c : Columns} {gs : List ℕ} {g n cap : ℕ} {xs₀ a₀ b₀ : List ℕ} {first : Closing} {xs a b : List ℕ}
     {due : Closing} (kept : Kept c gs g n cap xs₀ a₀ b₀ first xs a b due) where
@@ -66,19 +66,19 @@ module _ {c : Columns} {gs : List ℕ} {g n cap : ℕ} {xs₀ a₀ b₀ : List �
       → Passes c gs g n cap xs a b due ys a' b' answer → Kept c gs g n cap xs₀ a₀ b₀ first ys a' b' answer
   kept_step {ys} {a'} {b'} {answer} l la lb passes =
       record {
-        same-work = l ∙ kept.same-work;
-        same-a = la ∙ kept.same-a;
-        same-b = lb ∙ kept.same-b;
+        same_work = l ∙ kept.same_work;
+        same_a = la ∙ kept.same_a;
+        same_b = lb ∙ kept.same_b;
         driven = (kept.driven.0, goes kept.driven.0 kept.driven.1);
         still = λ marks d. goes marks (kept.still marks d);
       }
     where
       goes : (marks : List Place) → Driving c gs g marks n cap xs a b due → Driving c gs g marks n cap ys a' b' answer
-      goes marks d = going-driving c gs g n cap (unused (booksOf a b) n cap) ys a' b' marks answer (passes marks d)
+      goes marks d = going-driving c gs g n cap (unused (books_of a b) n cap) ys a' b' marks answer (passes marks d)
 
   pub step_less :
       (ys a' b' : List ℕ) (answer : Closing) → Passes c gs g n cap xs a b due ys a' b' answer
-      → pending n cap a' b' answer < suc (unused (booksOf a b) n cap)
+      → pending n cap a' b' answer < suc (unused (books_of a b) n cap)
   step_less ys a' b' answer passes =
-      going_less c gs g n cap (unused (booksOf a b) n cap) ys a' b' kept.driven.0 answer
+      going_less c gs g n cap (unused (books_of a b) n cap) ys a' b' kept.driven.0 answer
       (passes kept.driven.0 kept.driven.1)

@@ -9,8 +9,8 @@ use Rattle.refinement.specs.declared.Side.TheVariants.{A, B}
 use Rattle.refinement.specs.Match.{Place}
 use Rattle.refining.specs.Columns.{Columns}
 use Rattle.refining.specs.Demands.{EveryExceeds}
-use Rattle.tracks.specs.Tracks.{Tracked, givenIn}
-use Rattle.tracks.specs.Engine.{booksOf}
+use Rattle.tracks.specs.Tracks.{Tracked, given_in}
+use Rattle.tracks.specs.Engine.{books_of}
 use Rattle.tracks.specs.Groups.{grouped}
 use Rattle.stepping.specs.Steps.{OpenWith, AllCuts}
 use Rattle.stepping.specs.declared.Closing.{Closing}
@@ -18,10 +18,10 @@ use Rattle.driving.specs.declared.Closed.{Closed}
 
 -- all is carried; or a step is due on the side named; or there are too many pieces
 abbrev pub Driving : Columns → List ℕ → ℕ → List Place → ℕ → ℕ → List ℕ → List ℕ → List ℕ → Closing → Type 0
-Driving c gs g marks n cap ys a b Closing.Done = AllCuts (grouped c gs g marks) n cap ys (booksOf a b)
+Driving c gs g marks n cap ys a b Closing.Done = AllCuts (grouped c gs g marks) n cap ys (books_of a b)
 Driving c gs g marks n cap ys a b (Closing.MoreA k) = OpenWith c gs g marks n cap ys a b k A
 Driving c gs g marks n cap ys a b (Closing.MoreB k) = OpenWith c gs g marks n cap ys a b k B
-Driving c gs g marks n cap ys a b Closing.TooMany = EveryExceeds (givenIn (grouped c gs g marks)) cap
+Driving c gs g marks n cap ys a b Closing.TooMany = EveryExceeds (given_in (grouped c gs g marks)) cap
 
 abbrev pub Driven : Columns → List ℕ → ℕ → ℕ → ℕ → List ℕ → List ℕ → List ℕ → Closing → Type 0
 Driven c gs g n cap ys a b closing = (marks : List Place) × Driving c gs g marks n cap ys a b closing
@@ -29,4 +29,4 @@ Driven c gs g n cap ys a b closing = (marks : List Place) × Driving c gs g mark
 -- the sets hold all cuts, and the least table has room; or every resolved refinement exceeds the capacity
 abbrev pub Closure : Tracked → ℕ → ℕ → List ℕ → (Side → List ℕ) → Closed → Type 0
 Closure t n cap ys books Closed.AllCuts = AllCuts t n cap ys books
-Closure t n cap ys books Closed.TooMany = EveryExceeds (givenIn t) cap
+Closure t n cap ys books Closed.TooMany = EveryExceeds (given_in t) cap

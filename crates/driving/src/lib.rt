@@ -1,8 +1,9 @@
 // The closure: steps follow each other until neither side gains a cut.
+#![tactic(auto)]
 ghost use Rattle.std.specs.Prelude.{List};
 ghost use Rattle.refinement.specs.Match.{Place};
-ghost use Rattle.refining.specs.Columns.{columnsOf};
-ghost use Rattle.tracks.specs.Engine.{booksOf};
+ghost use Rattle.refining.specs.Columns.{columns_of};
+ghost use Rattle.tracks.specs.Engine.{books_of};
 ghost use Rattle.tracks.specs.Groups.{grouped};
 ghost use Rattle.stepping.specs.Steps.{Given};
 ghost use Rattle.driving.specs.Driving.{Driving, Driven, Closure};
@@ -38,22 +39,22 @@ pub fn drive(
     first: Closing,
     capacity: usize,
 ) -> Closed
-    requires given { Given (columnsOf left_a.now right_a.now left_b.now right_b.now reversed.now) straight.now
+    requires given { Given (columns_of left_a.now right_a.now left_b.now right_b.now reversed.now) straight.now
         index_a.now index_b.now groups.now count sets }
-    requires driven { Driven (columnsOf left_a.now right_a.now left_b.now right_b.now reversed.now) groups.now
+    requires driven { Driven (columns_of left_a.now right_a.now left_b.now right_b.now reversed.now) groups.now
         count sets capacity work.old book_a.old book_b.old first }
     ensures { (marks : List Place)
         → Driving
-        (columnsOf left_a.now right_a.now left_b.now right_b.now
+        (columns_of left_a.now right_a.now left_b.now right_b.now
         reversed.now)
         groups.now count marks sets capacity work.old book_a.old
         book_b.old first
         → Closure
         (grouped
-        (columnsOf left_a.now right_a.now left_b.now right_b.now
+        (columns_of left_a.now right_a.now left_b.now right_b.now
         reversed.now)
         groups.now count marks)
-        sets capacity work.new (booksOf book_a.new book_b.new) result }
+        sets capacity work.new (books_of book_a.new book_b.new) result }
 {
     let mut closing = first;
     loop {

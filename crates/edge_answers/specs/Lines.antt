@@ -1,15 +1,15 @@
 -- The lines of the library's answers. TO READ: contracts mean what stands here.
---     readText, refinedText, carriedText          an answer of the library, as it stands at the end of a line
---     readLine, refinedLine, carriedLine          a heading, and behind it what the library answers
+--     read_text, refined_text, carried_text          an answer of the library, as it stands at the end of a line
+--     read_line, refined_line, carried_line          a heading, and behind it what the library answers
 -- Assumes nothing.
 use Rattle.std.specs.Prelude.{ℕ, List, [], ◌∷◌, ◌++◌, replicate}
-use Rattle.script.specs.Reading.{readScript, verdictOf}
+use Rattle.script.specs.Reading.{read_script, verdict_of}
 use Rattle.script.specs.Refusals.{number_of, place_of}
 use Rattle.script.specs.declared.refusal.Refusal.{Refusal}
 use Rattle.script.specs.declared.Verdict.{Verdict}
 use Rattle.refinement.specs.declared.Side.{Side}
-use Rattle.refining.specs.Refining.{refiningOf}
-use Rattle.refining.specs.Carrying.{carryingOf}
+use Rattle.refining.specs.Refining.{refining_of}
+use Rattle.refining.specs.Carrying.{carrying_of}
 use Rattle.refining.specs.declared.answers.Refined.{Refined}
 use Rattle.refining.specs.declared.answers.Carried.{Carried}
 use Rattle.text.specs.Decimal.{decimal}
@@ -31,41 +31,41 @@ newline = 10 ∷ []
 abbrev pub refused : List ℕ
 refused = 32 ∷ 114 ∷ 101 ∷ 102 ∷ 117 ∷ 115 ∷ 101 ∷ 100 ∷ 32 ∷ []
 
-abbrev pub refusedText : Refusal → List ℕ
-refusedText r = entry refused (number_of r) ++ entry blank (place_of r) ++ newline
+abbrev pub refused_text : Refusal → List ℕ
+refused_text r = entry refused (number_of r) ++ entry blank (place_of r) ++ newline
 
 -- " admitted", and the newline
 abbrev pub admitted : List ℕ
 admitted = 32 ∷ 97 ∷ 100 ∷ 109 ∷ 105 ∷ 116 ∷ 116 ∷ 101 ∷ 100 ∷ 10 ∷ []
 
-abbrev pub readText : Verdict → List ℕ
-readText (Verdict.Admitted p q count marks) = admitted
-readText (Verdict.Refused r) = refusedText r
+abbrev pub read_text : Verdict → List ℕ
+read_text (Verdict.Admitted p q count marks) = admitted
+read_text (Verdict.Refused r) = refused_text r
 
 -- " rows "
 abbrev pub rows : List ℕ
 rows = 32 ∷ 114 ∷ 111 ∷ 119 ∷ 115 ∷ 32 ∷ []
 
-abbrev pub refinedText : Refined → List ℕ
-refinedText (Refined.Rows n) = entry rows n ++ newline
-refinedText (Refined.Refused r) = refusedText r
+abbrev pub refined_text : Refined → List ℕ
+refined_text (Refined.Rows n) = entry rows n ++ newline
+refined_text (Refined.Refused r) = refused_text r
 
 -- " to "
 abbrev pub to : List ℕ
 to = 32 ∷ 116 ∷ 111 ∷ 32 ∷ []
 
-abbrev pub carriedText : Carried → List ℕ
-carriedText (Carried.To position) = entry to position ++ newline
-carriedText (Carried.Refused r) = refusedText r
+abbrev pub carried_text : Carried → List ℕ
+carried_text (Carried.To position) = entry to position ++ newline
+carried_text (Carried.Refused r) = refused_text r
 
 -- ---- lines
 
-abbrev pub readLine : List ℕ → List ℕ → List ℕ
-readLine heading script = heading ++ readText (verdictOf (readScript script))
+abbrev pub read_line : List ℕ → List ℕ → List ℕ
+read_line heading script = heading ++ read_text (verdict_of (read_script script))
 
 -- every table here has 40 numbers, which is room for eight rows
-abbrev pub refinedLine : List ℕ → List ℕ → List ℕ → List ℕ
-refinedLine heading script work = heading ++ refinedText (refiningOf script (replicate 40 0) work).reply
+abbrev pub refined_line : List ℕ → List ℕ → List ℕ → List ℕ
+refined_line heading script work = heading ++ refined_text (refining_of script (replicate 40 0) work).reply
 
-abbrev pub carriedLine : List ℕ → List ℕ → ℕ → Side → ℕ → List ℕ
-carriedLine heading script number side position = heading ++ carriedText (carryingOf script number side position)
+abbrev pub carried_line : List ℕ → List ℕ → ℕ → Side → ℕ → List ℕ
+carried_line heading script number side position = heading ++ carried_text (carrying_of script number side position)

@@ -1,8 +1,9 @@
 // Lines put into a lent text from a place on: a heading, and what the library answers. The place behind is returned.
+#![tactic(auto)]
 ghost use Rattle.std.specs.Prelude.{◌≡◌, ◌+◌, ◌≤◌, length, replicate};
-ghost use Rattle.refining.specs.Refining.{refiningOf};
+ghost use Rattle.refining.specs.Refining.{refining_of};
 ghost use Rattle.text.specs.Putting.{Put};
-ghost use Rattle.edge_answers.specs.Lines.{entry, refusedText, readLine, refinedLine, carriedLine};
+ghost use Rattle.edge_answers.specs.Lines.{entry, refused_text, read_line, refined_line, carried_line};
 
 use refinement::Side;
 use refining::answers::{Carried, Refined};
@@ -22,7 +23,7 @@ fn put_entry(text: &mut [u8], at: usize, word: &[u8], number: u64) -> usize
 
 fn put_refusal(text: &mut [u8], at: usize, refusal: Refusal) -> usize
     requires { at ≤ 2048 }
-    ensures put { Put (refusedText refusal) text.old at text.new result }
+    ensures put { Put (refused_text refusal) text.old at text.new result }
     ensures upper_bound { result ≤ at + 51 }
 {
     let next = put_entry(text, at, b" refused ", number_of(refusal) as u64);
@@ -32,7 +33,7 @@ fn put_refusal(text: &mut [u8], at: usize, refusal: Refusal) -> usize
 
 pub fn put_read(text: &mut [u8], at: usize, heading: &[u8], script: &[u8]) -> usize
     requires { (at ≤ 1024) × (length heading.now ≤ 20) }
-    ensures put { Put (readLine heading.now script.now) text.old at text.new result }
+    ensures put { Put (read_line heading.now script.now) text.old at text.new result }
     ensures upper_bound { result ≤ at + 71 }
 {
     let next = put_bytes(text, at, heading);
@@ -57,10 +58,10 @@ pub fn put_refined(
     work: &mut [u32],
 ) -> usize
     requires { (at ≤ 1024) × (length heading.now ≤ 20) }
-    ensures put { Put (refinedLine heading.now script.now work.old) text.old at
+    ensures put { Put (refined_line heading.now script.now work.old) text.old at
         text.new result }
     ensures upper_bound { result ≤ at + 71 }
-    ensures work { work.new ≡ (refiningOf script.now (replicate 40 0) work.old).work }
+    ensures work { work.new ≡ (refining_of script.now (replicate 40 0) work.old).work }
 {
     let next = put_bytes(text, at, heading);
     let mut table = [0; 40];
@@ -83,7 +84,7 @@ pub fn put_carried(
     position: u32,
 ) -> usize
     requires { (at ≤ 1024) × (length heading.now ≤ 20) }
-    ensures put { Put (carriedLine heading.now script.now number side position) text.old at
+    ensures put { Put (carried_line heading.now script.now number side position) text.old at
         text.new result }
     ensures upper_bound { result ≤ at + 71 }
 {

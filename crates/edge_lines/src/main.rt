@@ -1,10 +1,11 @@
 // Runs the lines of 01, "Small scripts at the edges", that carry no M, and prints what the library answers to each.
 // The slow program prints the same lines, and the two are compared: a line that a failed write loses shows there.
+#![tactic(auto)]
 ghost use Rattle.std.specs.Prelude.{◌≡◌, ◌++◌, ◌+◌, ◌*◌, ◌≤◌, length};
 ghost use Rattle.text.specs.Putting.{Put};
 ghost use Rattle.edge_lines.specs.Scripts.{many};
-ghost use Rattle.edge_answers.specs.Lines.{carriedLine};
-ghost use Rattle.edge_lines.specs.AllLines.{workLines, touchingLines, longLines, manyLines, edgeLines};
+ghost use Rattle.edge_answers.specs.Lines.{carried_line};
+ghost use Rattle.edge_lines.specs.AllLines.{work_lines, touching_lines, long_lines, many_lines, edge_lines};
 
 use edge_answers::{put_carried, put_read, put_refined};
 use libc::STDOUT_FILENO;
@@ -14,7 +15,7 @@ use text::{put_byte, put_bytes};
 // With a table of 40 numbers, 32 of work are enough and 31 are not.
 fn put_work_lines(text: &mut [u8], at: usize) -> usize
     requires { at ≤ 200 }
-    ensures put { Put workLines text.old at text.new result }
+    ensures put { Put work_lines text.old at text.new result }
     ensures upper_bound { result ≤ at + 142 }
 {
     let run = b"L\x0A\0\0\0\x0A\0\0\0D\0\0\0\0\0\0\0\0\x06\0\0\0R\x02\0\0\0\x03\0\0\0\x05\0\0\0E";
@@ -35,8 +36,8 @@ fn put_carried_lines(
 ) -> usize
     requires { (at ≤ 600) × (length first.now ≤ 20) × (length second.now ≤ 20) }
     ensures put { Put
-        (carriedLine first.now script.now 1 side 4
-        ++ carriedLine second.now script.now 2 side 4) text.old at text.new result }
+        (carried_line first.now script.now 1 side 4
+        ++ carried_line second.now script.now 2 side 4) text.old at text.new result }
     ensures upper_bound { result ≤ at + 142 }
 {
     let next = put_carried(text, at, first, script, 1, side, 4);
@@ -46,7 +47,7 @@ fn put_carried_lines(
 // Two matches that touch at the position 4, which belongs to both.
 fn put_touching_lines(text: &mut [u8], at: usize) -> usize
     requires { at ≤ 200 }
-    ensures put { Put touchingLines text.old at text.new result }
+    ensures put { Put touching_lines text.old at text.new result }
     ensures upper_bound { result ≤ at + 355 }
 {
     let touching =
@@ -74,7 +75,7 @@ fn put_touching_lines(text: &mut [u8], at: usize) -> usize
 // The longest sequence, and one letter more.
 fn put_long_lines(text: &mut [u8], at: usize) -> usize
     requires { at ≤ 600 }
-    ensures put { Put longLines text.old at text.new result }
+    ensures put { Put long_lines text.old at text.new result }
     ensures upper_bound { result ≤ at + 142 }
 {
     let longest = b"L\x00\xCA\x9A\x3B\x01\0\0\0E";
@@ -101,7 +102,7 @@ fn put_many(script: &mut [u8], count: usize)
 // The most matches, and one more.
 fn put_many_lines(text: &mut [u8], at: usize) -> usize
     requires { at ≤ 800 }
-    ensures put { Put manyLines text.old at text.new result }
+    ensures put { Put many_lines text.old at text.new result }
     ensures upper_bound { result ≤ at + 142 }
 {
     let mut most = [0; 26_634];
@@ -113,7 +114,7 @@ fn put_many_lines(text: &mut [u8], at: usize) -> usize
 }
 
 fn put_lines(text: &mut [u8]) -> usize
-    ensures put { Put edgeLines text.old 0 text.new result }
+    ensures put { Put edge_lines text.old 0 text.new result }
     ensures upper_bound { result ≤ 1024 }
 {
     let work = put_work_lines(text, 0);

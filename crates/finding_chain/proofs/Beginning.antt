@@ -15,7 +15,7 @@ use Rattle.refining.specs.Refining.{zeroed}
 use Rattle.direct_rows.specs.Direct.{Placed}
 use Rattle.finding_chain.specs.Finding.{DirectBy, Begun}
 use Rattle.finding_chain.proofs.Ordering.{arranged-by}
-use Rattle.finding_chain.proofs.Parts.{spareLent, placesLent, order-room, order-part, places-part, held-part}
+use Rattle.finding_chain.proofs.Parts.{spare_lent, places_lent, order-room, order-part, places-part, held-part}
 
 -- a buffer that is zero has nothing but 0 anywhere
 zero-at : (work : List ℕ) (i : ℕ) → Dec (i < length work) → get_or (zeroed work) i 0 ≡ 0
@@ -37,10 +37,10 @@ module _ {rs : List Row} {n : ℕ} (count : n ≡ length rs) {work : List ℕ} (
   pub begun :
       {d e : ℕ} (spare : List ℕ) {places order numbers : List ℕ}
       → length spare ≡ length (mid_of (3 * n) (4 * n - 3 * n) work)
-      → length places ≡ length (mid_of n (2 * n - n) (spareLent n work spare))
-      → length order ≡ length (take n (placesLent n (spareLent n work spare) places))
+      → length places ≡ length (mid_of n (2 * n - n) (spare_lent n work spare))
+      → length order ≡ length (take n (places_lent n (spare_lent n work spare) places))
       → DirectBy rs B numbers e → Placed (take e numbers) places → DirectBy rs A order d
-      → Begun rs (order ++ drop n (placesLent n (spareLent n work spare) places)) d
+      → Begun rs (order ++ drop n (places_lent n (spare_lent n work spare) places)) d
   begun {d} spare {places} {order} s p o b q a =
       let few : d ≤ n = omega (arith, a.few) in
       let orders = order-part n work room spare s places p order o few in
@@ -50,5 +50,5 @@ module _ {rs : List Row} {n : ℕ} (count : n ≡ length rs) {work : List ℕ} (
       record {
         arranged = rw (sym count, orders, here) (arranged-by a b q long);
         counted = rw orders (length-take-le d order long);
-        none-held = λ i. rw (sym count, held, clear) (zero-part work (2 * n) n i (dec_lt i n));
+        none_held = λ i. rw (sym count, held, clear) (zero-part work (2 * n) n i (dec_lt i n));
       }

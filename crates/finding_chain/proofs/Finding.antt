@@ -14,7 +14,7 @@ use Rattle.rows.specs.declared.Row.{Row}
 use Rattle.refining.specs.Refining.{zeroed}
 use Rattle.walking.specs.Trail.{Trail, Leads, Written}
 use Rattle.finding_chain.specs.declared.Found.{Found}
-use Rattle.finding_chain.specs.Finding.{Findable, FoundChain, pointsAt}
+use Rattle.finding_chain.specs.Finding.{Findable, FoundChain, points_at}
 use Rattle.finding_chain.proofs.Linking.{Told}
 
 module _ {price : ℕ} {rs : List Row} {work scores : List ℕ} {first : ℕ} (t : Told price rs work scores first) {n : ℕ}
@@ -29,7 +29,7 @@ module _ {price : ℕ} {rs : List Row} {work scores : List ℕ} {first : ℕ} (t
 
   pub chain-found :
       {work₀ chain scores₀ work' chain' scores' : List ℕ} (r : Found) → length rs ≤ length chain
-      → Written (take (2 * n - n) (drop n work)) first chain chain' r.length → r.score ≡ pointsAt scores first
+      → Written (take (2 * n - n) (drop n work)) first chain chain' r.length → r.score ≡ points_at scores first
       → work' ≡ zeroed work₀ → scores' ≡ zeroed scores₀
       → FoundChain rs price work₀ chain scores₀ r work' chain' scores'
   chain-found {chain} r h w p zero-work zero-scores =
@@ -41,8 +41,8 @@ module _ {price : ℕ} {rs : List Row} {work scores : List ℕ} {first : ℕ} (t
         backbone = rw (made, take_at ks rest r.length (sym long), p) t.backbone;
         within = omega (arith, t.short);
         past = rw made (drop_at ks rest r.length (sym long) ∙ ap (λ m. drop m chain) (sym long));
-        work-zero = zero-work;
-        scores-zero = zero-scores;
+        work_zero = zero-work;
+        scores_zero = zero-scores;
       }
 
 -- a part of a buffer that is zero is zero
@@ -55,7 +55,7 @@ module _ {rs : List Row} {price : ℕ} {work chain scores : List ℕ} (f : Finda
   where
     -- the front is zero, as the whole is
     front-zero : take m work ≡ zeroed (take m work)
-    front-zero = rw f.work-clear (take-zero m (length work))
+    front-zero = rw f.work_clear (take-zero m (length work))
 
     pub front-findable : m ≡ 4 * length rs → Findable rs price (take m work) chain scores
     front-findable e =
@@ -63,10 +63,10 @@ module _ {rs : List Row} {price : ℕ} {work chain scores : List ℕ} (f : Finda
           apart = f.apart;
           priced = f.priced;
           counted = f.counted;
-          work-room = omega (arith, length-take-le m work (omega (arith, f.work-room)));
-          work-clear = front-zero;
-          chain-room = f.chain-room;
-          score-room = f.score-room;
+          work_room = omega (arith, length-take-le m work (omega (arith, f.work_room)));
+          work_clear = front-zero;
+          chain_room = f.chain_room;
+          score_room = f.score_room;
         }
 
     pub front-found :
@@ -78,7 +78,7 @@ module _ {rs : List Row} {price : ℕ} {work chain scores : List ℕ} (f : Finda
           backbone = g.backbone;
           within = g.within;
           past = g.past;
-          work-zero =
-              ap (◌++ drop m work) (g.work-zero ∙ sym front-zero) ∙ take-append-drop m work ∙ f.work-clear;
-          scores-zero = g.scores-zero;
+          work_zero =
+              ap (◌++ drop m work) (g.work_zero ∙ sym front-zero) ∙ take-append-drop m work ∙ f.work_clear;
+          scores_zero = g.scores_zero;
         }

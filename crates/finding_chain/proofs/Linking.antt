@@ -16,35 +16,35 @@ use Rattle.backbone.specs.Backbone.{Backbone}
 use Rattle.best_chains.specs.Best.{Apart, Known, Outdone}
 use Rattle.best_chains.proofs.Chains.{chain-short}
 use Rattle.best_chains.proofs.Backbones.{backbone-from, backbone-none}
-use Rattle.weighing.specs.Weighing.{scoreAt}
+use Rattle.weighing.specs.Weighing.{score_at}
 use Rattle.best_rows.proofs.Halves.{halved-empty}
 use Rattle.walking.specs.Trail.{Trail, ends}
-use Rattle.linking.specs.Linking.{linksIn, Linked, Foremost}
-use Rattle.finding_chain.specs.Finding.{Begun, pointsAt}
+use Rattle.linking.specs.Linking.{links_in, Linked, Foremost}
+use Rattle.finding_chain.specs.Finding.{Begun, points_at}
 
 module _ {price : ℕ} {rs : List Row} {work scores : List ℕ} {d : ℕ} where
   pub linked-none :
       Begun rs work d → 4 * length rs ≤ length work → length rs ≤ length scores → Linked price rs d 0 work scores 0
   linked-none b w s =
       record {
-        places = linksIn (length rs) work;
+        places = links_in (length rs) work;
         arranged = b.arranged;
         counted = b.counted;
         so_far = omega arith;
-        work-room = w;
-        score-room = s;
+        work_room = w;
+        score_room = s;
         waiting = λ i l h. refl;
         linked = λ k m. absurd (Memᴰ.not-nil m);
-        holding = record { holding = λ i h. omega (arith, b.none-held i) };
-        halved = halved-empty (λ i _ _. b.none-held i);
+        holding = record { holding = λ i h. omega (arith, b.none_held i) };
+        halved = halved-empty (λ i _ _. b.none_held i);
         begins = inl (refl, refl);
       }
 
 -- the links lead from the first row through the backbone
 pub record Told (price : ℕ) (rs : List Row) (work scores : List ℕ) (first : ℕ) : Type 0 where
   pub chain : List ℕ
-  pub trail : Trail (linksIn (length rs) work) first chain
-  pub backbone : Backbone price rs chain (pointsAt scores first)
+  pub trail : Trail (links_in (length rs) work) first chain
+  pub backbone : Backbone price rs chain (points_at scores first)
   pub short : length chain ≤ length rs
   pub there : first ≤ length rs
 
@@ -68,10 +68,10 @@ module _ {price : ℕ} {rs : List Row} {work scores : List ℕ} {d first : ℕ} 
   some-told m =
       let row = l.linked first m.one in
       let q = (l.arranged.direct first).0 m.one in
-      let known : (j : ℕ) → Direct rs j → Known price rs j (λ n. Outdone n (scoreAt scores first) first j) = λ j r.
+      let known : (j : ℕ) → Direct rs j → Known price rs j (λ n. Outdone n (score_at scores first) first j) = λ j r.
       let i = (l.arranged.direct j).1 r in
       let other = l.linked j i in
-      record { rest = other.rest; score = scoreAt scores j; best = other.best; such = m.most j i }
+      record { rest = other.rest; score = score_at scores j; best = other.best; such = m.most j i }
       in
       record {
         chain = first ∷ row.rest;

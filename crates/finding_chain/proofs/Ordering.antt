@@ -21,7 +21,7 @@ use Rattle.backbone.specs.Chains.{Direct}
 use Rattle.row_order.specs.Order.{Ahead, Named, Sorted}
 use Rattle.backbone.proofs.Places.{at-∈, ∈-at}
 use Rattle.row_order.proofs.Order.{ahead-not, in-order-rising}
-use Rattle.direct_rows.specs.Direct.{Collected, placeAt, Placeable, Placed}
+use Rattle.direct_rows.specs.Direct.{Collected, place_at, Placeable, Placed}
 use Rattle.linking.specs.Linking.{Arranged}
 use Rattle.finding_chain.specs.Finding.{DirectBy}
 
@@ -89,14 +89,14 @@ module _ {rs : List Row} {s : Side} {xs : List ℕ} {d : ℕ} (b : DirectBy rs s
 
 -- k stands at the place that is noted for it
 record Stands (order places : List ℕ) (k : ℕ) : Type 0 where
-  within : placeAt places k < length order
-  it : get_or order (placeAt places k) 0 ≡ k
+  within : place_at places k < length order
+  it : get_or order (place_at places k) 0 ≡ k
 
 -- a number of the order stands there
 stands : {order places : List ℕ} {k : ℕ} → Placed order places → k ∈ order → Stands order places k
 stands {order} {places} {k} p m =
     let o = ∈-at m in
-    let e : placeAt places k ≡ o.0 = rw o.2 at (p.placed o.0 o.1) in
+    let e : place_at places k ≡ o.0 = rw o.2 at (p.placed o.0 o.1) in
     record { within = omega (arith, o.1); it = rw e o.2 }
 
 module _ {rs : List Row} {xs ys places : List ℕ} {d e : ℕ} (a : DirectBy rs A xs d) (b : DirectBy rs B ys e)
@@ -107,18 +107,18 @@ module _ {rs : List Row} {xs ys places : List ℕ} {d e : ℕ} (a : DirectBy rs 
 
   module _ {j k : ℕ} (m : j ∈ take d xs) (n : k ∈ take d xs) where
     -- the row at the lower place is ahead
-    place-ahead : placeAt places j < placeAt places k → Ahead rs B j k
+    place-ahead : place_at places j < place_at places k → Ahead rs B j k
     place-ahead l =
-        rw ((at m).it, (at n).it) at (b.in_order.ahead (placeAt places j) (placeAt places k) l (at n).within)
+        rw ((at m).it, (at n).it) at (b.in_order.ahead (place_at places j) (place_at places k) l (at n).within)
 
     -- at one place stands one row
-    same_place : placeAt places j ≡ placeAt places k → j ≡ k
+    same_place : place_at places j ≡ place_at places k → j ≡ k
     same_place o = sym (at m).it ∙ ap (λ i. get_or (take e ys) i 0) o ∙ (at n).it
 
   -- the row that is ahead has the lower place
   ahead-place :
-      {j k : ℕ} → j ∈ take d xs → k ∈ take d xs → Ahead rs B j k → Dec (placeAt places j < placeAt places k)
-      → Dec (placeAt places j ≡ placeAt places k) → placeAt places j < placeAt places k
+      {j k : ℕ} → j ∈ take d xs → k ∈ take d xs → Ahead rs B j k → Dec (place_at places j < place_at places k)
+      → Dec (place_at places j ≡ place_at places k) → place_at places j < place_at places k
   ahead-place m n f (yes l) same = l
   ahead-place {j} {k} m n f (no l) (yes o) =
       let g : Ahead rs B k k = rw (same_place m n o) at f in absurd (ahead-not rs B k k g g)
@@ -131,9 +131,9 @@ module _ {rs : List Row} {xs ys places : List ℕ} {d e : ℕ} (a : DirectBy rs 
         direct = a.direct;
         few = omega (arith, length-take-le d xs h, a.few);
         below = λ k m. omega (arith, (at m).within, no_longer b a);
-        by-b = λ j k m n. (
+        by_b = λ j k m n. (
           place-ahead m n,
           λ f.
-              let q = placeAt places in ahead-place m n f (dec_lt (q j) (q k)) (ℕ_discrete (q j) (q k)),
+              let q = place_at places in ahead-place m n f (dec_lt (q j) (q k)) (ℕ_discrete (q j) (q k)),
         );
       }

@@ -1,6 +1,6 @@
 -- The parts of a work buffer for n rows: the fourth is lent for sorting, the second for places, and the first for the
 -- order of A.
---     spareLent, placesLent     the buffer once the fourth part was lent, and then the second
+--     spare_lent, places_lent     the buffer once the fourth part was lent, and then the second
 --     spare-long, places-long   lending keeps its length
 --     places-room, order-room   the parts that are lent have n numbers
 --     order-part, places-part, held-part     what the parts are once the first was lent too
@@ -20,23 +20,23 @@ front-part xs ys a n h =
     rw (drop-append-le a xs ys (omega arith), take-append-le n (drop a xs) ys l)
 
 -- the fourth part is lent
-abbrev pub spareLent : ℕ → List ℕ → List ℕ → List ℕ
-spareLent n work spare = put_mid (3 * n) (4 * n - 3 * n) work spare
+abbrev pub spare_lent : ℕ → List ℕ → List ℕ → List ℕ
+spare_lent n work spare = put_mid (3 * n) (4 * n - 3 * n) work spare
 
 -- the second part is lent
-abbrev pub placesLent : ℕ → List ℕ → List ℕ → List ℕ
-placesLent n work places = put_mid n (2 * n - n) work places
+abbrev pub places_lent : ℕ → List ℕ → List ℕ → List ℕ
+places_lent n work places = put_mid n (2 * n - n) work places
 
 module _ (n : ℕ) (work : List ℕ) (room : 4 * n ≤ length work) (spare : List ℕ)
     (spare-as : length spare ≡ length (mid_of (3 * n) (4 * n - 3 * n) work)) where
-  pub spare-long : length (spareLent n work spare) ≡ length work
+  pub spare-long : length (spare_lent n work spare) ≡ length work
   spare-long = same_len_mid (3 * n) (4 * n - 3 * n) work spare spare-as
 
-  pub places-room : length (mid_of n (2 * n - n) (spareLent n work spare)) ≡ n
-  places-room = mid_len n (2 * n) (spareLent n work spare) (omega (arith, spare-long)) ∙ omega arith
+  pub places-room : length (mid_of n (2 * n - n) (spare_lent n work spare)) ≡ n
+  places-room = mid_len n (2 * n) (spare_lent n work spare) (omega (arith, spare-long)) ∙ omega arith
 
   -- the third part is as it was
-  held-spare : take n (drop (2 * n) (spareLent n work spare)) ≡ take n (drop (2 * n) work)
+  held-spare : take n (drop (2 * n) (spare_lent n work spare)) ≡ take n (drop (2 * n) work)
   held-spare =
       let front = take (3 * n) work in
       let long = length-take-le (3 * n) work (omega arith) in
@@ -44,13 +44,13 @@ module _ (n : ℕ) (work : List ℕ) (room : 4 * n ≤ length work) (spare : Lis
       ∙ sym (front-part front (drop (3 * n) work) (2 * n) n (omega arith))
       ∙ ap (λ l. take n (drop (2 * n) l)) (take-append-drop (3 * n) work)
 
-  module _ (places : List ℕ) (places-as : length places ≡ length (mid_of n (2 * n - n) (spareLent n work spare))) where
+  module _ (places : List ℕ) (places-as : length places ≡ length (mid_of n (2 * n - n) (spare_lent n work spare))) where
     -- the buffer once both were lent
     abbrev both : List ℕ
-    both = placesLent n (spareLent n work spare) places
+    both = places_lent n (spare_lent n work spare) places
 
     pub places-long : length both ≡ length work
-    places-long = same_len_mid n (2 * n - n) (spareLent n work spare) places places-as ∙ spare-long
+    places-long = same_len_mid n (2 * n - n) (spare_lent n work spare) places places-as ∙ spare-long
 
     pub order-room : length (take n both) ≡ n
     order-room = length-take-le n both (omega (arith, places-long))
@@ -65,9 +65,9 @@ module _ (n : ℕ) (work : List ℕ) (room : 4 * n ≤ length work) (spare : Lis
 
       pub places-part : take n (drop n (order ++ drop n both)) ≡ places
       places-part =
-          let front = take n (spareLent n work spare) in
-          let post = drop (2 * n - n) (drop n (spareLent n work spare)) in
-          let long = length-take-le n (spareLent n work spare) (omega (arith, spare-long)) in
+          let front = take n (spare_lent n work spare) in
+          let post = drop (2 * n - n) (drop n (spare_lent n work spare)) in
+          let long = length-take-le n (spare_lent n work spare) (omega (arith, spare-long)) in
           ap (take n) (behind ∙ drop_at front (places ++ post) n long)
           ∙ take_at places post n (places-as ∙ places-room)
 
@@ -81,6 +81,6 @@ module _ (n : ℕ) (work : List ℕ) (room : 4 * n ≤ length work) (spare : Lis
           (sym (past (order ++ drop n both))
           ∙ ap (drop n) behind
           ∙ past both
-          ∙ drop_put n (2 * n) (spareLent n work spare) places (omega arith) (omega (arith, spare-long))
-          (places-as ∙ mid_len n (2 * n) (spareLent n work spare) (omega (arith, spare-long))))
+          ∙ drop_put n (2 * n) (spare_lent n work spare) places (omega arith) (omega (arith, spare-long))
+          (places-as ∙ mid_len n (2 * n) (spare_lent n work spare) (omega (arith, spare-long))))
           ∙ held-spare

@@ -1,8 +1,9 @@
 // The backbone of a table that refining made, worked out in the lent buffers.
+#![tactic(auto)]
 ghost use Rattle.std.specs.Prelude.{◌≡◌, ◌*◌, ◌^◌, ◌≤◌, ◌<◌, length};
 ghost use Rattle.rows.specs.Rows.{rows_of};
 ghost use Rattle.refining.specs.Refining.{zeroed};
-ghost use Rattle.finding_chain.specs.Finding.{Findable, FoundChain, DirectBy, Begun, pointsAt};
+ghost use Rattle.finding_chain.specs.Finding.{Findable, FoundChain, DirectBy, Begun, points_at};
 
 use clearing::clear;
 use direct_rows::{collect, place_all};
@@ -48,7 +49,7 @@ fn arrange(table: &[u32], work: &mut [u32], scores: &mut [u32]) -> usize
 // The score of the best chain from a row; 0 is none.
 fn points(scores: &[u32], number: u32) -> u64
     requires { number ≤ length scores.now }
-    ensures { result ≡ pointsAt scores.now number }
+    ensures { result ≡ points_at scores.now number }
 {
     if number == 0 {
         0

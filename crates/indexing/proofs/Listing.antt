@@ -13,7 +13,7 @@ use mathlib.Core.List.{List, ◌++◌}
 use lib.ListN.{length, get_or, set, length-set, get_or-append}
 use lib.Seq.{get_or-set_same, get_or-set_other}
 use Rattle.runs.specs.Runs.{Same}
-use Rattle.arrangement.specs.Index.{Order, startsAt, ends_at, indexRoom}
+use Rattle.arrangement.specs.Index.{Order, starts_at, ends_at, index_room}
 use Rattle.arranging.proofs.Ordering.{order_same}
 use Rattle.indexing.specs.Bounds.{Lower, Arranged, Listed}
 
@@ -24,7 +24,7 @@ pub record ListedFrom (xs f g ys : List ℕ) (low k : ℕ) : Type 0 where
   pub kept : Same xs ys 0 (length f)
   pub lowest : (j : ℕ) → k ≤ j → j < length f → low ≤ get_or f (get_or ys j 0) 0
   pub starts : (i j : ℕ) → k ≤ i → i ≤ j → j < length f
-      → get_or ys (startsAt (length f) + i) 0 ≤ get_or f (get_or ys j 0) 0
+      → get_or ys (starts_at (length f) + i) 0 ≤ get_or f (get_or ys j 0) 0
   pub ends : (j : ℕ) → k ≤ j → j < length f → get_or g (get_or ys j 0) 0 ≤ get_or ys (ends_at (length f) + j) 0
 
 pub listing-starts : {xs f g : List ℕ} {low : ℕ} → ListedFrom xs f g xs low (length f)
@@ -38,7 +38,7 @@ listing-starts = record {
 }
 
 module _ {xs f g ys : List ℕ} {low next k : ℕ} (h : ListedFrom xs f g ys low next) (some : 0 < next)
-    (is : k ≡ next - 1) (room : indexRoom (length f) ≤ length xs) where
+    (is : k ≡ next - 1) (room : index_room (length f) ≤ length xs) where
   below_end : k < length f
   below_end = omega (arith, h.to)
 
@@ -111,7 +111,7 @@ listing-ends h l o = record {
 
 pub arranged :
     (part rest : List ℕ) {f g : List ℕ} → Order part (length f) → length part ≡ length f → length f ≡ length g
-    → indexRoom (length f) ≤ length (part ++ rest) → Arranged (part ++ rest) f g
+    → index_room (length f) ≤ length (part ++ rest) → Arranged (part ++ rest) f g
 arranged part rest o size same room = record {
   same_length = same;
   room = room;

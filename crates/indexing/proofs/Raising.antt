@@ -13,7 +13,7 @@ use mathlib.Core.List.{List}
 use lib.ListN.{length, get_or, set, length-set}
 use lib.Seq.{get_or-set_same, get_or-set_other}
 use Rattle.runs.specs.Runs.{Same}
-use Rattle.arrangement.specs.Index.{blocksOf, blockStart, levelRoom, indexRoom, startsAt, ends_at}
+use Rattle.arrangement.specs.Index.{blocks_of, block_start, level_room, index_room, starts_at, ends_at}
 use Rattle.arrangement.specs.Index.{Levels, Indexed}
 use Rattle.arranging.proofs.Ordering.{order_same}
 use Rattle.indexing.specs.Bounds.{Higher, Bounding, Listed, Overlaid, Raised}
@@ -42,14 +42,14 @@ bounding-all b h = record { bound = λ j l u. b.bound j l (omega arith) }
 pub record OverlaidTo (xs : List ℕ) (at count : ℕ) (ys : List ℕ) (b : ℕ) : Type 0 where
   pub long : length ys ≡ length xs
   pub kept : Same xs ys 0 (at + count)
-  pub bounds : (j : ℕ) → j < blockStart b count → get_or ys (at + j) 0 ≤ get_or ys (at + count + j / 16) 0
+  pub bounds : (j : ℕ) → j < block_start b count → get_or ys (at + j) 0 ≤ get_or ys (at + count + j / 16) 0
 
 pub overlay-starts : {xs : List ℕ} {at count : ℕ} → OverlaidTo xs at count xs 0
 overlay-starts = record { long = refl; kept = λ j l u. refl; bounds = λ j u. absurd (omega arith) }
 
 module _ {xs ys : List ℕ} {at count b first last high : ℕ} (o : OverlaidTo xs at count ys b)
-    (is-first : first ≡ blockStart b count) (is_last : last ≡ blockStart (b + 1) count)
-    (room : at + levelRoom count ≤ length xs) (l : b < blocksOf count) (many : 16 < count)
+    (is-first : first ≡ block_start b count) (is_last : last ≡ block_start (b + 1) count)
+    (room : at + level_room count ≤ length xs) (l : b < blocks_of count) (many : 16 < count)
     (h : Bounding ys (at + first) (at + last) high) where
   at_block : get_or (set ys (at + count + b) high) (at + count + b) 0 ≡ high
   at_block = get_or-set_same ys (at + count + b) high 0 (omega (arith, o.long))
@@ -70,7 +70,7 @@ module _ {xs ys : List ℕ} {at count b first last high : ℕ} (o : OverlaidTo x
   }
 
 pub overlay-ends :
-    {xs ys : List ℕ} {at count b : ℕ} → OverlaidTo xs at count ys b → blocksOf count ≤ b → Overlaid xs at count ys
+    {xs ys : List ℕ} {at count b : ℕ} → OverlaidTo xs at count ys b → blocks_of count ≤ b → Overlaid xs at count ys
 overlay-ends o l = record { kept = o.kept; covered = λ j u. o.bounds j (omega arith) }
 
 -- ---- all levels
@@ -79,7 +79,7 @@ pub raised-top : {xs : List ℕ} {at count : ℕ} → count ≤ 16 → Raised xs
 raised-top h = record { kept = λ j l u. refl; levels = Levels.top h }
 
 pub raised-above :
-    {xs ys zs : List ℕ} {at count blocks : ℕ} → Overlaid xs at count ys → blocks ≡ blocksOf count
+    {xs ys zs : List ℕ} {at count blocks : ℕ} → Overlaid xs at count ys → blocks ≡ blocks_of count
     → Raised ys (at + count) blocks zs → Raised xs at count zs
 raised-above {at = at} {count} o e r = record {
   kept = λ j l u. r.kept j l (omega arith) ∙ o.kept j l u;
@@ -96,7 +96,7 @@ raised-above {at = at} {count} o e r = record {
 -- ---- the index
 
 pub indexed :
-    {xs f g ys : List ℕ} → indexRoom (length f) ≤ length ys → Listed xs f g
+    {xs f g ys : List ℕ} → index_room (length f) ≤ length ys → Listed xs f g
     → Raised xs (length f + length f) (length f) ys → Indexed ys f g
 indexed {f = f} room b r = record {
   room = room;
@@ -105,7 +105,7 @@ indexed {f = f} room b r = record {
     starts = λ k j l u.
         rw (
           r.kept j (omega arith) (omega arith),
-          r.kept (startsAt (length f) + k) (omega arith) (omega arith),
+          r.kept (starts_at (length f) + k) (omega arith) (omega arith),
         )
         (b.listed.starts k j l u);
     ends = λ k u.

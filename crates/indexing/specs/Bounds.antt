@@ -9,7 +9,7 @@
 -- Assumes nothing.
 use Rattle.std.specs.Prelude.{ℕ, ◌+◌, ◌≤◌, ◌<◌, ◌≡◌, List, length, get_or}
 use Rattle.runs.specs.Runs.{Same}
-use Rattle.arrangement.specs.Index.{Order, indexRoom, EndsListed, Covered, Levels}
+use Rattle.arrangement.specs.Index.{Order, index_room, EndsListed, Covered, Levels}
 
 -- r is at most the lesser of x and y
 pub record Lower (x y r : ℕ) : Type 0 where
@@ -27,7 +27,7 @@ pub record Bounding (xs : List ℕ) (first last r : ℕ) : Type 0 where
 -- xs begins with an order of the matches with the left ends f and the right ends g, and their index fits in it
 pub record Arranged (xs f g : List ℕ) : Type 0 where
   pub same_length : length f ≡ length g
-  pub room : indexRoom (length f) ≤ length xs
+  pub room : index_room (length f) ≤ length xs
   pub order : Order xs (length f)
 
 -- xs begins with an order of the matches and their ends

@@ -1,6 +1,7 @@
 // Making the index of the matches by their ends on one side.
+#![tactic(auto)]
 ghost use Rattle.std.specs.Prelude.{◌≡◌, ◌+◌, ◌<◌, ◌≤◌, length};
-ghost use Rattle.arrangement.specs.Index.{levelRoom, indexRoom, Indexed};
+ghost use Rattle.arrangement.specs.Index.{level_room, index_room, Indexed};
 ghost use Rattle.indexing.specs.Bounds.{Lower, Higher, Bounding, Arranged, Listed, Overlaid, Raised};
 
 use arrangement::{BLOCK, block_start, blocks_of};
@@ -9,7 +10,7 @@ use arranging::arrange;
 // How many places an index of n matches takes.
 pub fn index_room(n: usize) -> usize
     requires { n ≤ 4294967296 }
-    ensures { result ≡ indexRoom n }
+    ensures { result ≡ index_room n }
 {
     n + n + n + n / 8
 }
@@ -62,7 +63,7 @@ fn highest(index: &[u32], first: usize, last: usize) -> u32
 
 // Makes the level above one of so many numbers.
 fn overlay(index: &mut [u32], at: usize, count: usize)
-    requires count_in_bounds { at + levelRoom count ≤ length index.old }
+    requires count_in_bounds { at + level_room count ≤ length index.old }
     requires lt_count { 16 < count }
     ensures { Overlaid index.old at count index.new }
 {
@@ -80,7 +81,7 @@ fn overlay(index: &mut [u32], at: usize, count: usize)
 
 // Makes all levels above one of so many numbers.
 fn raise(index: &mut [u32], at: usize, count: usize)
-    requires { at + levelRoom count ≤ length index.old }
+    requires { at + level_room count ≤ length index.old }
     ensures { Raised index.old at count index.new }
 {
     if count <= BLOCK {
@@ -94,7 +95,7 @@ fn raise(index: &mut [u32], at: usize, count: usize)
 pub fn make_index(index: &mut [u32], lefts: &[u32], rights: &[u32])
     requires lefts_len { length lefts.now ≡ length rights.now }
     requires lefts_len_bound { length lefts.now ≤ 4294967296 }
-    requires lefts_in_bounds { indexRoom (length lefts.now) ≤ length index.old }
+    requires lefts_in_bounds { index_room (length lefts.now) ≤ length index.old }
     ensures { Indexed index.new lefts.now rights.now }
 {
     let n = lefts.len();

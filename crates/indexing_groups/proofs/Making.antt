@@ -15,7 +15,7 @@ use lib.ListN.{length, get_or, take, drop, length-append, length-drop}
 use lib.Seq.{length-take-le, take-take, take_at, drop_at}
 use lib.Dec.{ltb}
 use borrow.Author.Tests.{ltb-false}
-use Rattle.arrangement.specs.Index.{indexRoom, Indexed}
+use Rattle.arrangement.specs.Index.{index_room, Indexed}
 use Rattle.tracks.specs.Groups.{start_at, Groups, part}
 use Rattle.tracks.proofs.Grouped.{start-count, part_length}
 use Rattle.carrying_lane.specs.Parts.{place_in, UsableParts}
@@ -66,7 +66,7 @@ module _ (low high : ℕ) (is ys : List ℕ) (order : low ≤ high) (within : hi
 
 -- the part that is lent for the matches from start to end comes back as their index
 pub part-indexed :
-    {start end low high : ℕ} (is ys f g : List ℕ) → low ≡ indexRoom start → high ≡ indexRoom end → start ≤ end
+    {start end low high : ℕ} (is ys f g : List ℕ) → low ≡ index_room start → high ≡ index_room end → start ≤ end
     → high ≤ length is → length ys ≡ length (part low high is) → Indexed ys (part start end f) (part start end g)
     → IndexedPart is start end f g (take low is ++ (ys ++ drop (high - low) (drop low is)))
 part-indexed {start} {end} {low} {high} is ys f g from to order within e made =
@@ -94,7 +94,7 @@ pub record Made (is gs f g : List ℕ) (k places : ℕ) : Type 0 where
   pub behind : (a : ℕ) → a < k → start_at gs (suc a) ≤ start_at gs k
   pub each :
       (a : ℕ) → a < k
-      → Indexed (part (indexRoom (start_at gs a)) (indexRoom (start_at gs (suc a))) is)
+      → Indexed (part (index_room (start_at gs a)) (index_room (start_at gs (suc a))) is)
       (part (start_at gs a) (start_at gs (suc a)) f) (part (start_at gs a) (start_at gs (suc a)) g)
 
 pub made_none : (is gs f g : List ℕ) → Made is gs f g 0 (length is)
@@ -124,25 +124,25 @@ made_more {is} {gs} {f} {g} {is'} {k} s h m i =
 
     indexed :
         (a : ℕ) → Dec (a ≡ k) → a < suc k
-        → Indexed (part (indexRoom (start_at gs a)) (indexRoom (start_at gs (suc a))) is')
+        → Indexed (part (index_room (start_at gs a)) (index_room (start_at gs (suc a))) is')
         (part (start_at gs a) (start_at gs (suc a)) f) (part (start_at gs a) (start_at gs (suc a)) g)
     indexed a (yes e) l = rw (e, sym (next_start gs k)) i.made
     indexed a (no e) l =
         let earlier : a < k = omega arith in
-        rw (part-kept (indexRoom (start_at gs a)) (indexRoom (start_at gs (suc a))) (indexRoom (start_at gs k)) is is'
+        rw (part-kept (index_room (start_at gs a)) (index_room (start_at gs (suc a))) (index_room (start_at gs k)) is is'
         (omega (arith, s.rising a (omega arith))) (omega (arith, m.behind a earlier)) i.before)
         (m.each a earlier)
 
 -- where there are places, and where there are none: then an index that has room takes none
-place-in : (places k : ℕ) → indexRoom k ≤ places → place_in places k ≡ indexRoom k
+place-in : (places k : ℕ) → index_room k ≤ places → place_in places k ≡ index_room k
 place-in places k l = go (ltb 0 places) refl
   where
-    go : (b : Bool) → ltb 0 places ≡ b → cond b (indexRoom k) 0 ≡ indexRoom k
+    go : (b : Bool) → ltb 0 places ≡ b → cond b (index_room k) 0 ≡ index_room k
     go true e = refl
     go false e = omega (arith, ltb-false 0 places e)
 
 pub made_all :
-    {is gs f g : List ℕ} {k n count sets places : ℕ} → Groups gs n count sets → n ≤ k → indexRoom count ≤ places
+    {is gs f g : List ℕ} {k n count sets places : ℕ} → Groups gs n count sets → n ≤ k → index_room count ≤ places
     → Made is gs f g k places → UsableParts is gs n f g
 made_all {is} {gs} {f} {g} {k} {n} s h l m = record {
   order = λ a b. rw (from a b, to a b) (omega (arith, s.rising a b));
@@ -150,11 +150,11 @@ made_all {is} {gs} {f} {g} {k} {n} s h l m = record {
   usable = λ a b. rw (from a b, to a b) (inr (m.each a (omega arith)));
 }
   where
-    room : (a : ℕ) → a ≤ n → indexRoom (start_at gs a) ≤ length is
+    room : (a : ℕ) → a ≤ n → index_room (start_at gs a) ≤ length is
     room a b = omega (arith, start-count s a b, m.size, l)
 
-    from : (a : ℕ) → a < n → place_in (length is) (start_at gs a) ≡ indexRoom (start_at gs a)
+    from : (a : ℕ) → a < n → place_in (length is) (start_at gs a) ≡ index_room (start_at gs a)
     from a b = place-in (length is) (start_at gs a) (room a (omega arith))
 
-    to : (a : ℕ) → a < n → place_in (length is) (start_at gs (suc a)) ≡ indexRoom (start_at gs (suc a))
+    to : (a : ℕ) → a < n → place_in (length is) (start_at gs (suc a)) ≡ index_room (start_at gs (suc a))
     to a b = place-in (length is) (start_at gs (suc a)) (room (suc a) (omega arith))

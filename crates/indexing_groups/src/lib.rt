@@ -1,6 +1,7 @@
 // Making an index of the matches of each group.
+#![tactic(auto)]
 ghost use Rattle.std.specs.Prelude.{◌≡◌, ◌≤◌, length};
-ghost use Rattle.arrangement.specs.Index.{indexRoom};
+ghost use Rattle.arrangement.specs.Index.{index_room};
 ghost use Rattle.carrying_lane.specs.Parts.{UsableParts};
 ghost use Rattle.indexing_groups.specs.Parts.{AnyGroups, IndexedPart};
 
@@ -12,7 +13,7 @@ fn index_group(index: &mut [u32], lefts: &[u32], rights: &[u32], start: usize, e
     requires lefts_len_bound { length lefts.now ≤ 4294967296 }
     requires start_le_end { start ≤ end }
     requires end_in_bounds { end ≤ length lefts.now }
-    requires lefts_in_bounds { indexRoom (length lefts.now) ≤ length index.old }
+    requires lefts_in_bounds { index_room (length lefts.now) ≤ length index.old }
     ensures { IndexedPart index.old start end lefts.now rights.now index.new }
 {
     let low = index_room(start);
@@ -35,7 +36,7 @@ pub fn index_groups(
     requires lefts_len { length lefts.now ≡ length rights.now }
     requires lefts_len_bound { length lefts.now ≤ 4294967296 }
     requires any_groups { AnyGroups groups.now count (length lefts.now) }
-    requires lefts_in_bounds { indexRoom (length lefts.now) ≤ length index.old }
+    requires lefts_in_bounds { index_room (length lefts.now) ≤ length index.old }
     ensures { UsableParts index.new groups.now count lefts.now rights.now }
 {
     let mut g = 0;

@@ -1,8 +1,9 @@
 // What one command does to the script read so far, with the refusals in 01's order.
+#![tactic(auto)]
 ghost use Rattle.std.specs.Prelude.{◌≡◌, ◌<◌};
-ghost use Rattle.script.specs.Steps.{in_range, lengthsStep, openingOf};
-ghost use Rattle.script.specs.Steps.{matchJudgement, matchStep, cutShortStep, lettersOn};
-ghost use Rattle.script.specs.Steps.{markJudgement, markStep, markCutShortStep, step_of};
+ghost use Rattle.script.specs.Steps.{in_range, lengths_step, opening_of};
+ghost use Rattle.script.specs.Steps.{match_judgement, match_step, cut_short_step, letters_on};
+ghost use Rattle.script.specs.Steps.{mark_judgement, mark_step, mark_cut_short_step, step_of};
 
 use script::Refusal;
 use script::command::{Command, Mark, Match};
@@ -18,7 +19,7 @@ fn in_range(letters: u32) -> bool
 
 // The two lengths, of a script or of a list.
 pub fn judge_lengths(p: u32, q: u32) -> Opening
-    ensures { result ≡ lengthsStep p q }
+    ensures { result ≡ lengths_step p q }
 {
     if !in_range(p) {
         return Opening::Refuse(Refusal::LengthOutOfRange);
@@ -31,7 +32,7 @@ pub fn judge_lengths(p: u32, q: u32) -> Opening
 
 // The first command must be lengths.
 pub fn judge_opening(command: Command) -> Opening
-    ensures { result ≡ openingOf command }
+    ensures { result ≡ opening_of command }
 {
     match command {
         Command::Missing => Opening::Refuse(Refusal::Headless),
@@ -49,7 +50,7 @@ pub fn judge_opening(command: Command) -> Opening
 
 // The numbers of a match, of a script or of a list: 7, 8, 9. The sums are taken in 64 bits, where they cannot wrap.
 pub fn judge_numbers(found: Match, p: u32, q: u32, place: usize) -> Judgement
-    ensures { result ≡ matchJudgement p q place found }
+    ensures { result ≡ match_judgement p q place found }
 {
     if found.length == 0 {
         return Judgement::Faulty(Refusal::EmptyMatch(place));
@@ -65,7 +66,7 @@ pub fn judge_numbers(found: Match, p: u32, q: u32, place: usize) -> Judgement
 
 // A whole match: 6, then its numbers.
 fn judge_match(found: Match, p: u32, q: u32, count: usize, at: usize) -> Step
-    ensures { result ≡ matchStep p q count at found }
+    ensures { result ≡ match_step p q count at found }
 {
     if MOST_MATCHES <= count {
         return Step::Refuse(Refusal::TooManyMatches(at));
@@ -78,7 +79,7 @@ fn judge_match(found: Match, p: u32, q: u32, count: usize, at: usize) -> Step
 
 // A match whose operands are incomplete: 6, 3.
 fn judge_cut_short(count: usize, at: usize) -> Step
-    ensures { result ≡ cutShortStep count at }
+    ensures { result ≡ cut_short_step count at }
 {
     if MOST_MATCHES <= count {
         return Step::Refuse(Refusal::TooManyMatches(at));
@@ -88,14 +89,14 @@ fn judge_cut_short(count: usize, at: usize) -> Step
 
 // The letters of the sequence on this side.
 fn letters_on(p: u32, q: u32, side: u32) -> u32
-    ensures { result ≡ lettersOn p q side }
+    ensures { result ≡ letters_on p q side }
 {
     if side == 0 { p } else { q }
 }
 
 // The numbers of a mark, of a script or of a list: 20, 21.
 pub fn judge_point(side: u32, position: u32, p: u32, q: u32, place: usize) -> Judgement
-    ensures { result ≡ markJudgement p q place (record { side = side; position = position }) }
+    ensures { result ≡ mark_judgement p q place (record { side = side; position = position }) }
 {
     if 1 < side {
         return Judgement::Faulty(Refusal::NoSuchSide(place));
@@ -108,7 +109,7 @@ pub fn judge_point(side: u32, position: u32, p: u32, q: u32, place: usize) -> Ju
 
 // A whole mark: 19, then its numbers.
 fn judge_mark(found: Mark, p: u32, q: u32, marks: usize, at: usize) -> Step
-    ensures { result ≡ markStep p q marks at found }
+    ensures { result ≡ mark_step p q marks at found }
 {
     if MOST_MARKS <= marks {
         return Step::Refuse(Refusal::TooManyMarks(at));
@@ -121,7 +122,7 @@ fn judge_mark(found: Mark, p: u32, q: u32, marks: usize, at: usize) -> Step
 
 // A mark whose operands are incomplete: 19, 3.
 fn judge_mark_cut_short(marks: usize, at: usize) -> Step
-    ensures { result ≡ markCutShortStep marks at }
+    ensures { result ≡ mark_cut_short_step marks at }
 {
     if MOST_MARKS <= marks {
         return Step::Refuse(Refusal::TooManyMarks(at));

@@ -1,10 +1,11 @@
 // The first fault of a list of records and a list of marks, with the refusals in 02's order, before anything is written
 // of them.
+#![tactic(auto)]
 ghost use Rattle.std.specs.Prelude.{◌≡◌, ◌+◌, ◌*◌, ◌≤◌, length};
-ghost use Rattle.script.specs.Limits.{mostMatches};
-ghost use Rattle.records.specs.Records.{recordWidth, recordsOf, recordAt, match_of};
-ghost use Rattle.records.specs.Writing.{recordJudgement, firstFault, recordsJudgement, marksJudgement};
-ghost use Rattle.records.specs.Writing.{listJudgement, judgementOf};
+ghost use Rattle.script.specs.Limits.{most_matches};
+ghost use Rattle.records.specs.Records.{record_width, records_of, record_at, match_of};
+ghost use Rattle.records.specs.Writing.{record_judgement, first_fault, records_judgement, marks_judgement};
+ghost use Rattle.records.specs.Writing.{list_judgement, judgement_of};
 
 use judging::{judge_lengths, judge_numbers, judge_point};
 use records::{MARK_NUMBERS, RECORD_WIDTH, Record};
@@ -14,8 +15,8 @@ use script::{Match, Refusal};
 
 // The record behind k others.
 pub fn record_at(records: &[u32], k: usize) -> Record
-    requires { recordWidth * k + recordWidth ≤ length records.now }
-    ensures { result ≡ recordAt (recordsOf records.now) k }
+    requires { record_width * k + record_width ≤ length records.now }
+    ensures { result ≡ record_at (records_of records.now) k }
 {
     let at = RECORD_WIDTH * k;
     Record {
@@ -42,7 +43,7 @@ fn match_of(item: Record) -> Match
 
 // A record of this number: 15 for its direction, then 7, 8, 9.
 fn judge_record(item: Record, p: u32, q: u32, number: usize) -> Judgement
-    ensures { result ≡ recordJudgement p q number item }
+    ensures { result ≡ record_judgement p q number item }
 {
     if 1 < item.direction {
         return Judgement::Faulty(Refusal::MalformedRecords(number));
@@ -52,7 +53,7 @@ fn judge_record(item: Record, p: u32, q: u32, number: usize) -> Judgement
 
 // The records, numbered from 1.
 fn judge_each(records: &[u32], p: u32, q: u32) -> Judgement
-    ensures { result ≡ recordsJudgement p q records.now }
+    ensures { result ≡ records_judgement p q records.now }
 {
     let count = records.len() / RECORD_WIDTH;
     let mut k = 0;
@@ -68,8 +69,8 @@ fn judge_each(records: &[u32], p: u32, q: u32) -> Judgement
 
 // The marks, numbered on from so many records.
 fn judge_marks(marks: &[u32], p: u32, q: u32, count: usize) -> Judgement
-    requires { count ≤ mostMatches }
-    ensures { result ≡ marksJudgement p q count marks.now }
+    requires { count ≤ most_matches }
+    ensures { result ≡ marks_judgement p q count marks.now }
 {
     let all = marks.len() / MARK_NUMBERS;
     let mut n = 0;
@@ -86,10 +87,10 @@ fn judge_marks(marks: &[u32], p: u32, q: u32, count: usize) -> Judgement
 
 // The records, then the marks.
 fn judge_both(records: &[u32], marks: &[u32], p: u32, q: u32) -> Judgement
-    requires { length records.now ≤ recordWidth * mostMatches }
+    requires { length records.now ≤ record_width * most_matches }
     ensures { result
-        ≡ firstFault (recordsJudgement p q records.now)
-        (marksJudgement p q (length (recordsOf records.now)) marks.now) }
+        ≡ first_fault (records_judgement p q records.now)
+        (marks_judgement p q (length (records_of records.now)) marks.now) }
 {
     match judge_each(records, p, q) {
         Judgement::Faulty(refusal) => Judgement::Faulty(refusal),
@@ -99,7 +100,7 @@ fn judge_both(records: &[u32], marks: &[u32], p: u32, q: u32) -> Judgement
 
 // The counts of numbers, then those of the records and the marks, then each of them.
 fn judge_list(records: &[u32], marks: &[u32], p: u32, q: u32) -> Judgement
-    ensures { result ≡ listJudgement p q records.now marks.now }
+    ensures { result ≡ list_judgement p q records.now marks.now }
 {
     if records.len() % RECORD_WIDTH != 0 {
         return Judgement::Faulty(Refusal::MalformedRecords(0));
@@ -118,7 +119,7 @@ fn judge_list(records: &[u32], marks: &[u32], p: u32, q: u32) -> Judgement
 
 // The lengths, then the lists.
 pub fn judge_records(p: u32, q: u32, records: &[u32], marks: &[u32]) -> Judgement
-    ensures { result ≡ judgementOf p q records.now marks.now }
+    ensures { result ≡ judgement_of p q records.now marks.now }
 {
     match judge_lengths(p, q) {
         Opening::Refuse(refusal) => Judgement::Faulty(refusal),

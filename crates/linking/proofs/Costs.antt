@@ -11,34 +11,34 @@ use native.Mathlib.Omega.{arith}
 use Rattle.rows.specs.declared.Row.{Row}
 use Rattle.refinement.specs.declared.Side.TheVariants.{A, B}
 use Rattle.table.specs.Covering.{left_of}
-use Rattle.backbone.specs.Chains.{rowNumbered, skipped}
-use Rattle.weighing.specs.Weighing.{scoreAt}
-use Rattle.linking.specs.Linking.{costOf, Extended}
+use Rattle.backbone.specs.Chains.{row_numbered, skipped}
+use Rattle.weighing.specs.Weighing.{score_at}
+use Rattle.linking.specs.Linking.{cost_of, Extended}
 use Rattle.linking.specs.declared.Link.{Link}
 
 pub cost-bounded : (price : ℕ) (r r' : Row) → price ≤ 1000 → left_of A r' < 2 ^ 32 → left_of B r' < 2 ^ 32
     → price * skipped r r' ≤ 9000000000000
 cost-bounded price r r' low a b = let few : skipped r r' ≤ 9000000000 = omega arith in mul-le-mul low few
 
-module _ (rs : List Row) (scores : List ℕ) (price k j : ℕ) {row : Row} (read : row ≡ rowNumbered rs k) where
+module _ (rs : List Row) (scores : List ℕ) (price k j : ℕ) {row : Row} (read : row ≡ row_numbered rs k) where
   -- the row's letters
-  long : row.length ≡ (rowNumbered rs k).length
+  long : row.length ≡ (row_numbered rs k).length
   long = rw read
 
   pub made_none : j ≡ 0 → Extended rs scores price k j (record { next = 0; score = row.length })
   made_none none = Extended.none none refl long
 
-  module _ {other : Row} {cost : ℕ} (read-other : other ≡ rowNumbered rs j) (costs : cost ≡ price * skipped row other)
+  module _ {other : Row} {cost : ℕ} (read-other : other ≡ row_numbered rs j) (costs : cost ≡ price * skipped row other)
       (some : 1 ≤ j) where
     -- the link's price
-    priced : cost ≡ costOf price rs k j
+    priced : cost ≡ cost_of price rs k j
     priced = rw (read, read-other) at costs
 
-    pub made-lost : scoreAt scores j ≤ cost → Extended rs scores price k j (record { next = 0; score = row.length })
+    pub made-lost : score_at scores j ≤ cost → Extended rs scores price k j (record { next = 0; score = row.length })
     made-lost low = Extended.lost some (omega (arith, priced)) refl long
 
-    pub made-gained : cost < scoreAt scores j
-        → Extended rs scores price k j (record { next = j; score = row.length + (scoreAt scores j - cost) })
+    pub made-gained : cost < score_at scores j
+        → Extended rs scores price k j (record { next = j; score = row.length + (score_at scores j - cost) })
     made-gained more =
-        let made : Link = record { next = j; score = row.length + (scoreAt scores j - cost) } in
+        let made : Link = record { next = j; score = row.length + (score_at scores j - cost) } in
         Extended.gained {r = made} some (omega (arith, priced)) refl (omega (arith, priced, long))

@@ -15,11 +15,11 @@ use Rattle.best_chains.specs.Best.{Apart}
 use Rattle.weighing.specs.Weighing.{Scored, Top}
 use Rattle.best_rows.specs.Halves.{Holding, Behind}
 use Rattle.walking.specs.Trail.{link_at}
-use Rattle.linking.specs.Linking.{linksIn, heldIn, Extendable, Extended, Ready, Found}
+use Rattle.linking.specs.Linking.{links_in, held_in, Extendable, Extended, Ready, Found}
 use Rattle.linking.specs.declared.Link.{Link}
 use Rattle.linking.proofs.Following.{Follower}
 use Rattle.linking.proofs.Stepping.{onward, extendable}
-use Rattle.linking.proofs.Parts.{lentIn, lent-held, held-many, link-read}
+use Rattle.linking.proofs.Parts.{lent_in, lent-held, held-many, link-read}
 use Rattle.linking.proofs.Next.{row-direct, next-placed, next-top, next-linked}
 
 module _ {price n : ℕ} {rs : List Row} {d t : ℕ} {work scores : List ℕ} (apart : Apart rs) (priced : price ≤ 1000)
@@ -40,35 +40,35 @@ module _ {price n : ℕ} {rs : List Row} {d t : ℕ} {work scores : List ℕ} (a
   number-named = (direct.from_one, direct.to_last)
 
   -- that is where it is kept
-  place_read : place ≡ link_at (linksIn (length rs) work) k
+  place_read : place ≡ link_at (links_in (length rs) work) k
   place_read = rw counted (link-read (length rs) work k direct.from_one direct.to_last)
 
   -- the part that is lent
-  part_held : lentIn n work ≡ heldIn (length rs) work
+  part_held : lent_in n work ≡ held_in (length rs) work
   part_held = rw counted (lent-held (length rs) work)
 
   pub behind-asked :
-      Scored rs scores price × (Holding rs (lentIn n work) × ((d ≤ length (lentIn n work)) × (place < d)))
+      Scored rs scores price × (Holding rs (lent_in n work) × ((d ≤ length (lent_in n work)) × (place < d)))
   behind-asked =
       let l = ready.linked in (
-        record { each = l.score-room; priced = priced },
+        record { each = l.score_room; priced = priced },
         rw (part_held, place_read) (
           l.holding,
           (
-            omega (arith, held-many (length rs) work l.work-room, l.arranged.few, l.counted),
+            omega (arith, held-many (length rs) work l.work_room, l.arranged.few, l.counted),
             next-placed apart l ready.more,
           ),
         ),
       )
 
-  module _ {next : ℕ} (b : Behind price rs scores (lentIn n work) d place next) where
+  module _ {next : ℕ} (b : Behind price rs scores (lent_in n work) d place next) where
     -- what is found is the best row that may follow
     top : Top price rs scores (Follower rs k) next
     top = next-top apart ready.linked ready.more (rw (part_held, place_read) at b)
 
     pub found-extendable : Extendable rs scores price k next
     found-extendable =
-        extendable direct (next-linked apart ready.linked ready.more) top apart ready.linked.score-room priced
+        extendable direct (next-linked apart ready.linked ready.more) top apart ready.linked.score_room priced
         b.named
 
     pub found : {made : Link} → Extended rs scores price k next made

@@ -16,20 +16,20 @@ use Rattle.rows.specs.declared.Row.{Row}
 use Rattle.refinement.specs.declared.Side.{Side}
 use Rattle.refinement.specs.declared.Side.TheVariants.{A, B}
 use Rattle.refinement.specs.Order.{◌∈◌}
-use Rattle.table.specs.Covering.{left_of, rightOf}
-use Rattle.backbone.specs.Chains.{rowNumbered, Direct, Follows}
+use Rattle.table.specs.Covering.{left_of, right_of}
+use Rattle.backbone.specs.Chains.{row_numbered, Direct, Follows}
 use Rattle.best_chains.specs.Best.{Apart}
 use Rattle.row_order.specs.Order.{key_at, Ahead, Names}
 use Rattle.backbone.proofs.Places.{at-∈, ∈-at}
-use Rattle.row_order.proofs.Order.{ahead-not, ahead-right, right-ahead}
-use Rattle.direct_rows.specs.Direct.{placeAt}
+use Rattle.row_order.proofs.Order.{ahead-not, ahead-right, right_ahead}
+use Rattle.direct_rows.specs.Direct.{place_at}
 use Rattle.best_rows.specs.Halves.{Within}
 use Rattle.linking.specs.Linking.{Arranged}
 use Rattle.linking.proofs.Members.{stands, standing}
 
 pub record Follower (rs : List Row) (k j : ℕ) : Type 0 where
   pub direct : Direct rs j
-  pub follows : Follows (rowNumbered rs k) (rowNumbered rs j)
+  pub follows : Follows (row_numbered rs k) (row_numbered rs j)
 
 -- a direct row is one of the rows
 named : {rs : List Row} {k : ℕ} → Direct rs k → Names rs k
@@ -61,19 +61,19 @@ module _ {rs : List Row} (apart : Apart rs) where
     k-inside : k - 1 < length rs
     k-inside = omega (arith, dk.from_one, dk.to_last)
 
-    pub ahead-left : Ahead rs A j k → left_of A (rowNumbered rs k) ≤ left_of A (rowNumbered rs j)
+    pub ahead-left : Ahead rs A j k → left_of A (row_numbered rs k) ≤ left_of A (row_numbered rs j)
     ahead-left a =
         key_left _ _ _ _ (lefts-fit A (j - 1) j-inside) (lefts-fit A (k - 1) k-inside) (lefts-fit B (k - 1) k-inside)
         (ahead-keys rs A j k a)
 
     -- further right on a side is at or past the other's right end ..
-    past : (s : Side) → left_of s (rowNumbered rs k) < left_of s (rowNumbered rs j)
-        → rightOf s (rowNumbered rs k) ≤ left_of s (rowNumbered rs j)
+    past : (s : Side) → left_of s (row_numbered rs k) < left_of s (row_numbered rs j)
+        → right_of s (row_numbered rs k) ≤ left_of s (row_numbered rs j)
     past s l = apart.disjoint s (k - 1) (j - 1) k-inside j-inside l
 
     -- .. and the other way about, since the other has a letter
-    beyond : (s : Side) → rightOf s (rowNumbered rs k) ≤ left_of s (rowNumbered rs j)
-        → left_of s (rowNumbered rs k) < left_of s (rowNumbered rs j)
+    beyond : (s : Side) → right_of s (row_numbered rs k) ≤ left_of s (row_numbered rs j)
+        → left_of s (row_numbered rs k) < left_of s (row_numbered rs j)
     beyond s l = omega (arith, apart.lettered.lettered (k - 1) k-inside)
 
   module _ {order places : List ℕ} (arranged : Arranged rs order places) (t : ℕ) (inside : t < length order) where
@@ -100,9 +100,9 @@ module _ {rs : List Row} (apart : Apart rs) where
         rw (sym s.reads) at (at-∈ order s.place s.inside)
 
     -- ahead by A and behind by B is right of it on both sides, and so behind its ends
-    entered-follow : (j : ℕ) → Within (take t order) places (placeAt places next + 1) (length order) j
+    entered-follow : (j : ℕ) → Within (take t order) places (place_at places next + 1) (length order) j
         → Follower rs next j
-    entered-follow j w = record { direct = dj; follows = record { at-or-past = sides } }
+    entered-follow j w = record { direct = dj; follows = record { at_or_past = sides } }
       where
         j-in : j ∈ order
         j-in = before-in w.entered
@@ -110,31 +110,31 @@ module _ {rs : List Row} (apart : Apart rs) where
         dj : Direct rs j
         dj = (arranged.direct j).0 j-in
 
-        right : (left_of A (rowNumbered rs next) < left_of A (rowNumbered rs j))
-            × (left_of B (rowNumbered rs next) < left_of B (rowNumbered rs j))
+        right : (left_of A (row_numbered rs next) < left_of A (row_numbered rs j))
+            × (left_of B (row_numbered rs next) < left_of B (row_numbered rs j))
         right = ahead-right rs j next lefts-fit (named dj) (named next-direct) (before-ahead w.entered)
-            ((arranged.by-b next j next-in j-in).0 (omega (arith, w.from)))
+            ((arranged.by_b next j next-in j-in).0 (omega (arith, w.from)))
 
-        sides : (s : Side) → rightOf s (rowNumbered rs next) ≤ left_of s (rowNumbered rs j)
+        sides : (s : Side) → right_of s (row_numbered rs next) ≤ left_of s (row_numbered rs j)
         sides A = past dj next-direct A right.0
         sides B = past dj next-direct B right.1
 
     -- and the other way about
     follow-entered : (j : ℕ) → Follower rs next j
-        → Within (take t order) places (placeAt places next + 1) (length order) j
+        → Within (take t order) places (place_at places next + 1) (length order) j
     follow-entered j f =
         let early = before (dec_lt spot.0 t) (ℕ_discrete spot.0 t) in
         record {
           entered = standing order t spot.0 early spot.1 (sym spot.2);
-          from = omega (arith, (arranged.by-b next j next-in j-in).1 ahead.1);
+          from = omega (arith, (arranged.by_b next j next-in j-in).1 ahead.1);
           to = arranged.below j j-in;
         }
       where
-        right : (s : Side) → left_of s (rowNumbered rs next) < left_of s (rowNumbered rs j)
-        right s = beyond f.direct next-direct s (f.follows.at-or-past s)
+        right : (s : Side) → left_of s (row_numbered rs next) < left_of s (row_numbered rs j)
+        right s = beyond f.direct next-direct s (f.follows.at_or_past s)
 
         ahead : Ahead rs A j next × Ahead rs B next j
-        ahead = right-ahead rs j next lefts-fit (named f.direct) (named next-direct) (right A) (right B)
+        ahead = right_ahead rs j next lefts-fit (named f.direct) (named next-direct) (right A) (right B)
 
         j-in : j ∈ order
         j-in = (arranged.direct j).1 f.direct
@@ -151,5 +151,5 @@ module _ {rs : List Row} (apart : Apart rs) where
             absurd (ahead-not rs A j next ahead.0 (rw spot.2 at behind))
 
     pub following : (j : ℕ)
-        → Within (take t order) places (placeAt places next + 1) (length order) j ↔ Follower rs next j
+        → Within (take t order) places (place_at places next + 1) (length order) j ↔ Follower rs next j
     following j = (entered-follow j, follow-entered j)

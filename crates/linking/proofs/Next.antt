@@ -19,12 +19,12 @@ use Rattle.backbone.specs.Chains.{Direct}
 use Rattle.best_chains.specs.Best.{Apart}
 use Rattle.row_order.specs.Order.{Ahead}
 use Rattle.backbone.proofs.Places.{at-∈}
-use Rattle.direct_rows.specs.Direct.{placeAt}
+use Rattle.direct_rows.specs.Direct.{place_at}
 use Rattle.weighing.specs.Weighing.{Top}
 use Rattle.weighing.proofs.Top.{top-same}
 use Rattle.best_rows.specs.Halves.{Within, Behind}
 use Rattle.walking.specs.Trail.{link_at}
-use Rattle.linking.specs.Linking.{linksIn, heldIn, LinkedRow, Linked}
+use Rattle.linking.specs.Linking.{links_in, held_in, LinkedRow, Linked}
 use Rattle.linking.proofs.Following.{Follower, following}
 use Rattle.linking.proofs.Members.{stands}
 
@@ -52,27 +52,27 @@ module _ {price : ℕ} {rs : List Row} {d t : ℕ} {work scores : List ℕ} {fir
   pub linked-ahead : {j : ℕ} → j ∈ take t work → Ahead rs A j next
   linked-ahead m = let s = stands work t m in rw s.reads (row-ahead s.place t s.before more)
 
-  pub next_place : link_at (linksIn (length rs) work) next ≡ placeAt l.places next
+  pub next_place : link_at (links_in (length rs) work) next ≡ place_at l.places next
   next_place = l.waiting t (omega arith) more
 
-  pub next-placed : link_at (linksIn (length rs) work) next < d
+  pub next-placed : link_at (links_in (length rs) work) next < d
   next-placed = omega (arith, next_place, l.arranged.below next (row_in t more), l.counted)
 
   -- the rows entered behind its place
-  followers : (j : ℕ) → Within (take t work) l.places (placeAt l.places next + 1) d j ↔ Follower rs next j
+  followers : (j : ℕ) → Within (take t work) l.places (place_at l.places next + 1) d j ↔ Follower rs next j
   followers = rw (take-take t d work (omega arith), get_or-take d work t 0 more, l.counted) at
       (following apart l.arranged t (omega (arith, l.counted)))
 
   -- each has a place
-  linked-below : (j : ℕ) → j ∈ take t work → placeAt l.places j < d
+  linked-below : (j : ℕ) → j ∈ take t work → place_at l.places j < d
   linked-below j m = omega (arith, l.arranged.below j ((l.arranged.direct j).1 (linked-direct m)), l.counted)
 
   pub next-top : {r : ℕ}
-      → Behind price rs scores (heldIn (length rs) work) d (link_at (linksIn (length rs) work) next) r
+      → Behind price rs scores (held_in (length rs) work) d (link_at (links_in (length rs) work) next) r
       → Top price rs scores (Follower rs next) r
   next-top b =
       top-same followers
       (rw next_place at (b.best (take t work) l.places linked-below l.halved))
 
-  pub next-linked : (j : ℕ) → Follower rs next j → LinkedRow price rs (linksIn (length rs) work) scores j
+  pub next-linked : (j : ℕ) → Follower rs next j → LinkedRow price rs (links_in (length rs) work) scores j
   next-linked j f = l.linked j ((followers j).1 f).entered

@@ -9,15 +9,15 @@ use native.Mathlib.Omega.{arith}
 use lib.ListN.{length}
 use Rattle.rows.specs.declared.Row.{Row}
 use Rattle.refinement.specs.declared.Side.TheVariants.{A, B}
-use Rattle.table.specs.Covering.{rightOf}
-use Rattle.backbone.specs.Chains.{rowNumbered, Direct, Follows, skipped}
+use Rattle.table.specs.Covering.{right_of}
+use Rattle.backbone.specs.Chains.{row_numbered, Direct, Follows, skipped}
 use Rattle.best_chains.specs.Best.{Apart, Outdone, Known}
 use Rattle.best_chains.proofs.Chains.{score-bound}
 use Rattle.best_chains.proofs.Best.{outdone-most, best-alone, best-linked}
-use Rattle.weighing.specs.Weighing.{Top, none, some, NoWorse, scoreAt}
+use Rattle.weighing.specs.Weighing.{Top, none, some, NoWorse, score_at}
 use Rattle.weighing.proofs.Top.{link-no-worse}
 use Rattle.walking.specs.Trail.{ends}
-use Rattle.linking.specs.Linking.{LinkedRow, costOf, Extendable, Extended, Onward}
+use Rattle.linking.specs.Linking.{LinkedRow, cost_of, Extendable, Extended, Onward}
 use Rattle.linking.specs.declared.Link.{Link}
 use Rattle.linking.proofs.Following.{Follower}
 
@@ -39,21 +39,21 @@ module _ {price : ℕ} {rs : List Row} {links scores : List ℕ} {k next : ℕ} 
     (top : Top price rs scores (Follower rs k) next) where
   -- no other link has a higher sum, or the same and a lower number
   best-sum : 1 ≤ next → (i : ℕ) → Follower rs k i
-      → Outdone (scoreAt scores i + costOf price rs k next) (scoreAt scores next + costOf price rs k i) next i
+      → Outdone (score_at scores i + cost_of price rs k next) (score_at scores next + cost_of price rs k i) next i
   best-sum l i f =
       let n = top_one l top in
-      link-no-worse (top-best l top i f) (rightOf A (rowNumbered rs k) + rightOf B (rowNumbered rs k))
-      (skipped (rowNumbered rs k) (rowNumbered rs next)) (skipped (rowNumbered rs k) (rowNumbered rs i))
-      (omega (arith, n.follows.at-or-past A, n.follows.at-or-past B))
-      (omega (arith, f.follows.at-or-past A, f.follows.at-or-past B))
+      link-no-worse (top-best l top i f) (right_of A (row_numbered rs k) + right_of B (row_numbered rs k))
+      (skipped (row_numbered rs k) (row_numbered rs next)) (skipped (row_numbered rs k) (row_numbered rs i))
+      (omega (arith, n.follows.at_or_past A, n.follows.at_or_past B))
+      (omega (arith, f.follows.at_or_past A, f.follows.at_or_past B))
 
   -- the best chain from a row that may follow is known
-  known : (P : ℕ → Type 0) (i : ℕ) → Direct rs i → Follows (rowNumbered rs k) (rowNumbered rs i)
-      → (Follower rs k i → P (scoreAt scores i)) → Known price rs i P
+  known : (P : ℕ → Type 0) (i : ℕ) → Direct rs i → Follows (row_numbered rs k) (row_numbered rs i)
+      → (Follower rs k i → P (score_at scores i)) → Known price rs i P
   known P i d f such =
       let follower : Follower rs k i = record { direct = d; follows = f } in
       let row = linked i follower in
-      record { rest = row.rest; score = scoreAt scores i; best = row.best; such = such follower }
+      record { rest = row.rest; score = score_at scores i; best = row.best; such = such follower }
 
   pub onward : {r : Link} → Extended rs scores price k next r → Onward price rs links k r.next r.score
   onward (Extended.none e ends-here scored) =
@@ -62,14 +62,14 @@ module _ {price : ℕ} {rs : List Row} {links scores : List ℕ} {k next : ℕ} 
       record { rest = []; best = rw scored alone; trail = rw ends-here ends }
   onward (Extended.lost l low ends-here scored) =
       let alone = best-alone price rs direct λ j d f.
-      known (λ s. s ≤ costOf price rs k j) j d f λ g. omega (arith, outdone-most (best-sum l j g)) in
+      known (λ s. s ≤ cost_of price rs k j) j d f λ g. omega (arith, outdone-most (best-sum l j g)) in
       record { rest = []; best = rw scored alone; trail = rw ends-here ends }
   onward (Extended.gained l gain goes_on scored) =
       let n = top_one l top in
       let row = linked next n in
-      let sum = scoreAt scores next in
+      let sum = score_at scores next in
       let both = best-linked price rs direct n.follows row.best gain λ i d f.
-      known (λ s. Outdone (s + costOf price rs k next) (sum + costOf price rs k i) next i) i d f (best-sum l i) in
+      known (λ s. Outdone (s + cost_of price rs k next) (sum + cost_of price rs k i) next i) i d f (best-sum l i) in
       record { rest = next ∷ row.rest; best = rw scored both; trail = rw goes_on row.trail }
 
   pub extendable : Apart rs → length rs ≤ length scores → price ≤ 1000 → next ≤ length rs
@@ -83,5 +83,5 @@ module _ {price : ℕ} {rs : List Row} {links scores : List ℕ} {k next : ℕ} 
         follows = λ l. (top_one l top).follows;
         fits = λ l.
             let n = top_one l top in
-            omega (arith, n.follows.at-or-past A, score-bound apart (linked next n).best);
+            omega (arith, n.follows.at_or_past A, score-bound apart (linked next n).best);
       }

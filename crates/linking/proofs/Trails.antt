@@ -15,13 +15,13 @@ use Rattle.rows.specs.declared.Row.{Row}
 use Rattle.refinement.specs.declared.Side.TheVariants.{A}
 use Rattle.refinement.specs.Order.{◌∈◌}
 use Rattle.table.specs.Covering.{left_of}
-use Rattle.backbone.specs.Chains.{rowNumbered, Chain}
+use Rattle.backbone.specs.Chains.{row_numbered, Chain}
 use Rattle.backbone.proofs.Chains.{goes-up}
 use Rattle.best_chains.specs.Best.{Apart}
 use Rattle.walking.specs.Trail.{Trail, ends, leads}
 
 pub chain-other : {rs : List Row} {j k : ℕ} {js : List ℕ} → Apart rs → Chain rs (j ∷ js)
-    → left_of A (rowNumbered rs k) ≤ left_of A (rowNumbered rs j) → (m : ℕ) → m ∈ js → m ≢ k
+    → left_of A (row_numbered rs k) ≤ left_of A (row_numbered rs j) → (m : ℕ) → m ∈ js → m ≢ k
 chain-other {rs} apart chain le m among e =
     let up = rw e at (goes-up rs apart.lettered chain m among) in
     omega arith

@@ -1,11 +1,12 @@
 // The best chain from each direct row, from the right end of A to the left: each row is linked to the best row that may
 // follow it, if that gains anything.
+#![tactic(auto)]
 ghost use Rattle.std.specs.Prelude.{◌≡◌, ◌+◌, ◌*◌, ◌≤◌, ◌<◌, length};
 ghost use Rattle.rows.specs.Rows.{rows_of};
 ghost use Rattle.backbone.specs.Chains.{Follows, skipped};
 ghost use Rattle.best_chains.specs.Best.{Apart};
 ghost use Rattle.linking.specs.Linking.{Extendable, Extended, Ready, Found, Puttable, Put};
-ghost use Rattle.linking.specs.Linking.{foremostOf, Linked};
+ghost use Rattle.linking.specs.Linking.{foremost_of, Linked};
 
 use best_rows::{best_behind, enter};
 use rows::{Row, row_at, row_count};
@@ -61,7 +62,7 @@ fn link_to(table: &[u32], scores: &[u32], price: u32, number: u32, next: u32) ->
 fn foremost(scores: &[u32], first: u32, number: u32) -> u32
     requires first_in_bounds { first ≤ length scores.now }
     requires le_number { (1 ≤ number) × (number ≤ length scores.now) }
-    ensures { result ≡ foremostOf scores.now first number }
+    ensures { result ≡ foremost_of scores.now first number }
 {
     if first == 0 {
         return number;

@@ -92,10 +92,10 @@ module _ {xs ys : List ℕ} {lo to n : ℕ} (p : Shifted xs lo to n ys) where
 -- the runs of a good set end in their order
 set-ends : {xs : List ℕ} {s : CutSet} {base limit : ℕ} → Movable xs s base limit → Ends s base limit
 set-ends p = record {
-  long = p.good.finished-long.order;
-  mid = p.good.finished-middle.order;
-  done = p.good.finished-short.order;
-  used = omega (arith, p.good.found-run.order, p.good.added);
+  long = p.good.finished_long.order;
+  mid = p.good.finished_middle.order;
+  done = p.good.finished_short.order;
+  used = omega (arith, p.good.found_run.order, p.good.added);
   fits = p.fits;
 }
 
@@ -106,12 +106,12 @@ module _ {xs ys : List ℕ} {s : CutSet} {base limit : ℕ} (p : Movable xs s ba
 
   good_placed : Good ys (placed s base limit)
   good_placed = record {
-    finished-long = run (omega arith) (omega (arith, o)) (omega arith) (omega (arith, o)) p.good.finished-long;
-    finished-middle = run o.long (omega (arith, o)) (omega (arith, o)) (omega (arith, o)) p.good.finished-middle;
-    finished-short = run (omega (arith, o)) o.used (omega (arith, o)) (omega (arith, o)) p.good.finished-short;
-    found-run = run (omega (arith, o)) p.good.added (omega (arith, o)) (omega (arith, o, p.bare.ready))
-        p.good.found-run;
-    few-finished = omega (arith, o, p.good.few-finished);
+    finished_long = run (omega arith) (omega (arith, o)) (omega arith) (omega (arith, o)) p.good.finished_long;
+    finished_middle = run o.long (omega (arith, o)) (omega (arith, o)) (omega (arith, o)) p.good.finished_middle;
+    finished_short = run (omega (arith, o)) o.used (omega (arith, o)) (omega (arith, o)) p.good.finished_short;
+    found_run = run (omega (arith, o)) p.good.added (omega (arith, o)) (omega (arith, o, p.bare.ready))
+        p.good.found_run;
+    few_finished = omega (arith, o, p.good.few_finished);
     added = omega arith;
     room = omega (arith, p.fits);
     notes = record { order = omega arith; few = omega arith; noted = λ h y i. absurd (omega arith) };
@@ -137,12 +137,12 @@ module _ {xs ys : List ℕ} {s : CutSet} {base limit : ℕ} (p : Movable xs s ba
         in-forth q (omega arith) (omega (arith, o)) (omega arith) (omega (arith, o)),
       );
       stays = λ y i. in-forth q (omega arith) (omega (arith, o)) (omega arith) (omega (arith, o)) i;
-      run-kept = λ y i. in-forth q (omega (arith, o)) (omega (arith, o, p.bare.ready)) (omega (arith, o))
+      run_kept = λ y i. in-forth q (omega (arith, o)) (omega (arith, o, p.bare.ready)) (omega (arith, o))
           (omega (arith, o, p.bare.ready)) i;
       only = λ y i. inl (in-back q (omega (arith, o)) (omega (arith, o)) (omega (arith, o)) (omega (arith, o)) i);
       held = λ y h. absurd h;
       more = omega (arith, p.bare.ready);
-      done-same = omega arith;
+      done_same = omega arith;
     };
     before = q.before;
     behind = λ k h. q.behind k (omega (arith, p.fits));

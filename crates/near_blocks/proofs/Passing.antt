@@ -16,7 +16,7 @@ use mathlib.Core.Logic.{◌⊎◌, inl, inr, ⊎_elim}
 use lib.Dec.{leb}
 use lib.ListN.{get_or}
 use borrow.Author.Tests.{lt-leb}
-use Rattle.arrangement.specs.Index.{blocksOf, blockStart, startsAt, ends_at, EndsListed, Covered, Levels}
+use Rattle.arrangement.specs.Index.{blocks_of, block_start, starts_at, ends_at, EndsListed, Covered, Levels}
 use Rattle.near_blocks.specs.Places.{Short, TooLate, PassedPlaces}
 
 -- ---- one level
@@ -43,14 +43,14 @@ levels-cover (Levels.top h) l = absurd (omega arith)
 levels-cover (Levels.above c u) l = c
 
 pub levels-above :
-    {xs : List ℕ} {at count : ℕ} → Levels xs at count → 16 < count → Levels xs (at + count) (blocksOf count)
+    {xs : List ℕ} {at count : ℕ} → Levels xs at count → 16 < count → Levels xs (at + count) (blocks_of count)
 levels-above (Levels.top h) l = absurd (omega arith)
 levels-above (Levels.above c u) l = u
 
 module _ {xs : List ℕ} {at count x k behind end near blocks block start last r : ℕ} (c : Covered xs at count)
-    (h : k ≤ count) (is-behind : behind ≡ blocksOf k) (is-end : end ≡ blockStart behind count)
-    (are-blocks : blocks ≡ blocksOf count) (is-start : start ≡ blockStart block count)
-    (is_last : last ≡ blockStart (block + 1) count) where
+    (h : k ≤ count) (is-behind : behind ≡ blocks_of k) (is-end : end ≡ block_start behind count)
+    (are-blocks : blocks ≡ blocks_of count) (is-start : start ≡ block_start block count)
+    (is_last : last ≡ block_start (block + 1) count) where
   pub short-climb :
       Short xs at end x k near → end ≤ near → Short xs (at + count) blocks x behind block → Short xs at last x start r
       → Short xs at count x k r
@@ -72,7 +72,7 @@ module _ {xs : List ℕ} {n x k near : ℕ} (s : Short xs (ends_at n) n x k near
   pub passed-early : PassedPlaces xs n x k near
   passed-early = record { from = s.from; to = s.to; past = λ j a b. inl (s.past j a b) }
 
-  pub passed-late : x < get_or xs (startsAt n + near) 0 → PassedPlaces xs n x k n
+  pub passed-late : x < get_or xs (starts_at n + near) 0 → PassedPlaces xs n x k n
   passed-late l = record {
     from = omega (arith, s.from, s.to);
     to = omega arith;

@@ -4,7 +4,7 @@
 --     PassedPlaces xs n x k r     no match from place k of the order up to r spans x
 -- Assumes nothing.
 use Rattle.std.specs.Prelude.{ℕ, ◌+◌, ◌≤◌, ◌<◌, List, ◌⊎◌, get_or}
-use Rattle.arrangement.specs.Index.{startsAt, ends_at}
+use Rattle.arrangement.specs.Index.{starts_at, ends_at}
 
 pub record Short (xs : List ℕ) (at end x k r : ℕ) : Type 0 where
   pub from : k ≤ r
@@ -14,7 +14,7 @@ pub record Short (xs : List ℕ) (at end x k r : ℕ) : Type 0 where
 pub record TooLate (xs : List ℕ) (n x j : ℕ) : Type 0 where
   pub place : ℕ
   pub before : place ≤ j
-  pub behind : x < get_or xs (startsAt n + place) 0
+  pub behind : x < get_or xs (starts_at n + place) 0
 
 -- each of them ends too early or begins too late
 pub record PassedPlaces (xs : List ℕ) (n x k r : ℕ) : Type 0 where

@@ -1,6 +1,7 @@
 // Looking through the index of the matches for those that may span a position.
+#![tactic(auto)]
 ghost use Rattle.std.specs.Prelude.{◌+◌, ◌≤◌, length};
-ghost use Rattle.arrangement.specs.Index.{ends_at, levelRoom, indexRoom, Levels};
+ghost use Rattle.arrangement.specs.Index.{ends_at, level_room, index_room, Levels};
 ghost use Rattle.near_blocks.specs.Places.{Short, PassedPlaces};
 
 use arrangement::{BLOCK, block_start, blocks_of};
@@ -24,7 +25,7 @@ fn next_high(index: &[u32], at: usize, end: usize, k: usize, x: u32) -> usize
 // The next number of a level, from number k on, that is x or more. What is left of k's block is looked at, and then the
 // level above tells which block has one.
 fn next_reach(index: &[u32], at: usize, count: usize, k: usize, x: u32) -> usize
-    requires count_in_bounds { at + levelRoom count ≤ length index.now }
+    requires count_in_bounds { at + level_room count ≤ length index.now }
     requires levels { Levels index.now at count }
     requires k_le_count { k ≤ count }
     ensures { Short index.now at count x k result }
@@ -48,7 +49,7 @@ fn next_reach(index: &[u32], at: usize, count: usize, k: usize, x: u32) -> usize
 // one begins behind x, so do all that follow. The match at place k is looked at first: those that span x often stand
 // together.
 pub fn next_place(index: &[u32], n: usize, k: usize, x: u32) -> usize
-    requires n_in_bounds { indexRoom n ≤ length index.now }
+    requires n_in_bounds { index_room n ≤ length index.now }
     requires levels { Levels index.now (ends_at n) n }
     requires k_le_n { k ≤ n }
     ensures { PassedPlaces index.now n x k result }

@@ -9,7 +9,7 @@ use native.Mathlib.Omega.{arith}
 use lib.ListN.{length, drop, take, length-append}
 use lib.Seq.{take-append_seam}
 use Rattle.io.specs.Counts.{IsPrefixLen}
-use Rattle.reporting.specs.Reporting.{reportOf, Briefly}
+use Rattle.reporting.specs.Reporting.{report_of, Briefly}
 use Rattle.reporting.specs.declared.Reported.{Reported}
 use Rattle.reporting.specs.declared.Brief.{Brief}
 use Rattle.reporting.proofs.Fits.{printed-stands}
@@ -21,11 +21,11 @@ pub brief-text :
     (script text text' : List ℕ) {answer : Brief} {reply : Reported} {n : ℕ} → answer ≡ Brief.Answered reply
     → reply ≡ Reported.Printed n
     → Briefly script text text' answer
-    → IsPrefixLen n text' × (0 < n → take n text' ≡ reportOf script)
+    → IsPrefixLen n text' × (0 < n → take n text' ≡ report_of script)
 brief-text script text text' e printed tried =
     let told = ap Brief.Answered printed in
     let stands = printed-stands script text (subst (Briefly script text text') (e ∙ told) tried) in
-    let report = reportOf script in
+    let report = report_of script in
     let rest = drop (length report) text in
     rw (stands.0, stands.1) (
       (omega (arith, length-append report rest), sym (ap length (take-append_seam report rest))),

@@ -1,9 +1,10 @@
 // Reads a match script from standard input and prints its piece table, or the refusal with its place. If the input
 // cannot be read, or the text cannot be written, it says why on standard error, where no answer ever puts a byte: the
 // language has no exit status, so that is how a caller tells a failure from an answer.
+#![tactic(auto)]
 ghost use Rattle.std.specs.Prelude.{◌≡◌, ◌<◌, ◌≤◌, length, take};
 ghost use Rattle.io.specs.Counts.{IsPrefixLen};
-ghost use Rattle.reporting.specs.Reporting.{reportOf, longestText};
+ghost use Rattle.reporting.specs.Reporting.{report_of, longest_text};
 ghost use Rattle.streams.specs.Counting.{Went};
 
 use brief_report::report_brief;
@@ -21,9 +22,9 @@ const SHORT_TEXT: usize = 8192;
 // The text that is printed for these bytes, at the buffer's start; the answer is its length. The buffer has room for
 // every text, so the second case is never met.
 fn make_text(script: &[u8], text: &mut [u8]) -> usize
-    requires { longestText ≤ length text.old }
+    requires { longest_text ≤ length text.old }
     ensures prefix_len { IsPrefixLen result text.new }
-    ensures text_after { take result text.new ≡ reportOf script.now }
+    ensures text_after { take result text.new ≡ report_of script.now }
 {
     match report::report(script, text) {
         Reported::Printed(length) => length,
@@ -34,7 +35,7 @@ fn make_text(script: &[u8], text: &mut [u8]) -> usize
 // The same of a table of few rows; 0 where it needs more, or the text more bytes.
 fn make_brief(script: &[u8], text: &mut [u8]) -> usize
     ensures prefix_len { IsPrefixLen result text.new }
-    ensures text_after { 0 < result → take result text.new ≡ reportOf script.now }
+    ensures text_after { 0 < result → take result text.new ≡ report_of script.now }
 {
     match report_brief(script, text) {
         Brief::Larger {
@@ -50,7 +51,7 @@ fn make_brief(script: &[u8], text: &mut [u8]) -> usize
 }
 
 fn print_large(script: &[u8]) -> Output
-    ensures { Went (length (reportOf script.now)) result }
+    ensures { Went (length (report_of script.now)) result }
 {
     let mut text = [0; LONGEST_TEXT];
     let length = make_text(script, &mut text);
@@ -59,7 +60,7 @@ fn print_large(script: &[u8]) -> Output
 
 // A short text is made in a small buffer: zeros for every text would be most of what a short script costs.
 fn print_short(script: &[u8]) -> Output
-    ensures { Went (length (reportOf script.now)) result }
+    ensures { Went (length (report_of script.now)) result }
 {
     let mut text = [0; SHORT_TEXT];
     let length = make_brief(script, &mut text);

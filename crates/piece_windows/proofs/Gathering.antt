@@ -111,7 +111,7 @@ module _ {rs : List Row} {j : ℕ} {ns : List ℕ} {used : ℕ} {span : Span} (g
 pub record Filling (rs : List Row) (from : Row) (step : ℕ) (ns₀ spare₀ ns spare : List ℕ) (used : ℕ) (span : Span)
     (k : ℕ) : Type 0 where
   pub room : length ns ≡ length ns₀
-  pub spare-room : length spare ≡ length spare₀
+  pub spare_room : length spare ≡ length spare₀
   pub start : span.from ≡ from
   pub gathered : Gathered rs 0 ns used span
   pub all : step ≡ 1 → Gathered rs k ns used span
@@ -119,7 +119,7 @@ pub record Filling (rs : List Row) (from : Row) (step : ℕ) (ns₀ spare₀ ns 
 pub filling-starts : {rs : List Row} {ns : List ℕ} {used : ℕ} {span : Span} (step : ℕ) (spare : List ℕ)
     → Gathered rs 0 ns used span → Filling rs span.from step ns spare ns spare used span 0
 filling-starts step spare g =
-    record { room = refl; spare-room = refl; start = refl; gathered = g; all = λ e. g }
+    record { room = refl; spare_room = refl; start = refl; gathered = g; all = λ e. g }
 
 module _ {rs : List Row} {from : Row} {step : ℕ} {ns₀ spare₀ ns spare : List ℕ} {used : ℕ} {span : Span} {k : ℕ}
     (f : Filling rs from step ns₀ spare₀ ns spare used span k) where
@@ -145,7 +145,7 @@ module _ {rs : List Row} {from : Row} {step : ℕ} {ns₀ spare₀ ns spare : Li
     filling-other other =
         record {
           room = f.room;
-          spare-room = f.spare-room;
+          spare_room = f.spare_room;
           start = f.start;
           gathered = f.gathered;
           all = λ e. rw e (gathered_next (f.all e) inside (λ it. absurd (never_both it other)));
@@ -156,7 +156,7 @@ module _ {rs : List Row} {from : Row} {step : ℕ} {ns₀ spare₀ ns spare : Li
     filling-one room it =
         record {
           room = length-set ns used k ∙ f.room;
-          spare-room = f.spare-room;
+          spare_room = f.spare_room;
           start = f.start;
           gathered = gathered-more f.gathered k inside room it;
           all = λ e.
@@ -174,11 +174,11 @@ module _ {rs : List Row} {from : Row} {step : ℕ} {ns₀ spare₀ ns spare : Li
     filling-roomier roomier kept spare-kept =
         record {
           room = kept ∙ f.room;
-          spare-room = spare-kept ∙ f.spare-room;
+          spare_room = spare-kept ∙ f.spare_room;
           start = roomier.start ∙ f.start;
           gathered = roomier.gathered 0 (rw full at f.gathered);
           all = λ e. roomier.gathered k (rw full at (f.all e));
         }
 
   pub filling-rooms : Rooms ns₀ spare₀ → Rooms ns spare
-  filling-rooms rooms = rooms-kept rooms f.room f.spare-room
+  filling-rooms rooms = rooms-kept rooms f.room f.spare_room

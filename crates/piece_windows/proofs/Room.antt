@@ -40,7 +40,7 @@ module _ {rs : List Row} {ns ns' : List ℕ} {kept : ℕ} (s : Sorted rs ns ns' 
             record {
               within = omega (arith, s.room);
               named = s.named;
-              inside = λ r a. g.inside r (s.of-them r a);
+              inside = λ r a. g.inside r (s.of_them r a);
               complete = λ r e o. s.all r (g.complete r e o);
               spanned = record { some = λ e. sorted-some s (g.spanned.some e); forward = g.spanned.forward };
             };
@@ -73,7 +73,7 @@ module _ {rs : List Row} {ns ns' : List ℕ} {kept : ℕ} (s : Sorted rs ns ns' 
 
     module _ {k : ℕ} (g : Gathered rs k ns (length ns) span) where
       was-inside : (r : Row) → Among rs ns' kept r → in_span span r ≡ true
-      was-inside r a = g.inside r (s.of-them r a)
+      was-inside r a = g.inside r (s.of_them r a)
 
       to_inside : in_span span to ≡ true
       to_inside = was-inside to (among-at rs ns' kept at more)

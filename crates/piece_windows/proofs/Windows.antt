@@ -14,7 +14,7 @@ use mathlib.Core.List.{List, []}
 use native.Mathlib.Omega.{arith}
 use lib.ListN.{length, take, replicate}
 use lib.Seq.{take-length}
-use Rattle.table.specs.Distinct.{firstOfEach, piece_of}
+use Rattle.table.specs.Distinct.{first_of_each, piece_of}
 use Rattle.table.specs.Summing.{count}
 use Rattle.sorted_pieces.specs.Order.{before, Sorted}
 use Rattle.piece_windows.specs.Windows.{in_span, Spanned, Gathered, Counted}
@@ -33,10 +33,10 @@ use Rattle.piece_windows.proofs.Joined.{span-open, span-closed}
 
 module _ {rs : List Row} {ns ns' : List ℕ} {used c : ℕ} {span : Span} (g : Gathered rs (length rs) ns used span)
     (s : Sorted rs (take used ns) ns' c) where
-  pub sorted-counts : c ≡ count (in_span span) (firstOfEach rs)
+  pub sorted-counts : c ≡ count (in_span span) (first_of_each rs)
   sorted-counts =
       rising-count rs ns' c (in_span span) s.named s.rising
-      (λ r a. g.inside r (taken-among rs ns used g.within r (s.of-them r a)))
+      (λ r a. g.inside r (taken-among rs ns used g.within r (s.of_them r a)))
       (λ r e o.
       let gathered = g.complete r e (rw (take-length rs) o) in
       s.all r (among-taken rs ns used g.within r gathered))
@@ -52,44 +52,44 @@ module _ {rs : List Row} {ns ns' : List ℕ} {used c : ℕ} {span : Span} (g : G
 
 -- the two arrays of a count in windows
 pub record Sized (numbers spare : List ℕ) : Type 0 where
-  pub numbers-room : length numbers ≡ 8192
-  pub spare-room : length spare ≡ 8192
+  pub numbers_room : length numbers ≡ 8192
+  pub spare_room : length spare ≡ 8192
 
 pub record Passed (rs : List Row) (from : Row) (found : ℕ) : Type 0 where
-  pub counted : found ≡ count (λ r. before r from) (firstOfEach rs)
+  pub counted : found ≡ count (λ r. before r from) (first_of_each rs)
 
 pub passed-starts : (rs : List Row) (from : Row) → piece_of from ≡ replicate 4 0 → Passed rs from 0
 passed-starts rs from zeros =
-    let none = count-agrees (λ r. before r from) false (λ r. nothing-before r from zeros) (firstOfEach rs) in
-    record { counted = sym (none ∙ count-no-one (firstOfEach rs)) }
+    let none = count-agrees (λ r. before r from) false (λ r. nothing-before r from zeros) (first_of_each rs) in
+    record { counted = sym (none ∙ count-no-one (first_of_each rs)) }
 
 turned : {b d : Bool} → not b ≡ d → b ≡ not d
 turned {b} e = sym (not-not b) ∙ ap not e
 
 module _ {rs : List Row} {from : Row} {found : ℕ} (w : Window) (p : Passed rs from found) (c : Counted rs from w) where
-  pub passed-all : not w.span.closed ≡ true → found + w.used ≡ length (firstOfEach rs)
+  pub passed-all : not w.span.closed ≡ true → found + w.used ≡ length (first_of_each rs)
   passed-all e =
       let joined = count-joined (λ r. before r w.span.from) (in_span w.span) (λ r. true)
-      (λ r. span-open w.span r (turned e)) (firstOfEach rs) in
-      omega (arith, rw (← c.start) at p.counted, c.counted, joined, count-every (firstOfEach rs))
+      (λ r. span-open w.span r (turned e)) (first_of_each rs) in
+      omega (arith, rw (← c.start) at p.counted, c.counted, joined, count-every (first_of_each rs))
 
   module _ (e : not w.span.closed ≡ false) where
     pub passed-more : Passed rs w.span.to (found + w.used)
     passed-more =
         let joined = count-joined (λ r. before r w.span.from) (in_span w.span) (λ r. before r w.span.to)
-        (λ r. span-closed w.span r (turned e) (c.spanned.forward (turned e))) (firstOfEach rs) in
+        (λ r. span-closed w.span r (turned e) (c.spanned.forward (turned e))) (first_of_each rs) in
         record { counted = omega (arith, rw (← c.start) at p.counted, c.counted, joined) }
 
-    closed-bound : found + w.used ≤ length (firstOfEach rs)
+    closed-bound : found + w.used ≤ length (first_of_each rs)
     closed-bound =
-        omega (arith, passed-more.counted, count-inside (λ r. before r w.span.to) (firstOfEach rs))
+        omega (arith, passed-more.counted, count-inside (λ r. before r w.span.to) (first_of_each rs))
 
-    pub passed-less : length (firstOfEach rs) - (found + w.used) < length (firstOfEach rs) - found
+    pub passed-less : length (first_of_each rs) - (found + w.used) < length (first_of_each rs) - found
     passed-less = omega (arith, closed-bound, c.spanned.some (turned e))
 
   pub passed-bound : found + w.used ≤ length rs
   passed-bound = omega (arith, either (not w.span.closed) refl, firsts-inside [] rs)
     where
-      either : (b : Bool) → not w.span.closed ≡ b → found + w.used ≤ length (firstOfEach rs)
+      either : (b : Bool) → not w.span.closed ≡ b → found + w.used ≤ length (first_of_each rs)
       either true e = omega (arith, passed-all e)
       either false e = closed-bound e

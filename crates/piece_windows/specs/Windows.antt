@@ -12,7 +12,7 @@
 --     Counted rs from w              so many pieces are in w's span, which starts at `from`
 -- Assumes nothing.
 use Rattle.std.specs.Prelude.{ℕ, ◌≤◌, ◌<◌, Bool, true, false, not, ◌&&◌, ◌||◌, ◌≡◌, List, length, get_or, take}
-use Rattle.table.specs.Distinct.{occurs, firstOfEach}
+use Rattle.table.specs.Distinct.{occurs, first_of_each}
 use Rattle.table.specs.Summing.{count}
 use Rattle.sorted_pieces.specs.Order.{before, Among}
 use Rattle.rows.specs.declared.Row.{Row}
@@ -54,5 +54,5 @@ pub record Filled (rs : List Row) (from : Row) (ns : List ℕ) (w : Window) : Ty
 
 pub record Counted (rs : List Row) (from : Row) (w : Window) : Type 0 where
   pub start : w.span.from ≡ from
-  pub counted : w.used ≡ count (in_span w.span) (firstOfEach rs)
+  pub counted : w.used ≡ count (in_span w.span) (first_of_each rs)
   pub spanned : Spanned w.used w.span

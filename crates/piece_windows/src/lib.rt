@@ -2,9 +2,10 @@
 // whose pieces lie in a span of the order of pieces, sorts them and counts each piece once. A sample of the rows tells
 // beforehand where the span may end. Where it holds more than there is room for all the same, it is cut short. The rest
 // is for a later pass.
+#![tactic(auto)]
 ghost use Rattle.std.specs.Prelude.{◌+◌, ◌≤◌, ◌<◌, ◌≡◌, length};
 ghost use Rattle.rows.specs.Rows.{rows_of};
-ghost use Rattle.table.specs.Distinct.{firstOfEach};
+ghost use Rattle.table.specs.Distinct.{first_of_each};
 ghost use Rattle.sorted_pieces.specs.Order.{before, Numbers};
 ghost use Rattle.piece_windows.specs.Windows.{in_span, Rooms, Gathered, Roomier, Stepped, Filled, Counted};
 
@@ -158,7 +159,7 @@ fn count_window(table: &[u32], numbers: &mut [usize], spare: &mut [usize], from:
 
 // Counts window by window, from the least piece on.
 pub fn count_in_windows(table: &[u32]) -> usize
-    ensures { result ≡ length (firstOfEach (rows_of table.now)) }
+    ensures { result ≡ length (first_of_each (rows_of table.now)) }
 {
     let mut numbers = [0usize; ROOM];
     let mut spare = [0usize; ROOM];

@@ -17,9 +17,9 @@ use native.Mathlib.Decide.{ℕ_discrete}
 use borrow.Author.Tests.{eq-eqb, ne_eqb}
 use lib.ListN.{length, length-map}
 use Rattle.script.specs.Refusals.{number_of, place_of}
-use Rattle.script.specs.Reading.{readScript}
+use Rattle.script.specs.Reading.{read_script}
 use Rattle.script.specs.Answers.{Answer, value, refusal}
-use Rattle.script.specs.Finding.{findingOf}
+use Rattle.script.specs.Finding.{finding_of}
 use Rattle.script.specs.declared.Finding.{Finding}
 use Rattle.script.specs.declared.command.Match.{Match as ScriptMatch}
 use Rattle.script.specs.declared.refusal.Refusal.{Refusal}
@@ -35,15 +35,15 @@ use Rattle.refining.specs.Demands.{Admitted}
 use Rattle.refining.specs.Carrying.{CarryingOutcome}
 use Rattle.refining.proofs.Demands.{refusal-value}
 use Rattle.refining.proofs.CarryingOutcome.{untrue, listed_found, unlisted-none, carrying-demand}
-use Rattle.positions.specs.CarryingAll.{every, CarryingAll, keptBy, carriedBy, carryingAllOver, carryingAllOf}
-use Rattle.positions.specs.Demands.{carriedAllAnswer, singly, OverMatch, CarryingAllOutcome, SomeOff, AsSingly}
+use Rattle.positions.specs.CarryingAll.{every, CarryingAll, kept_by, carried_by, carrying_all_over, carrying_all_of}
+use Rattle.positions.specs.Demands.{carried_all_answer, singly, OverMatch, CarryingAllOutcome, SomeOff, AsSingly}
 use Rattle.positions.specs.Demands.{BufferLeft, CarryingAllDemand}
 use Rattle.positions.specs.declared.CarriedAll.{CarriedAll}
 use Rattle.positions.proofs.Every.{each-every, every-each, every-not, not-every}
 
 -- the answer of a call
 abbrev answer_of : CarryingAll → Answer (List ℕ)
-answer_of x = carriedAllAnswer x.reply x.carried
+answer_of x = carried_all_answer x.reply x.carried
 
 -- ---- over one match
 
@@ -55,14 +55,14 @@ module _ (m : Match) (side : Side) where
   off-test {position} n = untrue (on position) (λ e. n ((spanned-iff m side position).0 e))
 
   module _ (positions lent : List ℕ) where
-    pub over-differ : length positions ≢ length lent → carryingAllOver m side positions lent ≡ keptBy CountsDiffer lent
+    pub over-differ : length positions ≢ length lent → carrying_all_over m side positions lent ≡ kept_by CountsDiffer lent
     over-differ n = rw (ne_eqb (length positions) (length lent) n)
 
     module _ (same : length positions ≡ length lent) where
-      pub over-off : every on positions ≡ false → carryingAllOver m side positions lent ≡ keptBy OffTheMatch lent
+      pub over-off : every on positions ≡ false → carrying_all_over m side positions lent ≡ kept_by OffTheMatch lent
       over-off e = rw (eq-eqb (length positions) (length lent) same, e)
 
-      pub over-all : every on positions ≡ true → carryingAllOver m side positions lent ≡ carriedBy m side positions
+      pub over-all : every on positions ≡ true → carrying_all_over m side positions lent ≡ carried_by m side positions
       over-all e = rw (eq-eqb (length positions) (length lent) same, e)
 
 -- ---- the single call, by the same conditions
@@ -76,7 +76,7 @@ module _ {script : List ℕ} {number : ℕ} (side : Side) where
   module _ {m : Match} (over : OverMatch script number m) (position : ℕ) where
     pub singly-off : ¬ Spans m side position → singly script number side position ≡ refusal 14 0
     singly-off n =
-        singly-is (CarryingOutcome.off-the-match over.admitted over.listed over.numbered n)
+        singly-is (CarryingOutcome.off_the_match over.admitted over.listed over.numbered n)
 
     pub singly-to : Spans m side position → singly script number side position ≡ value (carry m side position)
     singly-to t = singly-is (CarryingOutcome.carried over.admitted over.listed over.numbered t)
@@ -92,50 +92,50 @@ module _ {script : List ℕ} {number : ℕ} (side : Side) where
 -- ---- the cases
 
 module _ (script : List ℕ) (number : ℕ) (side : Side) (positions lent : List ℕ) where
-  pub all-refused : {r : Refusal} → findingOf (readScript script) number ≡ Finding.Refused r
-      → carryingAllOf script number side positions lent ≡ keptBy r lent
-  unfolding carryingAllOf
+  pub all-refused : {r : Refusal} → finding_of (read_script script) number ≡ Finding.Refused r
+      → carrying_all_of script number side positions lent ≡ kept_by r lent
+  unfolding carrying_all_of
   all-refused e = rw e
 
-  pub all_found : {x : ScriptMatch} → findingOf (readScript script) number ≡ Finding.Found x
-      → carryingAllOf script number side positions lent ≡ carryingAllOver (with_number number x) side positions lent
-  unfolding carryingAllOf
+  pub all_found : {x : ScriptMatch} → finding_of (read_script script) number ≡ Finding.Found x
+      → carrying_all_of script number side positions lent ≡ carrying_all_over (with_number number x) side positions lent
+  unfolding carrying_all_of
   all_found e = rw e
 
   all_listed : {m : Match} → OverMatch script number m
-      → carryingAllOf script number side positions lent ≡ carryingAllOver m side positions lent
+      → carrying_all_of script number side positions lent ≡ carrying_all_over m side positions lent
   all_listed over =
       let found = listed_found number over.admitted over.listed over.numbered in
-      all_found found.1 ∙ ap (λ (z : Match). carryingAllOver z side positions lent) found.2
+      all_found found.1 ∙ ap (λ (z : Match). carrying_all_over z side positions lent) found.2
 
   -- what `carryingAllOf` is where a is the answer: a refusal that keeps the buffer, or as many numbers as it has
   data Told (a : Answer (List ℕ)) : Type 0 where
-    kept : (r : Refusal) → carryingAllOf script number side positions lent ≡ keptBy r lent
+    kept : (r : Refusal) → carrying_all_of script number side positions lent ≡ kept_by r lent
         → a ≡ refusal (number_of r) (place_of r) → Told a
-    all : (m : Match) → carryingAllOf script number side positions lent ≡ carriedBy m side positions
+    all : (m : Match) → carrying_all_of script number side positions lent ≡ carried_by m side positions
         → length positions ≡ length lent → a ≡ value (map (carry m side) positions) → Told a
 
   outcome-told : {a : Answer (List ℕ)} → CarryingAllOutcome script number side positions lent a → Told a
-  outcome-told (CarryingAllOutcome.script-refused o) =
+  outcome-told (CarryingAllOutcome.script_refused o) =
       let f = outcome-refused o in
-      kept f.refusal (all-refused (ap (λ x. findingOf x number) f.read))
+      kept f.refusal (all-refused (ap (λ x. finding_of x number) f.read))
       (ap₂ refusal (sym f.number_is) (sym f.place_is))
-  outcome-told (CarryingAllOutcome.no-such-match a h) = kept _ (all-refused (unlisted-none number a h)) refl
-  outcome-told (CarryingAllOutcome.counts-differ {m} over n) =
+  outcome-told (CarryingAllOutcome.no_such_match a h) = kept _ (all-refused (unlisted-none number a h)) refl
+  outcome-told (CarryingAllOutcome.counts_differ {m} over n) =
       kept _ (all_listed over ∙ over-differ m side positions lent n) refl
-  outcome-told (CarryingAllOutcome.off-the-match {m} over same i n) =
+  outcome-told (CarryingAllOutcome.off_the_match {m} over same i n) =
       let e = not-every (on m side) positions i (off-test m side n) in
       kept _ (all_listed over ∙ over-off m side positions lent same e) refl
-  outcome-told (CarryingAllOutcome.all-carried {m} over same t) =
+  outcome-told (CarryingAllOutcome.all_carried {m} over same t) =
       let e = each-every (on m side) positions (λ x i. (spanned-iff m side x).1 (t x i)) in
       all m (all_listed over ∙ over-all m side positions lent same e) same refl
 
-  told-answer : {a : Answer (List ℕ)} → Told a → a ≡ answer_of (carryingAllOf script number side positions lent)
+  told-answer : {a : Answer (List ℕ)} → Told a → a ≡ answer_of (carrying_all_of script number side positions lent)
   told-answer (kept r is e) = rw is e
   told-answer (all m is same e) = rw is e
 
   told-left : {a : Answer (List ℕ)} → Told a
-      → BufferLeft a lent (carryingAllOf script number side positions lent).carried
+      → BufferLeft a lent (carrying_all_of script number side positions lent).carried
   told-left (kept r is e) = rw is (record {
     refused = λ n place e'. refl;
     success = λ xs e'. absurd (refusal-value (sym e ∙ e'));
@@ -156,19 +156,19 @@ module _ (script : List ℕ) (number : ℕ) (side : Side) (positions lent : List
       by-spans : length positions ≡ length lent → (b : Bool) → every (on m side) positions ≡ b → Stated
       by-spans same true e = (
         _,
-        CarryingAllOutcome.all-carried over same
+        CarryingAllOutcome.all_carried over same
             (λ x i. (spanned-iff m side x).0 (every-each (on m side) positions e x i)),
       )
       by-spans same false e =
           let fails = every-not (on m side) positions e in (
             _,
-            CarryingAllOutcome.off-the-match over same fails.listed
+            CarryingAllOutcome.off_the_match over same fails.listed
                 (λ t. true≢false (sym ((spanned-iff m side fails.number).1 t) ∙ fails.fails)),
           )
 
       by_length : Dec (length positions ≡ length lent) → Stated
       by_length (yes same) = by-spans same (every (on m side) positions) refl
-      by_length (no n) = (_, CarryingAllOutcome.counts-differ over n)
+      by_length (no n) = (_, CarryingAllOutcome.counts_differ over n)
 
   -- some outcome's condition is met: the single call's, of position 0, tells what is found
   stated : Stated
@@ -179,9 +179,9 @@ module _ (script : List ℕ) (number : ℕ) (side : Side) (positions lent : List
       over-of {g} a i e = record { given = g; admitted = a; listed = i; numbered = e }
 
       go : {a : Answer ℕ} → CarryingOutcome script number side 0 a → Stated
-      go (CarryingOutcome.script-refused o) = (_, CarryingAllOutcome.script-refused o)
-      go (CarryingOutcome.no-such-match a h) = (_, CarryingAllOutcome.no-such-match a h)
-      go (CarryingOutcome.off-the-match a i e n) = over-stated (over-of a i e)
+      go (CarryingOutcome.script_refused o) = (_, CarryingAllOutcome.script_refused o)
+      go (CarryingOutcome.no_such_match a h) = (_, CarryingAllOutcome.no_such_match a h)
+      go (CarryingOutcome.off_the_match a i e n) = over-stated (over-of a i e)
       go (CarryingOutcome.carried a i e t) = over-stated (over-of a i e)
 
   -- ---- as singly
@@ -219,22 +219,22 @@ module _ (script : List ℕ) (number : ℕ) (side : Side) (positions lent : List
 
   outcome-singly : {a : Answer (List ℕ)} → CarryingAllOutcome script number side positions lent a
       → AsSingly script number side positions lent a
-  outcome-singly (CarryingAllOutcome.script-refused o) =
-      refused-singly (λ position. singly-is side (CarryingOutcome.script-refused o))
+  outcome-singly (CarryingAllOutcome.script_refused o) =
+      refused-singly (λ position. singly-is side (CarryingOutcome.script_refused o))
       (λ e. ⊎_elim (λ h. omega arith) (λ h. omega (arith, h.0)) (own-number o))
-  outcome-singly (CarryingAllOutcome.no-such-match a h) =
-      refused-singly (λ position. singly-is side (CarryingOutcome.no-such-match a h)) (λ e. omega arith)
-  outcome-singly (CarryingAllOutcome.counts-differ over n) = record {
+  outcome-singly (CarryingAllOutcome.no_such_match a h) =
+      refused-singly (λ position. singly-is side (CarryingOutcome.no_such_match a h)) (λ e. omega arith)
+  outcome-singly (CarryingAllOutcome.counts_differ over n) = record {
     each = λ xs e. absurd (refusal-value e);
     off = (λ e. let z : ◌≡◌ {A = ℕ} 14 22 = cc in absurd (omega arith), λ some. absurd (n some.0));
     before = over-before over (λ k place f t e. let same : k ≡ 22 = cc in t same);
   }
-  outcome-singly (CarryingAllOutcome.off-the-match {position = h} over same i n) = record {
+  outcome-singly (CarryingAllOutcome.off_the_match {position = h} over same i n) = record {
     each = λ xs e. absurd (refusal-value e);
     off = (λ e. (same, record { position = h; listed = i; off = singly-off side over h n }), λ some. refl);
     before = over-before over (λ k place f t e. let same : k ≡ 14 = cc in f same);
   }
-  outcome-singly (CarryingAllOutcome.all-carried {m} over same t) = record {
+  outcome-singly (CarryingAllOutcome.all_carried {m} over same t) = record {
     each = λ xs e.
         let is : map (carry m side) positions ≡ xs = cc in all-singly over t positions (λ x i. i) ∙ ap (map value) is;
     off = (λ e. absurd (refusal-value (sym e)), λ some. absurd (none-off over t some.1));
@@ -244,16 +244,16 @@ module _ (script : List ℕ) (number : ℕ) (side : Side) (positions lent : List
   -- ---- the law
 
   outcome-demand : {a : Answer (List ℕ)} → CarryingAllOutcome script number side positions lent a
-      → CarryingAllDemand script number side positions lent a (carryingAllOf script number side positions lent).carried
+      → CarryingAllDemand script number side positions lent a (carrying_all_of script number side positions lent).carried
   outcome-demand o = record {
     stated = o;
     alone = λ a' o'. told-answer (outcome-told o') ∙ sym (told-answer (outcome-told o));
-    as-singly = outcome-singly o;
+    as_singly = outcome-singly o;
     leaves = told-left (outcome-told o);
   }
 
   pub all-demand : {reply : CarriedAll} {lent' : List ℕ}
-      → reply ≡ (carryingAllOf script number side positions lent).reply
-      → lent' ≡ (carryingAllOf script number side positions lent).carried
-      → CarryingAllDemand script number side positions lent (carriedAllAnswer reply lent') lent'
+      → reply ≡ (carrying_all_of script number side positions lent).reply
+      → lent' ≡ (carrying_all_of script number side positions lent).carried
+      → CarryingAllDemand script number side positions lent (carried_all_answer reply lent') lent'
   all-demand e b = rw (e, b, ← told-answer (outcome-told stated.1)) (outcome-demand stated.1)

@@ -13,9 +13,9 @@ use mathlib.Core.List.{List, [], ◌∷◌, map}
 use mathlib.Core.List.Memᴰ.{head as here}
 use mathlib.Core.List.Memᴰ.{tail as there}
 use lib.ListN.{length}
-use Rattle.script.specs.Reading.{readScript}
+use Rattle.script.specs.Reading.{read_script}
 use Rattle.script.specs.Answers.{Answer, value, refusal}
-use Rattle.script.specs.Finding.{findingOf}
+use Rattle.script.specs.Finding.{finding_of}
 use Rattle.script.specs.declared.Finding.{Finding}
 use Rattle.script.specs.declared.refusal.Refusal.TheVariants.{OffTheMatch}
 use Rattle.refinement.specs.declared.Side.{Side}
@@ -23,11 +23,11 @@ use Rattle.refinement.specs.Order.{◌∈◌}
 use Rattle.refinement.specs.Match.{Match, left, other, Spans, spanned, carry}
 use Rattle.refinement.proofs.Geometry.{carry-spans, carry_back}
 use Rattle.refining.specs.Refining.{with_number}
-use Rattle.refining.specs.Carrying.{carryingOf, carryingOfFinding}
+use Rattle.refining.specs.Carrying.{carrying_of, carrying_of_finding}
 use Rattle.refining.specs.declared.answers.Carried.{Carried}
 use Rattle.refining.proofs.Demands.{refusal-value}
-use Rattle.positions.specs.CarryingAll.{CarryingAll, keptBy, carriedBy, carryingAllOfFinding, carryingAllOf}
-use Rattle.positions.specs.Demands.{carriedAllAnswer, OverMatch, CarryingAllOutcome, CarryingAllDemand}
+use Rattle.positions.specs.CarryingAll.{CarryingAll, kept_by, carried_by, carrying_all_of_finding, carrying_all_of}
+use Rattle.positions.specs.Demands.{carried_all_answer, OverMatch, CarryingAllOutcome, CarryingAllDemand}
 use Rattle.positions.specs.declared.CarriedAll.{CarriedAll}
 use Rattle.positions.proofs.Demands.{all-demand}
 
@@ -36,14 +36,14 @@ use Rattle.positions.proofs.Demands.{all-demand}
 module _ (script : List ℕ) (number : ℕ) (side : Side) (positions lent : List ℕ) where
   -- any outcome of the call is what it answers
   answered : {a : Answer (List ℕ)} → CarryingAllOutcome script number side positions lent a
-      → let made = carryingAllOf script number side positions lent in carriedAllAnswer made.reply made.carried ≡ a
+      → let made = carrying_all_of script number side positions lent in carried_all_answer made.reply made.carried ≡ a
   answered {a} o = sym ((all-demand script number side positions lent refl refl).alone a o)
 
-value_made : (x : CarryingAll) {xs : List ℕ} → carriedAllAnswer x.reply x.carried ≡ value xs
+value_made : (x : CarryingAll) {xs : List ℕ} → carried_all_answer x.reply x.carried ≡ value xs
     → x ≡ record { reply = CarriedAll.All; carried = xs }
 value_made x {xs} e = go x.reply refl e
   where
-    go : (a : CarriedAll) → x.reply ≡ a → carriedAllAnswer a x.carried ≡ value xs
+    go : (a : CarriedAll) → x.reply ≡ a → carried_all_answer a x.carried ≡ value xs
         → x ≡ record { reply = CarriedAll.All; carried = xs }
     go CarriedAll.All is e' = let same : x.carried ≡ xs = cc in ap₂ (λ r l. record { reply = r; carried = l }) is same
     go (CarriedAll.Refused r) is e' = absurd (refusal-value e')
@@ -71,35 +71,35 @@ there_and_back m side (p ∷ ps) t =
 
 module _ (script : List ℕ) (number : ℕ) (side : Side) where
   empty-passes : {m : Match} → OverMatch script number m
-      → carryingAllOf script number side [] [] ≡ record { reply = CarriedAll.All; carried = [] }
+      → carrying_all_of script number side [] [] ≡ record { reply = CarriedAll.All; carried = [] }
   empty-passes over =
       value_made _ (answered script number side [] []
-      (CarryingAllOutcome.all-carried over refl (λ x i. absurd (Memᴰ.not-nil i))))
+      (CarryingAllOutcome.all_carried over refl (λ x i. absurd (Memᴰ.not-nil i))))
 
   pub empty-not-off : {lent lent' : List ℕ} {a : Answer (List ℕ)} → CarryingAllDemand script number side [] lent a lent'
       → a ≢ refusal 14 0
-  empty-not-off d e = Memᴰ.not-nil (d.as-singly.off.0 e).1.listed
+  empty-not-off d e = Memᴰ.not-nil (d.as_singly.off.0 e).1.listed
 
 -- ---- a list of one
 
 -- what the single call says, of a buffer of one number
-abbrev ofOne : Carried → ℕ → CarryingAll
-ofOne (Carried.To x) lent = record { reply = CarriedAll.All; carried = x ∷ [] }
-ofOne (Carried.Refused r) lent = record { reply = CarriedAll.Refused r; carried = lent ∷ [] }
+abbrev of_one : Carried → ℕ → CarryingAll
+of_one (Carried.To x) lent = record { reply = CarriedAll.All; carried = x ∷ [] }
+of_one (Carried.Refused r) lent = record { reply = CarriedAll.Refused r; carried = lent ∷ [] }
 
 one-as-singly : (script : List ℕ) (number : ℕ) (side : Side) (position lent : ℕ)
-    → carryingAllOf script number side (position ∷ []) (lent ∷ []) ≡ ofOne (carryingOf script number side position) lent
-unfolding carryingAllOf carryingOf
-one-as-singly script number side position lent = go (findingOf (readScript script) number)
+    → carrying_all_of script number side (position ∷ []) (lent ∷ []) ≡ of_one (carrying_of script number side position) lent
+unfolding carrying_all_of carrying_of
+one-as-singly script number side position lent = go (finding_of (read_script script) number)
   where
     by-test : (m : Match) (b : Bool)
-        → cond (b && true) (carriedBy m side (position ∷ [])) (keptBy OffTheMatch (lent ∷ []))
-        ≡ ofOne (cond b (Carried.To (carry m side position)) (Carried.Refused OffTheMatch)) lent
+        → cond (b && true) (carried_by m side (position ∷ [])) (kept_by OffTheMatch (lent ∷ []))
+        ≡ of_one (cond b (Carried.To (carry m side position)) (Carried.Refused OffTheMatch)) lent
     by-test m true = refl
     by-test m false = refl
 
-    go : (f : Finding) → carryingAllOfFinding f number side (position ∷ []) (lent ∷ [])
-        ≡ ofOne (carryingOfFinding f number side position) lent
+    go : (f : Finding) → carrying_all_of_finding f number side (position ∷ []) (lent ∷ [])
+        ≡ of_one (carrying_of_finding f number side position) lent
     go (Finding.Refused r) = refl
     go (Finding.Found x) =
         let m = with_number number x in by-test m (spanned (left m side) m.length position)
@@ -110,22 +110,22 @@ module _ (script : List ℕ) (number : ℕ) (side : Side) (positions lent lent' 
   outcome-back : {a : Answer (List ℕ)} → CarryingAllOutcome script number side positions lent a → (xs : List ℕ)
       → a ≡ value xs → length xs ≡ length lent'
       → CarryingAllOutcome script number (other side) xs lent' (value positions)
-  outcome-back (CarryingAllOutcome.script-refused o) xs e long = absurd (refusal-value e)
-  outcome-back (CarryingAllOutcome.no-such-match a h) xs e long = absurd (refusal-value e)
-  outcome-back (CarryingAllOutcome.counts-differ over n) xs e long = absurd (refusal-value e)
-  outcome-back (CarryingAllOutcome.off-the-match over same i n) xs e long = absurd (refusal-value e)
-  outcome-back (CarryingAllOutcome.all-carried {m} over same t) xs e long =
+  outcome-back (CarryingAllOutcome.script_refused o) xs e long = absurd (refusal-value e)
+  outcome-back (CarryingAllOutcome.no_such_match a h) xs e long = absurd (refusal-value e)
+  outcome-back (CarryingAllOutcome.counts_differ over n) xs e long = absurd (refusal-value e)
+  outcome-back (CarryingAllOutcome.off_the_match over same i n) xs e long = absurd (refusal-value e)
+  outcome-back (CarryingAllOutcome.all_carried {m} over same t) xs e long =
       let is : map (carry m side) positions ≡ xs = cc in
       let through = there_and_back m side positions t in
       subst (λ (l : List ℕ). CarryingAllOutcome script number (other side) xs lent' (value l))
       (rw (← is) through.returns)
-      (CarryingAllOutcome.all-carried over long (λ x i. through.arrives x (rw is i)))
+      (CarryingAllOutcome.all_carried over long (λ x i. through.arrives x (rw is i)))
 
   pub carried-back : (xs : List ℕ)
-      → carryingAllOf script number side positions lent ≡ record { reply = CarriedAll.All; carried = xs }
+      → carrying_all_of script number side positions lent ≡ record { reply = CarriedAll.All; carried = xs }
       → length xs ≡ length lent'
-      → carryingAllOf script number (other side) xs lent' ≡ record { reply = CarriedAll.All; carried = positions }
+      → carrying_all_of script number (other side) xs lent' ≡ record { reply = CarriedAll.All; carried = positions }
   carried-back xs made long =
       let there = all-demand script number side positions lent refl refl in
-      let told = ap (λ (x : CarryingAll). carriedAllAnswer x.reply x.carried) made in
+      let told = ap (λ (x : CarryingAll). carried_all_answer x.reply x.carried) made in
       value_made _ (answered script number (other side) xs lent' (outcome-back there.stated xs told long))

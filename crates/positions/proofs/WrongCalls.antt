@@ -35,33 +35,33 @@ module _ (script : List ℕ) (number : ℕ) (side : Side) (positions lent lent' 
   twenty-two-first-refused : {g : Given} {n place : ℕ} → Admitted script g
       → (number ≡ 0) ⊎ (length g.matches < number) → n ≢ 13 → ¬ Demand (refusal n place)
   twenty-two-first-refused a none other d =
-      other-refusal other (d.alone (refusal 13 0) (CarryingAllOutcome.no-such-match a none))
+      other-refusal other (d.alone (refusal 13 0) (CarryingAllOutcome.no_such_match a none))
 
   module _ {m : Match} (over : OverMatch script number m) where
     fourteen-first-refused : {n place : ℕ} → length positions ≢ length lent → n ≢ 22 → ¬ Demand (refusal n place)
     fourteen-first-refused differ other d =
-        other-refusal other (d.alone (refusal 22 0) (CarryingAllOutcome.counts-differ over differ))
+        other-refusal other (d.alone (refusal 22 0) (CarryingAllOutcome.counts_differ over differ))
 
     spare-room-refused : (xs : List ℕ) → length positions ≢ length lent → ¬ Demand (value xs)
     spare-room-refused xs differ d =
-        refusal-value (d.alone (refusal 22 0) (CarryingAllOutcome.counts-differ over differ))
+        refusal-value (d.alone (refusal 22 0) (CarryingAllOutcome.counts_differ over differ))
 
     off-unheeded-refused : (xs : List ℕ) {position : ℕ} → length positions ≡ length lent → position ∈ positions
         → ¬ Spans m side position → ¬ Demand (value xs)
     off-unheeded-refused xs same i off d =
-        refusal-value (d.alone (refusal 14 0) (CarryingAllOutcome.off-the-match over same i off))
+        refusal-value (d.alone (refusal 14 0) (CarryingAllOutcome.off_the_match over same i off))
 
   off-without-refused :
       ((position : ℕ) → position ∈ positions → singly script number side position ≢ refusal 14 0)
       → ¬ Demand (refusal 14 0)
   off-without-refused carried d =
-      let some = (d.as-singly.off.0 refl).1 in carried some.position some.listed some.off
+      let some = (d.as_singly.off.0 refl).1 in carried some.position some.listed some.off
 
   begun-refused : (n place : ℕ) → lent' ≢ lent → ¬ Demand (refusal n place)
   begun-refused n place altered d = altered (d.leaves.refused n place refl)
 
   otherwise-refused : (xs : List ℕ) → map (singly script number side) positions ≢ map value xs → ¬ Demand (value xs)
-  otherwise-refused xs other d = other (d.as-singly.each xs refl)
+  otherwise-refused xs other d = other (d.as_singly.each xs refl)
 
 empty-refused : (script : List ℕ) (number : ℕ) (side : Side) (lent lent' : List ℕ)
     → ¬ CarryingAllDemand script number side [] lent (refusal 14 0) lent'

@@ -1,6 +1,6 @@
 -- What carrying a list of positions together promises, a field for each sentence of 02, #107. TO READ: contracts mean
 -- what stands here.
---     carriedAllAnswer        the reply in the words of 01 and 02: the numbers that are written, or the refusal
+--     carried_all_answer        the reply in the words of 01 and 02: the numbers that are written, or the refusal
 --     singly ..               what the single call answers for one position
 --     CarryingAllOutcome      what may come of a call, by its condition: a case for each refusal, and one for success
 --     AsSingly                the answer beside those of the single call
@@ -17,17 +17,17 @@ use Rattle.refinement.specs.Order.{◌∈◌}
 use Rattle.refinement.specs.Match.{Match, Spans, carry}
 use Rattle.refining.specs.Refining.{Given}
 use Rattle.refining.specs.Demands.{Admitted}
-use Rattle.refining.specs.Carrying.{carryingOf, carriedAnswer}
+use Rattle.refining.specs.Carrying.{carrying_of, carried_answer}
 use Rattle.positions.specs.declared.CarriedAll.{CarriedAll}
 
 -- SCOPE, "Enums": the numbers in the lent buffer, or the refusal
-abbrev pub carriedAllAnswer : CarriedAll → List ℕ → Answer (List ℕ)
-carriedAllAnswer CarriedAll.All carried = value carried
-carriedAllAnswer (CarriedAll.Refused r) carried = refusal (number_of r) (place_of r)
+abbrev pub carried_all_answer : CarriedAll → List ℕ → Answer (List ℕ)
+carried_all_answer CarriedAll.All carried = value carried
+carried_all_answer (CarriedAll.Refused r) carried = refusal (number_of r) (place_of r)
 
 -- 01, "Positions and carrying": the single call, of the same script, match and side
 abbrev pub singly : List ℕ → ℕ → Side → ℕ → Answer ℕ
-singly script number side position = carriedAnswer (carryingOf script number side position)
+singly script number side position = carried_answer (carrying_of script number side position)
 
 -- what comes before 22: an admitted script that has a match of this number
 pub record OverMatch (script : List ℕ) (number : ℕ) (m : Match) : Type 0 where
@@ -40,24 +40,24 @@ pub record OverMatch (script : List ℕ) (number : ℕ) (m : Match) : Type 0 whe
 pub data CarryingAllOutcome (script : List ℕ) (number : ℕ) (side : Side) (positions lent : List ℕ)
     : Answer (List ℕ) → Type 0 where
   -- 1 to 10, 19 to 21: the script's own refusal
-  script-refused :
+  script_refused :
       {n place : ℕ} → Outcome script (refusal n place)
       → CarryingAllOutcome script number side positions lent (refusal n place)
   -- 13: number 0 or above the count
-  no-such-match :
+  no_such_match :
       {g : Given} → Admitted script g → (number ≡ 0) ⊎ (length g.matches < number)
       → CarryingAllOutcome script number side positions lent (refusal 13 0)
   -- 22: "if the two lengths differ"
-  counts-differ :
+  counts_differ :
       {m : Match} → OverMatch script number m → length positions ≢ length lent
       → CarryingAllOutcome script number side positions lent (refusal 22 0)
   -- 14: "one position off the match", on the side named
-  off-the-match :
+  off_the_match :
       {m : Match} {position : ℕ} → OverMatch script number m → length positions ≡ length lent
       → position ∈ positions → ¬ Spans m side position
       → CarryingAllOutcome script number side positions lent (refusal 14 0)
   -- no refusal: what the match of that number carries each of them to
-  all-carried :
+  all_carried :
       {m : Match} → OverMatch script number m → length positions ≡ length lent
       → ((position : ℕ) → position ∈ positions → Spans m side position)
       → CarryingAllOutcome script number side positions lent (value (map (carry m side) positions))
@@ -94,5 +94,5 @@ pub record CarryingAllDemand (script : List ℕ) (number : ℕ) (side : Side) (p
   pub stated : CarryingAllOutcome script number side positions lent answer
   -- .. and any outcome whose condition is met is the answer
   pub alone : (a : Answer (List ℕ)) → CarryingAllOutcome script number side positions lent a → a ≡ answer
-  pub as-singly : AsSingly script number side positions lent answer
+  pub as_singly : AsSingly script number side positions lent answer
   pub leaves : BufferLeft answer lent lent'

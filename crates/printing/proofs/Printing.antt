@@ -10,18 +10,18 @@ use borrow.Author.Tests.{lt-ltb, le-ltb}
 use lib.ListN.{length, drop}
 use lib.Seq.{sets-eq}
 use Rattle.text.specs.Putting.{Put}
-use Rattle.reporting.specs.Reporting.{reportingOfText}
+use Rattle.reporting.specs.Reporting.{reporting_of_text}
 use Rattle.reporting.specs.declared.Reported.{Reported}
 
 module _ (printed : List ℕ) {text part part' : List ℕ} {needed : ℕ} (measured : Put printed part 0 part' needed) where
   pub reporting-short : length text < needed
-      → reportingOfText printed text ≡ record { reply = Reported.TextTooShort needed; text = text }
+      → reporting_of_text printed text ≡ record { reply = Reported.TextTooShort needed; text = text }
   reporting-short short =
       let count : length printed ≡ needed = omega arith in
       rw (lt-ltb (length text) (length printed) (omega arith), count)
 
   pub reporting-whole : {text' : List ℕ} {n : ℕ} → needed ≤ length text → Put printed text 0 text' n
-      → reportingOfText printed text ≡ record { reply = Reported.Printed n; text = text' }
+      → reporting_of_text printed text ≡ record { reply = Reported.Printed n; text = text' }
   reporting-whole {n = n} room put =
       let count : length printed ≡ n = omega arith in
       let from : 0 + length printed ≡ length printed = omega arith in

@@ -12,11 +12,11 @@ use mathlib.Core.Path.{◌≡◌, refl, sym, ap, ◌∙◌}
 use mathlib.Core.Bool.{Bool}
 use mathlib.Core.List.{List, [], ◌∷◌, ◌++◌}
 use lib.ListN.{length, drop, set}
-use Rattle.script.specs.Commands.{lengthsWidth, matchWidth, markWidth, commandOf}
+use Rattle.script.specs.Commands.{lengths_width, match_width, mark_width, command_of}
 use Rattle.script.specs.Steps.{step_of}
-use Rattle.script.specs.Reading.{refused, readScript, verdictOf}
-use Rattle.script.specs.Columns.{columnOf, ColumnsRead, MarksRead}
-use Rattle.script.specs.Demands.{verdictAnswer, ReadingDemand, ColumnsDemand, MarksDemand}
+use Rattle.script.specs.Reading.{refused, read_script, verdict_of}
+use Rattle.script.specs.Columns.{column_of, ColumnsRead, MarksRead}
+use Rattle.script.specs.Demands.{verdict_answer, ReadingDemand, ColumnsDemand, MarksDemand}
 use Rattle.script.specs.declared.command.Match.{Match}
 use Rattle.script.specs.declared.command.Mark.{Mark}
 use Rattle.script.specs.declared.refusal.Refusal.{Refusal}
@@ -34,12 +34,12 @@ use Rattle.reader.proofs.Walks.{admits-reach, never-refused, next-is}
 -- the columns with what was passed; each before and now
 pub record Filled (ms : List Match) (ks : List Mark) (a b d : List ℕ) (r : List Bool) (z x : List ℕ)
     (a' b' d' : List ℕ) (r' : List Bool) (z' x' : List ℕ) : Type 0 where
-  pub left-a : a' ≡ columnOf ms (λ m. m.left_a) a
-  pub left-b : b' ≡ columnOf ms (λ m. m.left_b) b
-  pub letters : d' ≡ columnOf ms (λ m. m.length) d
-  pub reversed : r' ≡ columnOf ms (λ m. m.reversed) r
-  pub side : z' ≡ columnOf ks (λ k. k.side) z
-  pub position : x' ≡ columnOf ks (λ k. k.position) x
+  pub left_a : a' ≡ column_of ms (λ m. m.left_a) a
+  pub left_b : b' ≡ column_of ms (λ m. m.left_b) b
+  pub letters : d' ≡ column_of ms (λ m. m.length) d
+  pub reversed : r' ≡ column_of ms (λ m. m.reversed) r
+  pub side : z' ≡ column_of ks (λ k. k.side) z
+  pub position : x' ≡ column_of ks (λ k. k.position) x
 
 pub as_long : {ms : List Match} {ks : List Mark} {a b d : List ℕ} {r : List Bool} {z x a' b' d' : List ℕ}
     {r' : List Bool} {z' x' : List ℕ} → Filled ms ks a b d r z x a' b' d' r' z' x'
@@ -48,9 +48,9 @@ pub as_long : {ms : List Match} {ks : List Mark} {a b d : List ℕ} {r : List Bo
     × ((length d' ≡ length d)
     × ((length r' ≡ length r) × ((length z' ≡ length z) × (length x' ≡ length x)))))
 as_long {ms} {ks} {a} {b} {d} {r} {z} {x} f = (
-  ap length f.left-a ∙ column-length ms (λ m. m.left_a) a,
+  ap length f.left_a ∙ column-length ms (λ m. m.left_a) a,
   (
-    ap length f.left-b ∙ column-length ms (λ m. m.left_b) b,
+    ap length f.left_b ∙ column-length ms (λ m. m.left_b) b,
     (
       ap length f.letters ∙ column-length ms (λ m. m.length) d,
       (
@@ -66,8 +66,8 @@ as_long {ms} {ks} {a} {b} {d} {r} {z} {x} f = (
 
 -- one more value, stored behind those that are
 one_more : {X Y : Type 0} (field : X → Y) (column : List Y) (xs : List X) {n : ℕ} {now next : List Y} (x : X)
-    → length xs ≡ n → now ≡ columnOf xs field column → next ≡ set now n (field x)
-    → next ≡ columnOf (xs ++ x ∷ []) field column
+    → length xs ≡ n → now ≡ column_of xs field column → next ≡ set now n (field x)
+    → next ≡ column_of (xs ++ x ∷ []) field column
 one_more field column xs x counted is put = put ∙ rw (is, ← counted) (sym (column-next xs field column x))
 
 pub record Filling (s : List ℕ) (a b d : List ℕ) (r : List Bool) (z x : List ℕ) (a' b' d' : List ℕ)
@@ -77,26 +77,26 @@ pub record Filling (s : List ℕ) (a b d : List ℕ) (r : List Bool) (z x : List
   pub filled : Filled progress.matches progress.points a b d r z x a' b' d' r' z' x'
 
 module _ {s : List ℕ} {a b d : List ℕ} {r : List Bool} {z x : List ℕ} where
-  pub filling-start : Admits s → Filling s a b d r z x a b d r z x 0 0 lengthsWidth
-  unfolding columnOf
+  pub filling-start : Admits s → Filling s a b d r z x a b d r z x 0 0 lengths_width
+  unfolding column_of
   filling-start admits =
       record {
         admits = admits;
         progress = progress_start (admits-reach admits);
         filled =
-            record { left-a = refl; left-b = refl; letters = refl; reversed = refl; side = refl; position = refl };
+            record { left_a = refl; left_b = refl; letters = refl; reversed = refl; side = refl; position = refl };
       }
 
   module _ {a' b' d' : List ℕ} {r' : List Bool} {z' x' : List ℕ} {count marks at : ℕ}
       (h : Filling s a b d r z x a' b' d' r' z' x' count marks at) {t : Step}
       (en : t ≡ next_of s at) where
     -- the byte tells the step
-    et : t ≡ step_of h.admits.p h.admits.q count marks at (commandOf (drop at s))
+    et : t ≡ step_of h.admits.p h.admits.q count marks at (command_of (drop at s))
     et = next-is h.admits h.progress en
 
     pub filling-taken : {m : Match} {a'' b'' d'' : List ℕ} {r'' : List Bool} → t ≡ Step.Take m
         → MatchPut m count a' b' d' r' a'' b'' d'' r''
-        → Filling s a b d r z x a'' b'' d'' r'' z' x' (count + 1) marks (at + matchWidth)
+        → Filling s a b d r z x a'' b'' d'' r'' z' x' (count + 1) marks (at + match_width)
     unfolding step-taken
     filling-taken {m} e put =
         let f = h.filled in
@@ -107,8 +107,8 @@ module _ {s : List ℕ} {a b d : List ℕ} {r : List Bool} {z x : List ℕ} wher
           progress = step-taken h.progress et e;
           filled =
               record {
-                left-a = one_more (λ m. m.left_a) a ms m n f.left-a put.left-a;
-                left-b = one_more (λ m. m.left_b) b ms m n f.left-b put.left-b;
+                left_a = one_more (λ m. m.left_a) a ms m n f.left_a put.left_a;
+                left_b = one_more (λ m. m.left_b) b ms m n f.left_b put.left_b;
                 letters = one_more (λ m. m.length) d ms m n f.letters put.letters;
                 reversed = one_more (λ m. m.reversed) r ms m n f.reversed put.reversed;
                 side = f.side;
@@ -117,19 +117,19 @@ module _ {s : List ℕ} {a b d : List ℕ} {r : List Bool} {z x : List ℕ} wher
         }
 
     pub filling-kept : {k : Mark} {z'' x'' : List ℕ} → t ≡ Step.Keep k → MarkPut k marks z' x' z'' x''
-        → Filling s a b d r z x a' b' d' r' z'' x'' count (marks + 1) (at + markWidth)
+        → Filling s a b d r z x a' b' d' r' z'' x'' count (marks + 1) (at + mark_width)
     unfolding step_kept
     filling-kept {k} e put =
         let f = h.filled in
         let ks = h.progress.points in
-        let n = h.progress.counted-marks in
+        let n = h.progress.counted_marks in
         record {
           admits = h.admits;
           progress = step_kept h.progress et e;
           filled =
               record {
-                left-a = f.left-a;
-                left-b = f.left-b;
+                left_a = f.left_a;
+                left_b = f.left_b;
                 letters = f.letters;
                 reversed = f.reversed;
                 side = one_more (λ k. k.side) z ks k n f.side put.side;
@@ -142,8 +142,8 @@ module _ {s : List ℕ} {a b d : List ℕ} {r : List Bool} {z x : List ℕ} wher
         let f = h.filled in
         let read = step-finished h.progress et e in (
           record {
-            left-a = rw read f.left-a;
-            left-b = rw read f.left-b;
+            left_a = rw read f.left_a;
+            left_b = rw read f.left_b;
             letters = rw read f.letters;
             reversed = rw read f.reversed;
           },
@@ -155,22 +155,22 @@ module _ {s : List ℕ} {a b d : List ℕ} {r : List Bool} {z x : List ℕ} wher
 
 -- ---- the call
 
-module _ (s : List ℕ) {told : Verdict} (reads : told ≡ verdictOf (readScript s)) where
+module _ (s : List ℕ) {told : Verdict} (reads : told ≡ verdict_of (read_script s)) where
   pub kept-columns : {f : Refusal} → told ≡ Verdict.Refused f → (a b d : List ℕ) (r : List Bool) (z x : List ℕ)
       → ColumnsRead s a b d r a b d r × MarksRead s z x z x
-  unfolding columnOf
+  unfolding column_of
   kept-columns v a b d r z x =
       let refused = reading-refused s reads v in (
-        record { left-a = rw refused; left-b = rw refused; letters = rw refused; reversed = rw refused },
+        record { left_a = rw refused; left_b = rw refused; letters = rw refused; reversed = rw refused },
         record { side = rw refused; position = rw refused },
       )
 
   pub columns-contract : {a b d a' b' d' : List ℕ} {r r' : List Bool} {z x z' x' : List ℕ}
       → ColumnsRead s a b d r a' b' d' r' × MarksRead s z x z' x'
-      → (told ≡ verdictOf (readScript s))
+      → (told ≡ verdict_of (read_script s))
       × (ColumnsRead s a b d r a' b' d' r'
       × (MarksRead s z x z' x'
-      × (ReadingDemand s (verdictAnswer told)
+      × (ReadingDemand s (verdict_answer told)
       × (ColumnsDemand s a b d r a' b' d' r'
       × MarksDemand s z x z' x'))))
   columns-contract h =

@@ -12,12 +12,12 @@ use mathlib.Core.List.{List, [], ◌∷◌}
 use native.Mathlib.Omega.{arith}
 use lib.ListN.{length, get_or, drop, get_or-append}
 use lib.Seq.{get_or_at}
-use Rattle.script.specs.Commands.{lengthsWidth, matchWidth, markWidth, commandOf}
+use Rattle.script.specs.Commands.{lengths_width, match_width, mark_width, command_of}
 use Rattle.script.specs.Steps.{step_of}
 use Rattle.script.specs.Outcomes.{MatchAt}
-use Rattle.script.specs.Reading.{readScript, verdictOf}
-use Rattle.script.specs.Columns.{matchesRead}
-use Rattle.script.specs.Finding.{foundIn, findingOf}
+use Rattle.script.specs.Reading.{read_script, verdict_of}
+use Rattle.script.specs.Columns.{matches_read}
+use Rattle.script.specs.Finding.{found_in, finding_of}
 use Rattle.script.specs.declared.command.Match.{Match}
 use Rattle.script.specs.declared.command.Mark.{Mark}
 use Rattle.script.specs.declared.step.Step.{Step}
@@ -28,7 +28,7 @@ use Rattle.script.specs.declared.Verdict.{Verdict}
 use Rattle.script.proofs.Admitted.{Holds, holds-admitted}
 use Rattle.script.proofs.Found.{found-zero, found-above, found_at}
 use Rattle.script.proofs.Places.{match-placed}
-use Rattle.reader.specs.Walking.{Admits, matchSeen, next_of, noMatch, numberedMatch}
+use Rattle.reader.specs.Walking.{Admits, match_seen, next_of, no_match, numbered_match}
 use Rattle.reader.proofs.Progress.{Progress, progress_start, step-finished, step-taken, step_kept}
 use Rattle.reader.proofs.Walks.{match-seen, admits-reach, never-refused, next-is}
 
@@ -37,10 +37,10 @@ use Rattle.reader.proofs.Walks.{match-seen, admits-reach, never-refused, next-is
 pub record Seeking (s : List ℕ) (number : ℕ) (found : Match) (count marks at : ℕ) : Type 0 where
   pub admits : Admits s
   pub progress : Progress s admits.p admits.q count marks at
-  pub kept : 0 < number → number ≤ count → found ≡ get_or progress.matches (number - 1) noMatch
+  pub kept : 0 < number → number ≤ count → found ≡ get_or progress.matches (number - 1) no_match
 
 module _ {s : List ℕ} {number : ℕ} where
-  pub seeking-start : {found : Match} → Admits s → Seeking s number found 0 0 lengthsWidth
+  pub seeking-start : {found : Match} → Admits s → Seeking s number found 0 0 lengths_width
   seeking-start admits =
       record {
         admits = admits;
@@ -51,24 +51,24 @@ module _ {s : List ℕ} {number : ℕ} where
   module _ {found : Match} {count marks at : ℕ} (h : Seeking s number found count marks at) {t : Step}
       (en : t ≡ next_of s at) where
     -- the byte tells the step
-    et : t ≡ step_of h.admits.p h.admits.q count marks at (commandOf (drop at s))
+    et : t ≡ step_of h.admits.p h.admits.q count marks at (command_of (drop at s))
     et = next-is h.admits h.progress en
 
     -- the match that is taken has the number
     pub seeking-taken : {m : Match} → t ≡ Step.Take m → count + 1 ≡ number
-        → Seeking s number m (count + 1) marks (at + matchWidth)
+        → Seeking s number m (count + 1) marks (at + match_width)
     unfolding step-taken
     seeking-taken {m} e is =
         let before = h.progress.matches in
         record {
           admits = h.admits;
           progress = step-taken h.progress et e;
-          kept = λ some few. sym (get_or_at before m [] noMatch (number - 1) (omega (arith, h.progress.counted)));
+          kept = λ some few. sym (get_or_at before m [] no_match (number - 1) (omega (arith, h.progress.counted)));
         }
 
     -- or another
     pub seeking-other : {m : Match} → t ≡ Step.Take m → count + 1 ≢ number
-        → Seeking s number found (count + 1) marks (at + matchWidth)
+        → Seeking s number found (count + 1) marks (at + match_width)
     unfolding step-taken
     seeking-other {m} e other =
         let before = h.progress.matches in
@@ -77,11 +77,11 @@ module _ {s : List ℕ} {number : ℕ} where
           progress = step-taken h.progress et e;
           kept = λ some few.
               h.kept some (omega (arith, other))
-              ∙ sym (get_or-append before (m ∷ []) noMatch (number - 1)
+              ∙ sym (get_or-append before (m ∷ []) no_match (number - 1)
               (omega (arith, other, h.progress.counted)));
         }
 
-    pub seeking-kept : {k : Mark} → t ≡ Step.Keep k → Seeking s number found count (marks + 1) (at + markWidth)
+    pub seeking-kept : {k : Mark} → t ≡ Step.Keep k → Seeking s number found count (marks + 1) (at + mark_width)
     unfolding step_kept
     seeking-kept e =
         record { admits = h.admits; progress = step_kept h.progress et e; kept = h.kept }
@@ -89,8 +89,8 @@ module _ {s : List ℕ} {number : ℕ} where
     pub seeking-refused : {f : Refusal} → t ≡ Step.Refuse f → ⊥
     seeking-refused {f} e = never-refused h.admits h.progress f (sym et ∙ e)
 
-    pub sought : t ≡ Step.Finish → 0 < number → number ≤ length (matchesRead (readScript s))
-        → found ≡ numberedMatch s number
+    pub sought : t ≡ Step.Finish → 0 < number → number ≤ length (matches_read (read_script s))
+        → found ≡ numbered_match s number
     sought e some few =
         let read = step-finished h.progress et e in
         let held : number ≤ length h.progress.matches = rw read at few in
@@ -98,48 +98,48 @@ module _ {s : List ℕ} {number : ℕ} where
 
 -- ---- what is found
 
-module _ (s : List ℕ) {p q count marks : ℕ} (told : Verdict.Admitted p q count marks ≡ verdictOf (readScript s)) where
+module _ (s : List ℕ) {p q count marks : ℕ} (told : Verdict.Admitted p q count marks ≡ verdict_of (read_script s)) where
   held : Holds s p q count marks
   held = holds-admitted s told refl
 
   pub here : Admits s
   here = record { p = p; q = q; count = count; marks = marks; told = told }
 
-  pub matches-all : (number : ℕ) → number ≤ count → number ≤ length (matchesRead (readScript s))
+  pub matches-all : (number : ℕ) → number ≤ count → number ≤ length (matches_read (read_script s))
   matches-all number h = rw held.read (omega (arith, held.counted))
 
   module _ (number : ℕ) where
-    pub zero-finding : number ≡ 0 → Finding.Refused NoSuchMatch ≡ findingOf (readScript s) number
+    pub zero-finding : number ≡ 0 → Finding.Refused NoSuchMatch ≡ finding_of (read_script s) number
     zero-finding z = rw (held.read, z) (sym (found-zero held.matches))
 
-    pub above-finding : count < number → Finding.Refused NoSuchMatch ≡ findingOf (readScript s) number
+    pub above-finding : count < number → Finding.Refused NoSuchMatch ≡ finding_of (read_script s) number
     above-finding h =
         rw held.read (sym (found-above held.matches number (omega (arith, held.counted))))
 
-    pub found-finding : {m : Match} → number ≢ 0 → number ≤ count → m ≡ numberedMatch s number
-        → Finding.Found m ≡ findingOf (readScript s) number
+    pub found-finding : {m : Match} → number ≢ 0 → number ≤ count → m ≡ numbered_match s number
+        → Finding.Found m ≡ finding_of (read_script s) number
     found-finding some few is =
         let ms = held.matches in
         let index : ℕ = number - 1 in
         let one_more : number ≡ suc index = omega (arith, some) in
-        let same : numberedMatch s number ≡ get_or ms index noMatch = rw held.read in
+        let same : numbered_match s number ≡ get_or ms index no_match = rw held.read in
         rw held.read
-        (ap Finding.Found (is ∙ same) ∙ sym (found_at ms index noMatch (omega (arith, some, held.counted)))
-        ∙ ap (foundIn ms) (sym one_more))
+        (ap Finding.Found (is ∙ same) ∙ sym (found_at ms index no_match (omega (arith, some, held.counted)))
+        ∙ ap (found_in ms) (sym one_more))
 
     -- the command of a script without marks
     placed : marks ≡ 0 → number ≢ 0 → number ≤ count
-        → MatchAt s (lengthsWidth + matchWidth * (number - 1)) (get_or held.matches (number - 1) noMatch)
+        → MatchAt s (lengths_width + match_width * (number - 1)) (get_or held.matches (number - 1) no_match)
     placed none some few =
-        match-placed s held.read (held.counted-marks ∙ none) (number - 1) (omega (arith, some, held.counted))
-        noMatch
+        match-placed s held.read (held.counted_marks ∙ none) (number - 1) (omega (arith, some, held.counted))
+        no_match
 
     pub placed-inside : marks ≡ 0 → number ≢ 0 → number ≤ count
-        → lengthsWidth + matchWidth * (number - 1) + matchWidth ≤ length s
+        → lengths_width + match_width * (number - 1) + match_width ≤ length s
     placed-inside none some few = (placed none some few).whole
 
     pub placed-match : {m : Match} → marks ≡ 0 → number ≢ 0 → number ≤ count
-        → m ≡ matchSeen s (lengthsWidth + matchWidth * (number - 1)) → m ≡ numberedMatch s number
+        → m ≡ match_seen s (lengths_width + match_width * (number - 1)) → m ≡ numbered_match s number
     placed-match none some few is =
-        let same : numberedMatch s number ≡ get_or held.matches (number - 1) noMatch = rw held.read in
+        let same : numbered_match s number ≡ get_or held.matches (number - 1) no_match = rw held.read in
         is ∙ match-seen (placed none some few) ∙ sym same

@@ -13,8 +13,8 @@ use native.Mathlib.Omega.{arith}
 use borrow.Author.Tests.{ne_eqb}
 use lib.Dec.{eqb}
 use lib.ListN.{length, get_or, drop}
-use Rattle.script.specs.Limits.{mostMatches, mostMarks}
-use Rattle.script.specs.Commands.{lengthsWidth, matchWidth, markWidth, commandOf}
+use Rattle.script.specs.Limits.{most_matches, most_marks}
+use Rattle.script.specs.Commands.{lengths_width, match_width, mark_width, command_of}
 use Rattle.script.specs.Steps.{step_of}
 use Rattle.script.specs.Outcomes.{Byte, MatchByte, MatchAt, MarkAt, Reach, opened, taken, marked}
 use Rattle.script.specs.declared.command.Match.{Match}
@@ -26,51 +26,51 @@ use Rattle.script.specs.declared.step.Step.{Step}
 use Rattle.script.proofs.Seen.{Seen, seen}
 use Rattle.script.proofs.Admitted.{Ended, holds-admitted, admitted-ended}
 use Rattle.script.proofs.Judged.{Weighed, Judged, judged, Measured, Pointed, pointed, Roomy, roomy}
-use Rattle.reader.specs.Walking.{Admits, matchSeen, markSeen, next_of}
+use Rattle.reader.specs.Walking.{Admits, match_seen, mark_seen, next_of}
 use Rattle.reader.proofs.Progress.{Progress, step-refused}
 
 -- ---- what stands at an offset
 
 data Stands (s : List ℕ) (at : ℕ) : Step → Type 0 where
-  match-here : {m : Match} → MatchAt s at m → Stands s at (Step.Take m)
-  mark-here : {k : Mark} → MarkAt s at k → Stands s at (Step.Keep k)
-  end-here : Byte s at 0x45 → Stands s at Step.Finish
-  refused-here : {f : Refusal} → Stands s at (Step.Refuse f)
+  match_here : {m : Match} → MatchAt s at m → Stands s at (Step.Take m)
+  mark_here : {k : Mark} → MarkAt s at k → Stands s at (Step.Keep k)
+  end_here : Byte s at 0x45 → Stands s at Step.Finish
+  refused_here : {f : Refusal} → Stands s at (Step.Refuse f)
 
 match-stands : {s : List ℕ} {p q count at : ℕ} {m : Match} {t : Step} → MatchAt s at m → Judged p q count at m t
     → Stands s at t
-match-stands d (Judged.too_many _) = refused-here
-match-stands d (Judged.room _ (Weighed.empty _)) = refused-here
-match-stands d (Judged.room _ (Weighed.beyond-a _ _)) = refused-here
-match-stands d (Judged.room _ (Weighed.beyond-b _ _ _)) = refused-here
-match-stands d (Judged.room _ (Weighed.sound _)) = match-here d
+match-stands d (Judged.too_many _) = refused_here
+match-stands d (Judged.room _ (Weighed.empty _)) = refused_here
+match-stands d (Judged.room _ (Weighed.beyond_a _ _)) = refused_here
+match-stands d (Judged.room _ (Weighed.beyond_b _ _ _)) = refused_here
+match-stands d (Judged.room _ (Weighed.sound _)) = match_here d
 
 mark-stands : {s : List ℕ} {p q marks at : ℕ} {k : Mark} {t : Step} → MarkAt s at k → Pointed p q marks at k t
     → Stands s at t
-mark-stands d (Pointed.too_many _) = refused-here
-mark-stands d (Pointed.room _ (Measured.no-side _)) = refused-here
-mark-stands d (Pointed.room _ (Measured.beyond _)) = refused-here
-mark-stands d (Pointed.room _ (Measured.sound _)) = mark-here d
+mark-stands d (Pointed.too_many _) = refused_here
+mark-stands d (Pointed.room _ (Measured.no_side _)) = refused_here
+mark-stands d (Pointed.room _ (Measured.beyond _)) = refused_here
+mark-stands d (Pointed.room _ (Measured.sound _)) = mark_here d
 
 short-stands : {s : List ℕ} {at most count : ℕ} {full : Refusal} {t : Step}
     → Roomy most count full (Step.Refuse (CutShort at)) t → Stands s at t
-short-stands (Roomy.too_many _) = refused-here
-short-stands (Roomy.room _) = refused-here
+short-stands (Roomy.too_many _) = refused_here
+short-stands (Roomy.room _) = refused_here
 
 stands : {s : List ℕ} (p q count marks : ℕ) {at : ℕ} {c : Command} → Seen s at c
     → Stands s at (step_of p q count marks at c)
-stands p q count marks (Seen.missing _) = refused-here
-stands p q count marks (Seen.unknown _ _ _ _ _ _) = refused-here
-stands p q count marks (Seen.lengths _ _) = refused-here
-stands p q count marks (Seen.lengths_Short _ _) = refused-here
+stands p q count marks (Seen.missing _) = refused_here
+stands p q count marks (Seen.unknown _ _ _ _ _ _) = refused_here
+stands p q count marks (Seen.lengths _ _) = refused_here
+stands p q count marks (Seen.lengths_Short _ _) = refused_here
 stands p q count marks {at} (Seen.pairing {m} d) = match-stands d (judged p q count at m)
-stands p q count marks {at} (Seen.pairing-short _ _) =
-    short-stands (roomy mostMatches count (TooManyMatches at) (Step.Refuse (CutShort at)))
+stands p q count marks {at} (Seen.pairing_short _ _) =
+    short-stands (roomy most_matches count (TooManyMatches at) (Step.Refuse (CutShort at)))
 stands p q count marks {at} (Seen.marking {k} d) = mark-stands d (pointed p q marks at k)
-stands p q count marks {at} (Seen.marking-short _ _) =
-    short-stands (roomy mostMarks marks (TooManyMarks at) (Step.Refuse (CutShort at)))
-stands p q count marks (Seen.end b _) = end-here b
-stands p q count marks (Seen.end-then-more _ _) = refused-here
+stands p q count marks {at} (Seen.marking_short _ _) =
+    short-stands (roomy most_marks marks (TooManyMarks at) (Step.Refuse (CutShort at)))
+stands p q count marks (Seen.end b _) = end_here b
+stands p q count marks (Seen.end_then_more _ _) = refused_here
 
 -- ---- by its byte
 
@@ -78,68 +78,68 @@ stands p q count marks (Seen.end-then-more _ _) = refused-here
 record Told (code : ℕ) (way : Bool) : Type 0 where
   direction : eqb code 0x52 ≡ way
   no_end : code ≢ 0x45
-  no-mark : code ≢ 0x4D
+  no_mark : code ≢ 0x4D
 
 told : {s : List ℕ} {at : ℕ} {way : Bool} → MatchByte s at way → Told (get_or s at 0) way
 told (MatchByte.direct b) =
-    let is = b.is in record { direction = rw is; no_end = omega arith; no-mark = omega arith }
+    let is = b.is in record { direction = rw is; no_end = omega arith; no_mark = omega arith }
 told (MatchByte.backward b) =
-    let is = b.is in record { direction = rw is; no_end = omega arith; no-mark = omega arith }
+    let is = b.is in record { direction = rw is; no_end = omega arith; no_mark = omega arith }
 
-pub match-seen : {s : List ℕ} {at : ℕ} {m : Match} → MatchAt s at m → matchSeen s at ≡ m
+pub match-seen : {s : List ℕ} {at : ℕ} {m : Match} → MatchAt s at m → match_seen s at ≡ m
 match-seen d = λ i. record {
-  track_a = sym d.on-a i;
-  track_b = sym d.on-b i;
-  left_a = sym d.left-a i;
-  left_b = sym d.left-b i;
+  track_a = sym d.on_a i;
+  track_b = sym d.on_b i;
+  left_a = sym d.left_a i;
+  left_b = sym d.left_b i;
   length = sym d.letters i;
   reversed = (told d.code).direction i;
 }
 
-mark-seen : {s : List ℕ} {at : ℕ} {k : Mark} → MarkAt s at k → markSeen s at ≡ k
+mark-seen : {s : List ℕ} {at : ℕ} {k : Mark} → MarkAt s at k → mark_seen s at ≡ k
 mark-seen d = λ i. record { side = sym d.side i; position = sym d.position i }
 
 next-by : {s : List ℕ} {at : ℕ} {t : Step} → Stands s at t → ((f : Refusal) → t ≡ Step.Refuse f → ⊥) → next_of s at ≡ t
-next-by {s} {at} (match-here d) go =
-    rw (ne_eqb (get_or s at 0) 0x45 (told d.code).no_end, ne_eqb (get_or s at 0) 0x4D (told d.code).no-mark)
+next-by {s} {at} (match_here d) go =
+    rw (ne_eqb (get_or s at 0) 0x45 (told d.code).no_end, ne_eqb (get_or s at 0) 0x4D (told d.code).no_mark)
     (ap Step.Take (match-seen d))
-next-by {s} {at} (mark-here d) go = rw d.code.is (ap Step.Keep (mark-seen d))
-next-by (end-here b) go = rw b.is
-next-by (refused-here {f}) go = absurd (go f refl)
+next-by {s} {at} (mark_here d) go = rw d.code.is (ap Step.Keep (mark-seen d))
+next-by (end_here b) go = rw b.is
+next-by (refused_here {f}) go = absurd (go f refl)
 
 -- what reading the command asks of the bytes
 abbrev Asked : List ℕ → ℕ → Type 0
 Asked s at =
     (at < length s)
-    × ((get_or s at 0 ≡ 0x4D → at + markWidth ≤ length s)
-    × (get_or s at 0 ≢ 0x45 → get_or s at 0 ≢ 0x4D → at + matchWidth ≤ length s))
+    × ((get_or s at 0 ≡ 0x4D → at + mark_width ≤ length s)
+    × (get_or s at 0 ≢ 0x45 → get_or s at 0 ≢ 0x4D → at + match_width ≤ length s))
 
 asked_by : {s : List ℕ} {at : ℕ} {t : Step} → Stands s at t → ((f : Refusal) → t ≡ Step.Refuse f → ⊥) → Asked s at
-asked_by (match-here d) go =
-    let whole = d.whole in (omega arith, (λ is. absurd ((told d.code).no-mark is), λ _ _. whole))
-asked_by (mark-here d) go =
+asked_by (match_here d) go =
+    let whole = d.whole in (omega arith, (λ is. absurd ((told d.code).no_mark is), λ _ _. whole))
+asked_by (mark_here d) go =
     let whole = d.whole in (omega arith, (λ _. whole, λ _ other. absurd (other d.code.is)))
-asked_by (end-here b) go =
+asked_by (end_here b) go =
     (b.inside, (λ is. absurd (omega (arith, b.is)), λ other _. absurd (other b.is)))
-asked_by (refused-here {f}) go = absurd (go f refl)
+asked_by (refused_here {f}) go = absurd (go f refl)
 
 -- ---- where the walk begins
 
 first_reach : {s : List ℕ} {p q at : ℕ} {ms : List Match} {ks : List Mark} → Reach s p q at ms ks
-    → Reach s p q lengthsWidth [] []
+    → Reach s p q lengths_width [] []
 first_reach (opened l a b) = opened l a b
 first_reach (taken r _ _ _) = first_reach r
 first_reach (marked r _ _ _) = first_reach r
 
 ended-reach : {s ls : List ℕ} {ms : List Match} {ks : List Mark} {p q : ℕ} → Ended s ls ms ks → ls ≡ p ∷ q ∷ []
-    → Reach s p q lengthsWidth [] []
+    → Reach s p q lengths_width [] []
 ended-reach {p = p} {q = q} end e =
     let lengths = end.lengths in
     let ep : p ≡ end.p = cc in
     let eq : q ≡ end.q = cc in
     rw (ep, eq) (first_reach end.reach)
 
-pub admits-reach : {s : List ℕ} (admits : Admits s) → Reach s admits.p admits.q lengthsWidth [] []
+pub admits-reach : {s : List ℕ} (admits : Admits s) → Reach s admits.p admits.q lengths_width [] []
 admits-reach {s} a = ended-reach (admitted-ended (holds-admitted s a.told refl).read) refl
 
 -- ---- how it goes on
@@ -147,7 +147,7 @@ admits-reach {s} a = ended-reach (admitted-ended (holds-admitted s a.told refl).
 module _ {s : List ℕ} (admits : Admits s) {count marks at : ℕ}
     (h : Progress s admits.p admits.q count marks at) where
   abbrev step : Step
-  step = step_of admits.p admits.q count marks at (commandOf (drop at s))
+  step = step_of admits.p admits.q count marks at (command_of (drop at s))
 
   pub never-refused : (f : Refusal) → step ≡ Step.Refuse f → ⊥
   never-refused f e =

@@ -1,8 +1,8 @@
 // The matches and the marks of a script, a lent column for each field.
 ghost use Rattle.std.specs.Prelude.{◌≡◌, set};
-ghost use Rattle.script.specs.Reading.{readScript, verdictOf};
+ghost use Rattle.script.specs.Reading.{read_script, verdict_of};
 ghost use Rattle.script.specs.Columns.{ColumnsRead, MarksRead};
-ghost use Rattle.script.specs.Demands.{verdictAnswer, ReadingDemand, ColumnsDemand, MarksDemand};
+ghost use Rattle.script.specs.Demands.{verdict_answer, ReadingDemand, ColumnsDemand, MarksDemand};
 ghost use Rattle.reader.specs.Walking.{Admits, MatchPut, MarkPut};
 
 use crate::read;
@@ -114,13 +114,13 @@ pub fn read_columns(
     sides: &mut [u8],
     positions: &mut [u32],
 ) -> Verdict
-    ensures reply { result ≡ verdictOf (readScript script.now) }
+    ensures reply { result ≡ verdict_of (read_script script.now) }
     ensures columns { ColumnsRead script.now
         left_a.old left_b.old lengths.old reversed.old
         left_a.new left_b.new lengths.new reversed.new }
     ensures marks { MarksRead script.now sides.old positions.old sides.new
         positions.new }
-    ensures demand { ReadingDemand script.now (verdictAnswer result) }
+    ensures demand { ReadingDemand script.now (verdict_answer result) }
     ensures columns_demand { ColumnsDemand script.now
         left_a.old left_b.old lengths.old reversed.old
         left_a.new left_b.new lengths.new reversed.new }

@@ -1,11 +1,11 @@
 // One match of a script, by its number.
 ghost use Rattle.std.specs.Prelude.{◌≡◌, ◌≤◌, ◌<◌, length};
-ghost use Rattle.script.specs.Reading.{readScript, verdictOf};
-ghost use Rattle.script.specs.Columns.{matchesRead};
-ghost use Rattle.script.specs.Finding.{findingOf};
-ghost use Rattle.script.specs.Demands.{findingAnswer, FindingDemand};
+ghost use Rattle.script.specs.Reading.{read_script, verdict_of};
+ghost use Rattle.script.specs.Columns.{matches_read};
+ghost use Rattle.script.specs.Finding.{finding_of};
+ghost use Rattle.script.specs.Demands.{finding_answer, FindingDemand};
 ghost use Rattle.script.specs.declared.Verdict.TheVariants.{Admitted};
-ghost use Rattle.reader.specs.Walking.{Admits, numberedMatch};
+ghost use Rattle.reader.specs.Walking.{Admits, numbered_match};
 
 use crate::read;
 use crate::walk::{match_at, next_at};
@@ -16,8 +16,8 @@ use script::{Finding, Refusal, Verdict};
 // The match of this number, where there is one, among matches and marks: those before it are passed.
 fn walk_to(script: &[u8], number: usize) -> Match
     requires admits { Admits script.now }
-    requires number_nonzero { (0 < number) × (number ≤ length (matchesRead (readScript script.now))) }
-    ensures { result ≡ numberedMatch script.now number }
+    requires number_nonzero { (0 < number) × (number ≤ length (matches_read (read_script script.now))) }
+    ensures { result ≡ numbered_match script.now number }
 {
     let mut found = Match {
         track_a: 0,
@@ -51,8 +51,8 @@ fn walk_to(script: &[u8], number: usize) -> Match
 
 // The same of an admitted script with so many matches and marks: without a mark the match stands at a fixed offset.
 fn find_in(script: &[u8], p: u32, q: u32, count: usize, marks: usize, number: u32) -> Finding
-    requires { Admitted p q count marks ≡ verdictOf (readScript script.now) }
-    ensures { result ≡ findingOf (readScript script.now) number }
+    requires { Admitted p q count marks ≡ verdict_of (read_script script.now) }
+    ensures { result ≡ finding_of (read_script script.now) number }
 {
     if number == 0 {
         return Finding::Refused(Refusal::NoSuchMatch);
@@ -71,8 +71,8 @@ fn find_in(script: &[u8], p: u32, q: u32, count: usize, marks: usize, number: u3
 
 // The match of this number, counted from 1; refused as the script is, or with 13.
 pub fn find_match(script: &[u8], number: u32) -> Finding
-    ensures value { result ≡ findingOf (readScript script.now) number }
-    ensures finding_demand { FindingDemand script.now number (findingAnswer result) }
+    ensures value { result ≡ finding_of (read_script script.now) number }
+    ensures finding_demand { FindingDemand script.now number (finding_answer result) }
 {
     match read(script) {
         Verdict::Refused(refusal) => Finding::Refused(refusal),

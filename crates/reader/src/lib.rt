@@ -1,14 +1,15 @@
 // The reader of match scripts: from any string of bytes to a verdict, and to the matches and marks of an admitted
 // script.
+#![tactic(auto)]
 pub mod columns;
 pub mod find;
 pub mod walk;
 
 ghost use Rattle.std.specs.Prelude.{◌≡◌, []};
-ghost use Rattle.script.specs.Commands.{lengthsWidth};
-ghost use Rattle.script.specs.Reading.{readScript, verdictOf};
+ghost use Rattle.script.specs.Commands.{lengths_width};
+ghost use Rattle.script.specs.Reading.{read_script, verdict_of};
 ghost use Rattle.script.specs.Outcomes.{Reach};
-ghost use Rattle.script.specs.Demands.{verdictAnswer, ReadingDemand};
+ghost use Rattle.script.specs.Demands.{verdict_answer, ReadingDemand};
 
 use commands::read_command;
 use judging::{judge, judge_opening};
@@ -18,8 +19,8 @@ use script::step::{Opening, Step};
 
 // The commands behind the lengths, one after the other.
 fn read_commands(script: &[u8], p: u32, q: u32) -> Verdict
-    requires { Reach script.now p q lengthsWidth [] [] }
-    ensures { result ≡ verdictOf (readScript script.now) }
+    requires { Reach script.now p q lengths_width [] [] }
+    ensures { result ≡ verdict_of (read_script script.now) }
 {
     let mut count: usize = 0;
     let mut marks: usize = 0;
@@ -42,8 +43,8 @@ fn read_commands(script: &[u8], p: u32, q: u32) -> Verdict
 
 // The verdict on any string of bytes.
 pub fn read(script: &[u8]) -> Verdict
-    ensures value { result ≡ verdictOf (readScript script.now) }
-    ensures reading_demand { ReadingDemand script.now (verdictAnswer result) }
+    ensures value { result ≡ verdict_of (read_script script.now) }
+    ensures reading_demand { ReadingDemand script.now (verdict_answer result) }
 {
     match judge_opening(read_command(script)) {
         Opening::Refuse(refusal) => Verdict::Refused(refusal),

@@ -1,7 +1,7 @@
 // The commands of a script that was admitted: what one says, with nothing judged again.
 ghost use Rattle.std.specs.Prelude.{◌≡◌, ◌≢◌, ◌+◌, ◌≤◌, ◌<◌, length, get_or};
-ghost use Rattle.script.specs.Commands.{matchWidth, markWidth};
-ghost use Rattle.reader.specs.Walking.{matchSeen, markSeen, next_of};
+ghost use Rattle.script.specs.Commands.{match_width, mark_width};
+ghost use Rattle.reader.specs.Walking.{match_seen, mark_seen, next_of};
 
 use commands::{is_reversed, number_at};
 use script::command::{Mark, Match};
@@ -9,8 +9,8 @@ use script::step::Step;
 
 // The match whose command stands at the offset.
 pub fn match_at(script: &[u8], at: usize) -> Match
-    requires { at + matchWidth ≤ length script.now }
-    ensures { result ≡ matchSeen script.now at }
+    requires { at + match_width ≤ length script.now }
+    ensures { result ≡ match_seen script.now at }
 {
     Match {
         track_a: 0,
@@ -24,8 +24,8 @@ pub fn match_at(script: &[u8], at: usize) -> Match
 
 // The mark whose command stands at the offset.
 fn mark_at(script: &[u8], at: usize) -> Mark
-    requires { at + markWidth ≤ length script.now }
-    ensures { result ≡ markSeen script.now at }
+    requires { at + mark_width ≤ length script.now }
+    ensures { result ≡ mark_seen script.now at }
 {
     Mark {
         side: script[at + 1],
@@ -36,8 +36,8 @@ fn mark_at(script: &[u8], at: usize) -> Mark
 // What the command at the offset does, if it is an end, a mark or a match.
 pub fn next_at(script: &[u8], at: usize) -> Step
     requires at_in_bounds { at < length script.now }
-    requires mark_width_in_bounds { get_or script.now at 0 ≡ 0x4D → at + markWidth ≤ length script.now }
-    requires match_width_in_bounds { get_or script.now at 0 ≢ 0x45 → get_or script.now at 0 ≢ 0x4D → at + matchWidth ≤ length script.now }
+    requires mark_width_in_bounds { get_or script.now at 0 ≡ 0x4D → at + mark_width ≤ length script.now }
+    requires match_width_in_bounds { get_or script.now at 0 ≢ 0x45 → get_or script.now at 0 ≢ 0x4D → at + match_width ≤ length script.now }
     ensures { result ≡ next_of script.now at }
 {
     let code = script[at];

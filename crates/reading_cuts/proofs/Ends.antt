@@ -33,7 +33,7 @@ module _ {xs : List ℕ} {lo hi : ℕ} (up : RisingIn xs lo hi) where
 module _ {xs : List ℕ} {s : CutSet} (f : SomeFound xs s) where
   some_below : s.done < s.used
   some_below =
-      let order = f.good.found-run.order in
+      let order = f.good.found_run.order in
       let later = f.good.added in
       elim (dec_lt s.done s.used) [ yes l ↦ l | no n ↦ absurd (f.some (omega arith)) ]
 

@@ -1,8 +1,9 @@
 // Reading the members of a set, so that code above need not know where they stand: the newly found ones, once they are
 // gathered into one run, and all of them, once they are joined.
+#![tactic(auto)]
 ghost use Rattle.std.specs.Prelude.{◌≡◌, ◌-◌, ◌≤◌, get_or};
 ghost use Rattle.runs.specs.Runs.{Answers};
-ghost use Rattle.cut_set.specs.Store.{Good, AllRun, NothingFound, foundEnd};
+ghost use Rattle.cut_set.specs.Store.{Good, AllRun, NothingFound, found_end};
 ghost use Rattle.reading_cuts.specs.Reading.{SomeFound, FoundPlace, Lowest, Highest, AllPlaces};
 
 use cut_set::CutSet;
@@ -38,7 +39,7 @@ pub fn found_start(s: CutSet) -> usize
 
 // The place behind the last newly found member.
 pub fn found_end(s: CutSet) -> usize
-    ensures { result ≡ foundEnd s }
+    ensures { result ≡ found_end s }
 {
     s.used
 }

@@ -16,10 +16,10 @@ use mathlib.Core.List.{List, [], ◌∷◌, ◌++◌, flat_map}
 use native.Mathlib.Omega.{arith}
 use borrow.Author.Tests.{lt-ltb, le-ltb}
 use lib.ListN.{length, drop, set, length-append}
-use Rattle.script.specs.Commands.{lengthsWidth, matchWidth, markWidth, commandOf, bit_of}
+use Rattle.script.specs.Commands.{lengths_width, match_width, mark_width, command_of, bit_of}
 use Rattle.script.specs.Steps.{step_of}
-use Rattle.script.specs.Reading.{admitted, afterStep, readFrom, readScript, verdictOf}
-use Rattle.script.specs.Columns.{matchesRead, marksRead}
+use Rattle.script.specs.Reading.{admitted, after_step, read_from, read_script, verdict_of}
+use Rattle.script.specs.Columns.{matches_read, marks_read}
 use Rattle.script.specs.declared.refusal.Refusal.{Refusal}
 use Rattle.script.specs.declared.refusal.Refusal.TheVariants.{BufferTooShort}
 use Rattle.script.specs.declared.command.Match.{Match}
@@ -31,10 +31,10 @@ use Rattle.script.proofs.Admitted.{holds-admitted, reading-refused}
 use Rattle.reader.specs.Walking.{Admits, next_of}
 use Rattle.reader.proofs.Progress.{Progress, progress_start, step-finished, step-taken, step_kept}
 use Rattle.reader.proofs.Walks.{admits-reach, never-refused, next-is}
-use Rattle.records.specs.Records.{recordWidth, numbersOf, list_of, markNumbers, pointNumbers, pointList}
+use Rattle.records.specs.Records.{record_width, numbers_of, list_of, mark_numbers, point_numbers, point_list}
 use Rattle.records.specs.Storing.{Stored}
-use Rattle.records.specs.Listing.{Listing as Outcome, listingOf}
-use Rattle.records.specs.Demands.{listedAnswer, ListingDemand}
+use Rattle.records.specs.Listing.{Listing as Outcome, listing_of}
+use Rattle.records.specs.Demands.{listed_answer, ListingDemand}
 use Rattle.records.specs.declared.Listed.{Listed}
 use Rattle.records.proofs.Bytes.{Bytes}
 use Rattle.records.proofs.Scripts.{flat-snoc}
@@ -43,7 +43,7 @@ use Rattle.records.proofs.Laying.{four-stores, stored-behind, stored-front}
 use Rattle.records.proofs.Demands.{listing-demand}
 
 pub record-stored : (out : List ℕ) (at : ℕ) (m : Match) {way : ℕ} → way ≡ bit_of m.reversed
-    → Stored out at (numbersOf m)
+    → Stored out at (numbers_of m)
     (set (set (set (set out at m.left_a) (at + 1) m.left_b) (at + 2) m.length) (at + 3) way)
 record-stored out at m is = rw is (four-stores out at _ _ _ _)
 
@@ -51,18 +51,18 @@ record-stored out at m is = rw is (four-stores out at _ _ _ _)
 
 -- what is read from an offset on holds what was read before it
 reads_more : (n p q at : ℕ) (ms : List Match) (ks : List Mark) (s : List ℕ) {ls : List ℕ} {all : List Match}
-    {points : List Mark} → readFrom n p q at ms ks s ≡ admitted ls all points
+    {points : List Mark} → read_from n p q at ms ks s ≡ admitted ls all points
     → (length ms ≤ length all) × (length ks ≤ length points)
-unfolding readFrom
+unfolding read_from
 reads_more zero p q at ms ks s e = let z : ◌≡◌ {A = ℕ} 0 1 = cc in absurd (omega arith)
 reads_more (suc n) p q at ms ks s {ls} {all} {points} e =
-    go (λ at' ms' ks' s' x. reads_more n p q at' ms' ks' s' x) (step_of p q (length ms) (length ks) at (commandOf s)) e
+    go (λ at' ms' ks' s' x. reads_more n p q at' ms' ks' s' x) (step_of p q (length ms) (length ks) at (command_of s)) e
   where
     go : ((at' : ℕ) (ms' : List Match) (ks' : List Mark) (s' : List ℕ)
-        → readFrom n p q at' ms' ks' s' ≡ admitted ls all points
+        → read_from n p q at' ms' ks' s' ≡ admitted ls all points
         → (length ms' ≤ length all) × (length ks' ≤ length points))
         → (t : Step)
-        → afterStep p q ms ks t (λ width ms' ks'. readFrom n p q (at + width) ms' ks' (drop width s))
+        → after_step p q ms ks t (λ width ms' ks'. read_from n p q (at + width) ms' ks' (drop width s))
         ≡ admitted ls all points
         → (length ms ≤ length all) × (length ks ≤ length points)
     go more (Step.Refuse r) e = let z : ◌≡◌ {A = ℕ} 0 1 = cc in absurd (omega arith)
@@ -73,19 +73,19 @@ reads_more (suc n) p q at ms ks s {ls} {all} {points} e =
     go more (Step.Take m) e =
         omega (
           arith,
-          more (at + matchWidth) (ms ++ m ∷ []) ks (drop matchWidth s) e,
+          more (at + match_width) (ms ++ m ∷ []) ks (drop match_width s) e,
           length-append ms (m ∷ []),
         )
     go more (Step.Keep k) e =
-        omega (arith, more (at + markWidth) ms (ks ++ k ∷ []) (drop markWidth s) e, length-append ks (k ∷ []))
+        omega (arith, more (at + mark_width) ms (ks ++ k ∷ []) (drop mark_width s) e, length-append ks (k ∷ []))
 
 pub progress-few : {s : List ℕ} {count marked at : ℕ} (admits : Admits s)
     → Progress s admits.p admits.q count marked at
-    → (count ≤ length (matchesRead (readScript s))) × (marked ≤ length (marksRead (readScript s)))
+    → (count ≤ length (matches_read (read_script s))) × (marked ≤ length (marks_read (read_script s)))
 progress-few {s} {at = at} admits progress =
     let read = (holds-admitted s admits.told refl).read in
     let n = progress.counted in
-    let k = progress.counted-marks in
+    let k = progress.counted_marks in
     rw read (omega (
       arith,
       reads_more _ admits.p admits.q at progress.matches progress.points _
@@ -98,40 +98,40 @@ pub record Listing (s before before-marks out points : List ℕ) (count marked a
   pub admits : Admits s
   pub progress : Progress s admits.p admits.q count marked at
   pub stored : Stored before 0 (list_of progress.matches) out
-  pub stored-marks : Stored before-marks 0 (pointList progress.points) points
+  pub stored_marks : Stored before-marks 0 (point_list progress.points) points
 
 module _ {s before before-marks : List ℕ} where
-  pub listing_start : Admits s → Listing s before before-marks before before-marks 0 0 lengthsWidth
+  pub listing_start : Admits s → Listing s before before-marks before before-marks 0 0 lengths_width
   unfolding flat_map
   listing_start admits =
       record {
         admits = admits;
         progress = progress_start (admits-reach admits);
         stored = record { is = refl; as_long = refl };
-        stored-marks = record { is = refl; as_long = refl };
+        stored_marks = record { is = refl; as_long = refl };
       }
 
   module _ {out points : List ℕ} {count marked at : ℕ}
       (h : Listing s before before-marks out points count marked at) {t : Step}
       (en : t ≡ next_of s at) where
     -- the byte tells the step
-    et : t ≡ step_of h.admits.p h.admits.q count marked at (commandOf (drop at s))
+    et : t ≡ step_of h.admits.p h.admits.q count marked at (command_of (drop at s))
     et = next-is h.admits h.progress en
 
     pub record-room : {m : Match} → t ≡ Step.Take m
-        → recordWidth * length (matchesRead (readScript s)) ≤ length before
-        → recordWidth * count + recordWidth ≤ length out
+        → record_width * length (matches_read (read_script s)) ≤ length before
+        → record_width * count + record_width ≤ length out
     record-room e room =
         omega (arith, (progress-few h.admits (step-taken h.progress et e)).0, h.stored.as_long)
 
-    pub mark-room : {k : Mark} → t ≡ Step.Keep k → markNumbers * length (marksRead (readScript s)) ≤ length before-marks
-        → markNumbers * marked + markNumbers ≤ length points
+    pub mark-room : {k : Mark} → t ≡ Step.Keep k → mark_numbers * length (marks_read (read_script s)) ≤ length before-marks
+        → mark_numbers * marked + mark_numbers ≤ length points
     mark-room e room =
-        omega (arith, (progress-few h.admits (step_kept h.progress et e)).1, h.stored-marks.as_long)
+        omega (arith, (progress-few h.admits (step_kept h.progress et e)).1, h.stored_marks.as_long)
 
     pub listing-taken : {m : Match} {out' : List ℕ} → t ≡ Step.Take m
-        → Stored out (recordWidth * count) (numbersOf m) out'
-        → Listing s before before-marks out' points (count + 1) marked (at + matchWidth)
+        → Stored out (record_width * count) (numbers_of m) out'
+        → Listing s before before-marks out' points (count + 1) marked (at + match_width)
     unfolding step-taken
     listing-taken {m} e put =
         let ms = h.progress.matches in
@@ -139,30 +139,30 @@ module _ {s before before-marks : List ℕ} where
         record {
           admits = h.admits;
           progress = step-taken h.progress et e;
-          stored = rw (flat-snoc numbersOf ms m) (stored-behind h.stored (omega (arith, list_length ms)) put);
-          stored-marks = h.stored-marks;
+          stored = rw (flat-snoc numbers_of ms m) (stored-behind h.stored (omega (arith, list_length ms)) put);
+          stored_marks = h.stored_marks;
         }
 
     pub listing-kept : {k : Mark} {points' : List ℕ} → t ≡ Step.Keep k
-        → Stored points (markNumbers * marked) (pointNumbers k) points'
-        → Listing s before before-marks out points' count (marked + 1) (at + markWidth)
+        → Stored points (mark_numbers * marked) (point_numbers k) points'
+        → Listing s before before-marks out points' count (marked + 1) (at + mark_width)
     unfolding step_kept
     listing-kept {k} e put =
         let ks = h.progress.points in
-        let n = h.progress.counted-marks in
+        let n = h.progress.counted_marks in
         record {
           admits = h.admits;
           progress = step_kept h.progress et e;
           stored = h.stored;
-          stored-marks =
-              rw (flat-snoc pointNumbers ks k)
-              (stored-behind h.stored-marks (omega (arith, point-list-length ks)) put);
+          stored_marks =
+              rw (flat-snoc point_numbers ks k)
+              (stored-behind h.stored_marks (omega (arith, point-list-length ks)) put);
         }
 
     pub listing-ends : t ≡ Step.Finish
-        → Stored before 0 (list_of (matchesRead (readScript s))) out
-        × Stored before-marks 0 (pointList (marksRead (readScript s))) points
-    listing-ends e = rw (step-finished h.progress et e) (h.stored, h.stored-marks)
+        → Stored before 0 (list_of (matches_read (read_script s))) out
+        × Stored before-marks 0 (point_list (marks_read (read_script s))) points
+    listing-ends e = rw (step-finished h.progress et e) (h.stored, h.stored_marks)
 
     pub listing-refused : {f : Refusal} → t ≡ Step.Refuse f → ⊥
     listing-refused {f} e = never-refused h.admits h.progress f (sym et ∙ e)
@@ -173,13 +173,13 @@ module _ (s : List ℕ) (bytes : Bytes s) (out points : List ℕ) where
   -- what the contract says of a reply and the buffers
   abbrev Contract : Listed → List ℕ → List ℕ → Type 0
   Contract reply out' points' =
-      (reply ≡ (listingOf s out points).reply)
-      × ((out' ≡ (listingOf s out points).records)
-      × ((points' ≡ (listingOf s out points).marks)
-      × ListingDemand s out points out' points' (listedAnswer reply)))
+      (reply ≡ (listing_of s out points).reply)
+      × ((out' ≡ (listing_of s out points).records)
+      × ((points' ≡ (listing_of s out points).marks)
+      × ListingDemand s out points out' points' (listed_answer reply)))
 
   contract : {reply : Listed} {out' points' : List ℕ}
-      → record { reply = reply; records = out'; marks = points' } ≡ listingOf s out points
+      → record { reply = reply; records = out'; marks = points' } ≡ listing_of s out points
       → Contract reply out' points'
   contract e =
       let is = ap (λ (x : Outcome). x.reply) e in
@@ -188,58 +188,58 @@ module _ (s : List ℕ) (bytes : Bytes s) (out points : List ℕ) where
       (is, (is', (is'', listing-demand s bytes out points is is' is'')))
 
   admitted-listed : {p q : ℕ} {ms : List Match} {ks : List Mark} {out' points' : List ℕ}
-      → readScript s ≡ admitted (p ∷ q ∷ []) ms ks → recordWidth * length ms ≤ length out
-      → markNumbers * length ks ≤ length points → Stored out 0 (list_of ms) out'
-      → Stored points 0 (pointList ks) points' → Contract (Listed.Records p q (length ms) (length ks)) out' points'
-  admitted-listed {ms = ms} {ks = ks} e room room-marks stored stored-marks =
+      → read_script s ≡ admitted (p ∷ q ∷ []) ms ks → record_width * length ms ≤ length out
+      → mark_numbers * length ks ≤ length points → Stored out 0 (list_of ms) out'
+      → Stored points 0 (point_list ks) points' → Contract (Listed.Records p q (length ms) (length ks)) out' points'
+  admitted-listed {ms = ms} {ks = ks} e room room-marks stored stored_marks =
       let long = list_length ms in
       let long-marks = point-list-length ks in
       contract (rw (
         e,
-        le-ltb (length out) (recordWidth * length ms) room,
-        le-ltb (length points) (markNumbers * length ks) room-marks,
+        le-ltb (length out) (record_width * length ms) room,
+        le-ltb (length points) (mark_numbers * length ks) room-marks,
         ← long,
         ← long-marks,
         stored-front stored (omega arith),
-        stored-front stored-marks (omega arith),
+        stored-front stored_marks (omega arith),
       ))
 
-  module _ {told : Verdict} (reads : told ≡ verdictOf (readScript s)) where
+  module _ {told : Verdict} (reads : told ≡ verdict_of (read_script s)) where
     pub unread-listed : {f : Refusal} → told ≡ Verdict.Refused f → Contract (Listed.Refused f) out points
     unread-listed v = contract (rw (reading-refused s reads v))
 
     module _ {p q count marked : ℕ} (v : told ≡ Verdict.Admitted p q count marked) where
-      pub lists-room : recordWidth * count ≤ length out → markNumbers * marked ≤ length points
+      pub lists-room : record_width * count ≤ length out → mark_numbers * marked ≤ length points
           → Admits s
-          × ((recordWidth * length (matchesRead (readScript s)) ≤ length out)
-          × (markNumbers * length (marksRead (readScript s)) ≤ length points))
+          × ((record_width * length (matches_read (read_script s)) ≤ length out)
+          × (mark_numbers * length (marks_read (read_script s)) ≤ length points))
       lists-room room room-marks =
           let held = holds-admitted s reads v in
           let n = held.counted in
-          let k = held.counted-marks in
+          let k = held.counted_marks in
           (record { p = p; q = q; count = count; marks = marked; told = sym v ∙ reads }, rw held.read (omega arith))
 
-      pub short-listed : (length out < recordWidth * count) ⊎ (length points < markNumbers * marked)
+      pub short-listed : (length out < record_width * count) ⊎ (length points < mark_numbers * marked)
           → Contract (Listed.Refused BufferTooShort) out points
       short-listed (inl short) =
           let held = holds-admitted s reads v in
-          contract (rw (held.read, held.counted, lt-ltb (length out) (recordWidth * count) short))
+          contract (rw (held.read, held.counted, lt-ltb (length out) (record_width * count) short))
       short-listed (inr short) =
           let held = holds-admitted s reads v in
           contract (rw (
             held.read,
-            held.counted-marks,
-            lt-ltb (length points) (markNumbers * marked) short,
+            held.counted_marks,
+            lt-ltb (length points) (mark_numbers * marked) short,
             or-true,
           ))
 
-      pub whole-listed : {out' points' : List ℕ} → recordWidth * count ≤ length out
-          → markNumbers * marked ≤ length points → Stored out 0 (list_of (matchesRead (readScript s))) out'
-          → Stored points 0 (pointList (marksRead (readScript s))) points'
+      pub whole-listed : {out' points' : List ℕ} → record_width * count ≤ length out
+          → mark_numbers * marked ≤ length points → Stored out 0 (list_of (matches_read (read_script s))) out'
+          → Stored points 0 (point_list (marks_read (read_script s))) points'
           → Contract (Listed.Records p q count marked) out' points'
-      whole-listed room room-marks stored stored-marks =
+      whole-listed room room-marks stored stored_marks =
           let held = holds-admitted s reads v in
           let n = held.counted in
-          let k = held.counted-marks in
+          let k = held.counted_marks in
           rw (n, k) at (admitted-listed held.read (omega arith) (omega arith) (rw held.read at stored)
-          (rw held.read at stored-marks))
+          (rw held.read at stored_marks))

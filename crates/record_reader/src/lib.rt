@@ -1,13 +1,14 @@
 // The reader of scripts into lists: from any string of bytes to the records of its matches and to its marks, in lent
 // buffers.
+#![tactic(auto)]
 ghost use Rattle.std.specs.Prelude.{◌≡◌, ◌+◌, ◌*◌, ◌≤◌, length};
-ghost use Rattle.script.specs.Reading.{readScript};
-ghost use Rattle.script.specs.Columns.{matchesRead, marksRead};
+ghost use Rattle.script.specs.Reading.{read_script};
+ghost use Rattle.script.specs.Columns.{matches_read, marks_read};
 ghost use Rattle.reader.specs.Walking.{Admits};
-ghost use Rattle.records.specs.Records.{recordWidth, numbersOf, list_of, markNumbers, pointNumbers, pointList};
+ghost use Rattle.records.specs.Records.{record_width, numbers_of, list_of, mark_numbers, point_numbers, point_list};
 ghost use Rattle.records.specs.Storing.{Stored};
-ghost use Rattle.records.specs.Listing.{listingOf};
-ghost use Rattle.records.specs.Demands.{listedAnswer, ListingDemand};
+ghost use Rattle.records.specs.Listing.{listing_of};
+ghost use Rattle.records.specs.Demands.{listed_answer, ListingDemand};
 
 use commands::bit;
 use reader::read;
@@ -19,8 +20,8 @@ use script::{Mark, Match, Refusal, Verdict};
 
 // Puts the record of a match behind k others.
 fn put_record(out: &mut [u32], k: usize, found: Match)
-    requires { recordWidth * k + recordWidth ≤ length out.old }
-    ensures { Stored out.old (recordWidth * k) (numbersOf found) out.new }
+    requires { record_width * k + record_width ≤ length out.old }
+    ensures { Stored out.old (record_width * k) (numbers_of found) out.new }
 {
     let at = RECORD_WIDTH * k;
     out[at] = found.left_a;
@@ -31,8 +32,8 @@ fn put_record(out: &mut [u32], k: usize, found: Match)
 
 // Puts a mark behind k others.
 fn put_mark(marks: &mut [u32], k: usize, found: Mark)
-    requires { markNumbers * k + markNumbers ≤ length marks.old }
-    ensures { Stored marks.old (markNumbers * k) (pointNumbers found) marks.new }
+    requires { mark_numbers * k + mark_numbers ≤ length marks.old }
+    ensures { Stored marks.old (mark_numbers * k) (point_numbers found) marks.new }
 {
     let at = MARK_NUMBERS * k;
     marks[at] = found.side as u32;
@@ -42,10 +43,10 @@ fn put_mark(marks: &mut [u32], k: usize, found: Mark)
 // Puts the records and the marks of an admitted script, command by command.
 fn put_lists(script: &[u8], out: &mut [u32], marks: &mut [u32])
     requires admits { Admits script.now }
-    requires script_in_bounds { recordWidth * length (matchesRead (readScript script.now)) ≤ length out.old }
-    requires script_in_bounds_2 { markNumbers * length (marksRead (readScript script.now)) ≤ length marks.old }
-    ensures records { Stored out.old 0 (list_of (matchesRead (readScript script.now))) out.new }
-    ensures marks { Stored marks.old 0 (pointList (marksRead (readScript script.now))) marks.new }
+    requires script_in_bounds { record_width * length (matches_read (read_script script.now)) ≤ length out.old }
+    requires script_in_bounds_2 { mark_numbers * length (marks_read (read_script script.now)) ≤ length marks.old }
+    ensures records { Stored out.old 0 (list_of (matches_read (read_script script.now))) out.new }
+    ensures marks { Stored marks.old 0 (point_list (marks_read (read_script script.now))) marks.new }
 {
     let mut count: usize = 0;
     let mut marked: usize = 0;
@@ -71,11 +72,11 @@ fn put_lists(script: &[u8], out: &mut [u32], marks: &mut [u32])
 // Reads a script, and the records and the marks of an admitted one to the start of the lent buffers. All commands are
 // judged before a number is written, so that a refusal leaves the buffers as they were.
 pub fn read_records(script: &[u8], out: &mut [u32], marks: &mut [u32]) -> Listed
-    ensures reply { result ≡ (listingOf script.now out.old marks.old).reply }
-    ensures records { out.new ≡ (listingOf script.now out.old marks.old).records }
-    ensures marks { marks.new ≡ (listingOf script.now out.old marks.old).marks }
+    ensures reply { result ≡ (listing_of script.now out.old marks.old).reply }
+    ensures records { out.new ≡ (listing_of script.now out.old marks.old).records }
+    ensures marks { marks.new ≡ (listing_of script.now out.old marks.old).marks }
     ensures demand { ListingDemand script.now out.old marks.old out.new
-        marks.new (listedAnswer result) }
+        marks.new (listed_answer result) }
 {
     match read(script) {
         Verdict::Refused(refusal) => Listed::Refused(refusal),

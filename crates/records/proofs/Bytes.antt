@@ -16,7 +16,7 @@ use native.Mathlib.Numerals.{add-one}
 use lib.ListN.{length, get_or, drop}
 use lib.Seq.{drop-cons, get_or-append-add}
 use Rattle.script.specs.Commands.{number_at}
-use Rattle.records.specs.Bytes.{numberBytes}
+use Rattle.records.specs.Bytes.{number_bytes}
 
 abbrev pub Bytes : List ℕ → Type 0
 Bytes s = (k : ℕ) → get_or s k 0 < 256
@@ -57,7 +57,7 @@ further n =
 low : (n : ℕ) → n % 256 + 256 * (n / 256) ≡ n
 low n = omega (arith, div-add-mod n 256)
 
-pub number-back : (n : ℕ) → n < 2 ^ 32 → number_at (numberBytes n) 0 ≡ n
+pub number-back : (n : ℕ) → n < 2 ^ 32 → number_at (number_bytes n) 0 ≡ n
 number-back n h =
     let top : n / 256 / 256 / 256 < 256 = omega arith in
     rw ((further n).0, (further n).1, mod-eq_of_lt top)
@@ -70,7 +70,7 @@ byte_split a n h = (
 )
 
 bytes_back : (a b c d : ℕ) → a < 256 → b < 256 → c < 256 → d < 256
-    → numberBytes (a + 256 * b + 65536 * c + 16777216 * d) ≡ a ∷ b ∷ c ∷ d ∷ []
+    → number_bytes (a + 256 * b + 65536 * c + 16777216 * d) ≡ a ∷ b ∷ c ∷ d ∷ []
 bytes_back a b c d ha hb hc hd =
     let n = a + 256 * (b + 256 * (c + 256 * d)) in
     let nested : a + 256 * b + 65536 * c + 16777216 * d ≡ n = omega arith in
@@ -80,7 +80,7 @@ bytes_back a b c d ha hb hc hd =
     rw (nested, (further n).0, (further n).1, one.0, one.1, two.0, two.1, three.0, three.1, mod-eq_of_lt hd)
 
 pub drop-number : (s : List ℕ) → Bytes s → (at : ℕ) → at + 4 ≤ length s
-    → drop at s ≡ numberBytes (number_at s at) ++ drop (at + 4) s
+    → drop at s ≡ number_bytes (number_at s at) ++ drop (at + 4) s
 drop-number s bytes at h =
     drop-four s 0 at h
     ∙ ap (λ l. l ++ drop (at + 4) s)

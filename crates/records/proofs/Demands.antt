@@ -21,8 +21,8 @@ use lib.ListN.{length, get_or, take, drop, length-append, length-drop}
 use lib.Seq.{take_at, drop_at, get_or-append-add, get_or-append_seam}
 use Rattle.script.specs.Refusals.{number_of, place_of}
 use Rattle.script.specs.Commands.{bit_of}
-use Rattle.script.specs.Steps.{matchJudgement, markJudgement}
-use Rattle.script.specs.Reading.{Reading, admitted, refused, readScript}
+use Rattle.script.specs.Steps.{match_judgement, mark_judgement}
+use Rattle.script.specs.Reading.{Reading, admitted, refused, read_script}
 use Rattle.script.specs.Answers.{Answer, value, refusal, contents}
 use Rattle.script.specs.Outcomes.{Within, OnSequence, Outcome}
 use Rattle.script.specs.Demands.{Counted, counted}
@@ -36,12 +36,12 @@ use Rattle.script.proofs.Outcome.{reach-place, reach-range, reach-tracks, reach-
 use Rattle.script.proofs.Outcome.{read-outcome, outcome-admitted, outcome-refused}
 use Rattle.script.proofs.Admitted.{admitted-ended}
 use Rattle.script.proofs.Judged.{Weighed, weighed-judgement, Measured, measured-judgement, Opens, opens-step}
-use Rattle.records.specs.Records.{numbersOf, list_of, recordsOf, matchesOf, pointNumbers, pointList, points_of}
+use Rattle.records.specs.Records.{numbers_of, list_of, records_of, matches_of, point_numbers, point_list, points_of}
 use Rattle.records.specs.Bytes.{bytes_of}
 use Rattle.records.specs.Outcomes.{WayAt, Says, SaysMark, Marked, ListingOutcome}
-use Rattle.records.specs.Writing.{recordJudgement, judgedFrom, Writing, writingOfJudgement, writingOf}
-use Rattle.records.specs.Listing.{Listing, listingOfReading, listingOf}
-use Rattle.records.specs.Demands.{writtenAnswer, Back, WritingDemand, listedAnswer, Again, ListingDemand}
+use Rattle.records.specs.Writing.{record_judgement, judged_from, Writing, writing_of_judgement, writing_of}
+use Rattle.records.specs.Listing.{Listing, listing_of_reading, listing_of}
+use Rattle.records.specs.Demands.{written_answer, Back, WritingDemand, listed_answer, Again, ListingDemand}
 use Rattle.records.specs.declared.Written.{Written}
 use Rattle.records.specs.declared.Listed.{Listed}
 use Rattle.records.proofs.Bytes.{Bytes}
@@ -72,23 +72,23 @@ module _ (xs out : List ℕ) (room : length xs ≤ length out) where
 module _ (p q : ℕ) (ns zs : List ℕ) where
   -- lists without a fault come back
   sound_back : {ms : List Match} {ks : List Mark} → Marked p q ns zs ms ks → length zs ≡ 2 * length ks
-      → Back p q ns zs (bytes_of p q (matchesOf ns) (points_of zs))
+      → Back p q ns zs (bytes_of p q (matches_of ns) (points_of zs))
   sound_back {ms} {ks} r e =
       let r' = (marked-passed r).0 in
       let e' = (marked-passed r).1 in
       let b = passed-begun r' in
       let listed = passed-list r' e' in
-      let listed-marks = marked-list r e in
+      let listed_marks = marked-list r e in
       let few : length ms ≤ 2048 = omega (arith, b.whole, b.few) in
       let whole : Outcome (bytes_of p q ms ks) (value (contents (p ∷ q ∷ []) ms ks)) =
-      written-admitted b.p-range b.q-range ms ks (passed-good r') few (marked-on r)
-      (omega (arith, b.whole-marks, b.few-marks)) in
+      written-admitted b.p_range b.q_range ms ks (passed-good r') few (marked-on r)
+      (omega (arith, b.whole_marks, b.few_marks)) in
       rw (passed-matches r' e', marked-points r e) (record {
         matches = ms;
         marks = ks;
         admitted = whole;
         listed = listed;
-        listed-marks = listed-marks;
+        listed_marks = listed_marks;
         first = record {
           p = p;
           q = q;
@@ -96,7 +96,7 @@ module _ (p q : ℕ) (ns zs : List ℕ) where
           marks = ks;
           admitted = whole;
           at = 9 + 13 * length ms;
-          first = written-first b.p-range b.q-range ms ks (passed-good r') few;
+          first = written-first b.p_range b.q_range ms ks (passed-good r') few;
         };
         back = λ lent lent-marks room room-marks.
             rw (
@@ -104,7 +104,7 @@ module _ (p q : ℕ) (ns zs : List ℕ) where
               le-ltb (length lent) (4 * length ms) (omega arith),
               le-ltb (length lent-marks) (2 * length ks) (omega arith),
               listed,
-              listed-marks,
+              listed_marks,
               e,
               e',
             );
@@ -114,9 +114,9 @@ module _ (p q : ℕ) (ns zs : List ℕ) where
     -- what the demand says of the buffer
     record Leaves (w : Writing) : Type 0 where
       as_long : length w.script ≡ length out
-      refused : {n place : ℕ} → writtenAnswer w.reply ≡ refusal n place → w.script ≡ out
-      past : {n : ℕ} → writtenAnswer w.reply ≡ value n → drop n w.script ≡ drop n out
-      undone : {n : ℕ} → writtenAnswer w.reply ≡ value n → Back p q ns zs (take n w.script)
+      refused : {n place : ℕ} → written_answer w.reply ≡ refusal n place → w.script ≡ out
+      past : {n : ℕ} → written_answer w.reply ≡ value n → drop n w.script ≡ drop n out
+      undone : {n : ℕ} → written_answer w.reply ≡ value n → Back p q ns zs (take n w.script)
 
     refused-leaves : (f : Refusal) → Leaves (record { reply = Written.Refused f; script = out })
     refused-leaves f =
@@ -138,17 +138,17 @@ module _ (p q : ℕ) (ns zs : List ℕ) where
         }
 
     leaves_by : {j : Judgement} → Judging p q ns zs j
-        → Leaves (writingOfJudgement j (bytes_of p q (matchesOf ns) (points_of zs)) out)
+        → Leaves (writing_of_judgement j (bytes_of p q (matches_of ns) (points_of zs)) out)
     leaves_by (faulty {f} _) = refused-leaves f
     leaves_by (sound r e) =
-        let bytes = bytes_of p q (matchesOf ns) (points_of zs) in
+        let bytes = bytes_of p q (matches_of ns) (points_of zs) in
         elim (dec_le (length bytes) (length out)) [
           | yes room ↦ rw (le-ltb (length out) (length bytes) room) (written-leaves (sound_back r e) room)
           | no short ↦ rw (lt-ltb (length out) (length bytes) (lt_of_not-le short)) (refused-leaves BufferTooShort)
         ]
 
-    pub writing-demand : {reply : Written} {out' : List ℕ} → reply ≡ (writingOf p q ns zs out).reply
-        → out' ≡ (writingOf p q ns zs out).script → WritingDemand p q ns zs out out' (writtenAnswer reply)
+    pub writing-demand : {reply : Written} {out' : List ℕ} → reply ≡ (writing_of p q ns zs out).reply
+        → out' ≡ (writing_of p q ns zs out).script → WritingDemand p q ns zs out out' (written_answer reply)
     writing-demand is is' =
         let leaves = leaves_by (judging p q ns zs) in
         rw (is, is') (record {
@@ -176,16 +176,16 @@ at-behind : (before ns : List ℕ) {n : ℕ} → length before ≡ n → (i : �
 at-behind before ns e i = rw (← e) (get_or-append-add before ns i 0)
 
 says_at : (before behind : List ℕ) (m : Match) → Tracked m → {n : ℕ} → length before ≡ 4 * n
-    → Says (before ++ (numbersOf m ++ behind)) n m
+    → Says (before ++ (numbers_of m ++ behind)) n m
 says_at before behind m tracked {n} e =
-    let ns = numbersOf m ++ behind in
+    let ns = numbers_of m ++ behind in
     let at = at-behind before ns e in
     record {
-      whole = omega (arith, length-append before ns, length-append (numbersOf m) behind);
-      on-a = tracked.0;
-      on-b = tracked.1;
-      left-a = rw (← e) (get_or-append_seam before m.left_a _ 0);
-      left-b = at 1;
+      whole = omega (arith, length-append before ns, length-append (numbers_of m) behind);
+      on_a = tracked.0;
+      on_b = tracked.1;
+      left_a = rw (← e) (get_or-append_seam before m.left_a _ 0);
+      left_b = at 1;
       letters = at 2;
       way = bit-way _ (4 * n + 3) m.reversed (at 3);
     }
@@ -195,48 +195,48 @@ list-says : (others rest : List Match) (m : Match) → Tracked m → (tail : Lis
     → Says (list_of (others ++ m ∷ rest) ++ tail) (length others) m
 unfolding flat_map
 list-says others rest m tracked tail =
-    rw (flat_append numbersOf others (m ∷ rest), append_assoc (list_of others), append_assoc (numbersOf m))
+    rw (flat_append numbers_of others (m ∷ rest), append_assoc (list_of others), append_assoc (numbers_of m))
     (says_at (list_of others) _ m tracked (list_length others))
 
 -- and likewise a mark
 points-say : (others rest : List Mark) (k : Mark) (tail : List ℕ)
-    → SaysMark (pointList (others ++ k ∷ rest) ++ tail) (length others) k
+    → SaysMark (point_list (others ++ k ∷ rest) ++ tail) (length others) k
 unfolding flat_map
 points-say others rest k tail =
     let e = point-list-length others in
-    let behind = flat_map pointNumbers rest ++ tail in
-    let zs = pointNumbers k ++ behind in
-    rw (flat_append pointNumbers others (k ∷ rest), append_assoc (pointList others), append_assoc (pointNumbers k))
+    let behind = flat_map point_numbers rest ++ tail in
+    let zs = point_numbers k ++ behind in
+    rw (flat_append point_numbers others (k ∷ rest), append_assoc (point_list others), append_assoc (point_numbers k))
     (record {
-      whole = omega (arith, length-append (pointList others) zs, length-append (pointNumbers k) behind);
-      side = rw (← e) (get_or-append_seam (pointList others) k.side _ 0);
-      position = at-behind (pointList others) zs e 1;
+      whole = omega (arith, length-append (point_list others) zs, length-append (point_numbers k) behind);
+      side = rw (← e) (get_or-append_seam (point_list others) k.side _ 0);
+      position = at-behind (point_list others) zs e 1;
     })
 
 -- matches within A and B, as records, have no fault
 list-judged : (p q : ℕ) (ms : List Match) (number : ℕ) → ((m : Match) → Memᴰ m ms → Within p q m)
-    → judgedFrom (recordJudgement p q) number (recordsOf (list_of ms)) ≡ Sound
-unfolding judgedFrom recordsOf flat_map
+    → judged_from (record_judgement p q) number (records_of (list_of ms)) ≡ Sound
+unfolding judged_from records_of flat_map
 list-judged p q [] number within = refl
 list-judged p q (m ∷ ms) number within =
-    let judged : matchJudgement p q number m ≡ Sound = weighed-judgement (Weighed.sound (within m (here refl))) in
+    let judged : match_judgement p q number m ≡ Sound = weighed-judgement (Weighed.sound (within m (here refl))) in
     rw (bit-few m.reversed, judged) (list-judged p q ms (number + 1) (λ n i. within n (there i)))
 
 -- nor have marks on them
 points-judged : (p q : ℕ) (ks : List Mark) (number : ℕ) → ((k : Mark) → Memᴰ k ks → OnSequence p q k)
-    → judgedFrom (markJudgement p q) number ks ≡ Sound
-unfolding judgedFrom
+    → judged_from (mark_judgement p q) number ks ≡ Sound
+unfolding judged_from
 points-judged p q [] number on = refl
 points-judged p q (k ∷ ks) number on =
-    let judged : markJudgement p q number k ≡ Sound = measured-judgement (Measured.sound (on k (here refl))) in
+    let judged : mark_judgement p q number k ≡ Sound = measured-judgement (Measured.sound (on k (here refl))) in
     rw judged (points-judged p q ks (number + 1) (λ n i. on n (there i)))
 
 module _ (s : List ℕ) (bytes : Bytes s) where
   -- an admitted script comes back, if its matches stand first
   admitted-again : {p q : ℕ} {ms : List Match} {ks : List Mark} → Outcome s (value (contents (p ∷ q ∷ []) ms ks))
-      → Again s p q (list_of ms) (pointList ks)
-  admitted-again {p} {q} {ms} {ks} (Outcome.is-admitted r b e) =
-      let o : Outcome s (value (contents (p ∷ q ∷ []) ms ks)) = Outcome.is-admitted r b e in
+      → Again s p q (list_of ms) (point_list ks)
+  admitted-again {p} {q} {ms} {ks} (Outcome.is_admitted r b e) =
+      let o : Outcome s (value (contents (p ∷ q ∷ []) ms ks)) = Outcome.is_admitted r b e in
       let ranges = reach-range r in
       let place = reach-place r in
       let long = list_length ms in
@@ -246,14 +246,14 @@ module _ (s : List ℕ) (bytes : Bytes s) where
         script = bytes_of p q ms ks;
         written = λ lent room.
             rw (
-              opens-step (Opens.open-them ranges.0 ranges.1),
+              opens-step (Opens.open_them ranges.0 ranges.1),
               eq-eqb (length (list_of ms) % 4) 0 (omega arith),
-              eq-eqb (length (pointList ks) % 2) 0 (omega arith),
+              eq-eqb (length (point_list ks) % 2) 0 (omega arith),
               le-ltb 8192 (length (list_of ms)) (omega arith),
-              le-ltb 1024 (length (pointList ks)) (omega arith),
+              le-ltb 1024 (length (point_list ks)) (omega arith),
               list-judged p q ms 1 (λ m i. reach-within r i),
               point-list-back ks,
-              points-judged p q ks (length (recordsOf (list_of ms)) + 1) (λ k i. reach-on r i),
+              points-judged p q ks (length (records_of (list_of ms)) + 1) (λ k i. reach-on r i),
               list_back ms (λ m i. reach-tracks r i),
               as_long,
               le-ltb (length lent) (length s) room,
@@ -281,13 +281,13 @@ module _ (s : List ℕ) (bytes : Bytes s) where
 
   module _ (out points : List ℕ) where
     listing-alone : {a : Answer Counted} → ListingOutcome s (length out) (length points) a
-        → a ≡ listedAnswer (listingOf s out points).reply
-    listing-alone (ListingOutcome.script-refused o) = let f = outcome-refused o in rw f.read (cc)
-    listing-alone (ListingOutcome.buffer-too-short {ms = ms} o (inl short)) =
+        → a ≡ listed_answer (listing_of s out points).reply
+    listing-alone (ListingOutcome.script_refused o) = let f = outcome-refused o in rw f.read (cc)
+    listing-alone (ListingOutcome.buffer_too_short {ms = ms} o (inl short)) =
         rw (outcome-admitted o, lt-ltb (length out) (4 * length ms) short)
-    listing-alone (ListingOutcome.buffer-too-short {ks = ks} o (inr short)) =
+    listing-alone (ListingOutcome.buffer_too_short {ks = ks} o (inr short)) =
         rw (outcome-admitted o, lt-ltb (length points) (2 * length ks) short, or-true)
-    listing-alone (ListingOutcome.is-listed {ms = ms} {ks = ks} o room room-marks) =
+    listing-alone (ListingOutcome.is_listed {ms = ms} {ks = ks} o room room-marks) =
         rw (
           outcome-admitted o,
           le-ltb (length out) (4 * length ms) room,
@@ -296,22 +296,22 @@ module _ (s : List ℕ) (bytes : Bytes s) where
 
     -- what the demand says of the buffers, and of the answer
     record Lists (l : Listing) : Type 0 where
-      stated : ListingOutcome s (length out) (length points) (listedAnswer l.reply)
+      stated : ListingOutcome s (length out) (length points) (listed_answer l.reply)
       as_long : length l.records ≡ length out
-      marks-as-long : length l.marks ≡ length points
-      refused : {n place : ℕ} → listedAnswer l.reply ≡ refusal n place → l.records ≡ out
-      marks-refused : {n place : ℕ} → listedAnswer l.reply ≡ refusal n place → l.marks ≡ points
-      past : {p q count marks : ℕ} → listedAnswer l.reply ≡ value (counted p q count marks)
+      marks_as_long : length l.marks ≡ length points
+      refused : {n place : ℕ} → listed_answer l.reply ≡ refusal n place → l.records ≡ out
+      marks_refused : {n place : ℕ} → listed_answer l.reply ≡ refusal n place → l.marks ≡ points
+      past : {p q count marks : ℕ} → listed_answer l.reply ≡ value (counted p q count marks)
           → drop (4 * count) l.records ≡ drop (4 * count) out
-      marks-past : {p q count marks : ℕ} → listedAnswer l.reply ≡ value (counted p q count marks)
+      marks_past : {p q count marks : ℕ} → listed_answer l.reply ≡ value (counted p q count marks)
           → drop (2 * marks) l.marks ≡ drop (2 * marks) points
-      held : {p q count marks : ℕ} → listedAnswer l.reply ≡ value (counted p q count marks)
+      held : {p q count marks : ℕ} → listed_answer l.reply ≡ value (counted p q count marks)
           → (others rest : List Match) (m : Match) → {ls : List ℕ} {ks : List Mark}
           → Outcome s (value (contents ls (others ++ m ∷ rest) ks)) → Says l.records (length others) m
-      marks-held : {p q count marks : ℕ} → listedAnswer l.reply ≡ value (counted p q count marks)
+      marks_held : {p q count marks : ℕ} → listed_answer l.reply ≡ value (counted p q count marks)
           → (others rest : List Mark) (k : Mark) → {ls : List ℕ} {ms : List Match}
           → Outcome s (value (contents ls ms (others ++ k ∷ rest))) → SaysMark l.marks (length others) k
-      undone : {p q count marks : ℕ} → listedAnswer l.reply ≡ value (counted p q count marks)
+      undone : {p q count marks : ℕ} → listed_answer l.reply ≡ value (counted p q count marks)
           → Again s p q (take (4 * count) l.records) (take (2 * marks) l.marks)
 
     refused-lists : (f : Refusal) → ListingOutcome s (length out) (length points) (refusal (number_of f) (place_of f))
@@ -320,13 +320,13 @@ module _ (s : List ℕ) (bytes : Bytes s) where
         record {
           stated = o;
           as_long = refl;
-          marks-as-long = refl;
+          marks_as_long = refl;
           refused = λ _. refl;
-          marks-refused = λ _. refl;
+          marks_refused = λ _. refl;
           past = λ e. absurd (no_value e);
-          marks-past = λ e. absurd (no_value e);
+          marks_past = λ e. absurd (no_value e);
           held = λ e. absurd (no_value e);
-          marks-held = λ e. absurd (no_value e);
+          marks_held = λ e. absurd (no_value e);
           undone = λ e. absurd (no_value e);
         }
 
@@ -335,31 +335,31 @@ module _ (s : List ℕ) (bytes : Bytes s) where
         → Lists (record {
           reply = Listed.Records p q (length ms) (length ks);
           records = list_of ms ++ drop (4 * length ms) out;
-          marks = pointList ks ++ drop (2 * length ks) points;
+          marks = point_list ks ++ drop (2 * length ks) points;
         })
     listed-lists {p} {q} {ms} {ks} o room room-marks =
         let long = list_length ms in
         let long-marks = point-list-length ks in
         let fits : length (list_of ms) ≤ length out = omega arith in
-        let fits-marks : length (pointList ks) ≤ length points = omega arith in
+        let fits-marks : length (point_list ks) ≤ length points = omega arith in
         rw (← long, ← long-marks) (record {
-          stated = ListingOutcome.is-listed o room room-marks;
+          stated = ListingOutcome.is_listed o room room-marks;
           as_long = over-length (list_of ms) out fits;
-          marks-as-long = over-length (pointList ks) points fits-marks;
+          marks_as_long = over-length (point_list ks) points fits-marks;
           refused = λ e. absurd (no_value (sym e));
-          marks-refused = λ e. absurd (no_value (sym e));
+          marks_refused = λ e. absurd (no_value (sym e));
           past = λ {count} e.
               let is : count ≡ length ms = cc in
               over-past (list_of ms) out fits {n = 4 * count} (omega arith);
-          marks-past = λ {marks} e.
+          marks_past = λ {marks} e.
               let is : marks ≡ length ks = cc in
-              over-past (pointList ks) points fits-marks {n = 2 * marks} (omega arith);
+              over-past (point_list ks) points fits-marks {n = 2 * marks} (omega arith);
           held = λ e others rest m o'.
               let same : ms ≡ others ++ m ∷ rest = cc (outcome-admitted o, outcome-admitted o') in
               let reach = (admitted-ended (outcome-admitted o')).reach in
               let tracked = reach-tracks reach (Memᴰ.append_right others (here {xs = rest} refl)) in
               rw same (list-says others rest m tracked _);
-          marks-held = λ e others rest k o'.
+          marks_held = λ e others rest k o'.
               let same : ks ≡ others ++ k ∷ rest = cc (outcome-admitted o, outcome-admitted o') in
               rw same (points-say others rest k _);
           undone = λ {p = p'} {q = q'} {count} {marks} e.
@@ -371,20 +371,20 @@ module _ (s : List ℕ) (bytes : Bytes s) where
                 p-is,
                 q-is,
                 over-front (list_of ms) out fits {n = 4 * count} (omega arith),
-                over-front (pointList ks) points fits-marks {n = 2 * marks} (omega arith),
+                over-front (point_list ks) points fits-marks {n = 2 * marks} (omega arith),
               )
               (admitted-again o);
         })
 
-    lists-by : (x : Reading) → readScript s ≡ x → Lists (listingOfReading x out points)
-    lists-by (refused f) e = refused-lists f (ListingOutcome.script-refused (read-outcome e))
+    lists-by : (x : Reading) → read_script s ≡ x → Lists (listing_of_reading x out points)
+    lists-by (refused f) e = refused-lists f (ListingOutcome.script_refused (read-outcome e))
     lists-by (admitted ls ms ks) e =
         let x = admitted-ended e in
         let lengths = x.lengths in
         let o : Outcome s (value (contents (x.p ∷ x.q ∷ []) ms ks)) = rw lengths at (read-outcome e) in
         let short : (length out < 4 * length ms) ⊎ (length points < 2 * length ks)
         → Lists (record { reply = Listed.Refused BufferTooShort; records = out; marks = points }) =
-        λ less. refused-lists BufferTooShort (ListingOutcome.buffer-too-short o less) in
+        λ less. refused-lists BufferTooShort (ListingOutcome.buffer_too_short o less) in
         elim (dec_le (4 * length ms) (length out)) [
           | no less ↦ let h = lt_of_not-le less in rw (lt-ltb (length out) (4 * length ms) h) (short (inl h))
           | yes room ↦ rw (le-ltb (length out) (4 * length ms) room) (elim (dec_le (2 * length ks) (length points)) [
@@ -394,21 +394,21 @@ module _ (s : List ℕ) (bytes : Bytes s) where
           ])
         ]
 
-    pub listing-demand : {reply : Listed} {out' points' : List ℕ} → reply ≡ (listingOf s out points).reply
-        → out' ≡ (listingOf s out points).records → points' ≡ (listingOf s out points).marks
-        → ListingDemand s out points out' points' (listedAnswer reply)
+    pub listing-demand : {reply : Listed} {out' points' : List ℕ} → reply ≡ (listing_of s out points).reply
+        → out' ≡ (listing_of s out points).records → points' ≡ (listing_of s out points).marks
+        → ListingDemand s out points out' points' (listed_answer reply)
     listing-demand is is' is'' =
-        let lists = lists-by (readScript s) refl in
+        let lists = lists-by (read_script s) refl in
         rw (is, is', is'') (record {
           stated = lists.stated;
           alone = λ _ o. listing-alone o;
           as_long = lists.as_long;
-          marks-as-long = lists.marks-as-long;
+          marks_as_long = lists.marks_as_long;
           refused = lists.refused;
-          marks-refused = lists.marks-refused;
+          marks_refused = lists.marks_refused;
           past = lists.past;
-          marks-past = lists.marks-past;
+          marks_past = lists.marks_past;
           held = lists.held;
-          marks-held = lists.marks-held;
+          marks_held = lists.marks_held;
           undone = lists.undone;
         })

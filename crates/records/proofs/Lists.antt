@@ -20,13 +20,13 @@ use lib.Seq.{get_or-append-add}
 use Rattle.script.specs.declared.command.Match.{Match}
 use Rattle.script.specs.declared.command.Mark.{Mark}
 use Rattle.script.proofs.Laws.{bit-told}
-use Rattle.records.specs.Records.{recordWidth, numbersOf, list_of, recordsOf, recordAt, matchesOf}
-use Rattle.records.specs.Records.{markNumbers, pointNumbers, pointList, points_of, pointAt}
+use Rattle.records.specs.Records.{record_width, numbers_of, list_of, records_of, record_at, matches_of}
+use Rattle.records.specs.Records.{mark_numbers, point_numbers, point_list, points_of, point_at}
 use Rattle.records.specs.declared.Record.{Record}
 use Rattle.records.proofs.Scripts.{flat-length, Tracked}
 
-pub records-length : (ns : List ℕ) → length (recordsOf ns) ≡ length ns / recordWidth
-unfolding recordsOf
+pub records-length : (ns : List ℕ) → length (records_of ns) ≡ length ns / record_width
+unfolding records_of
 records-length [] = omega arith
 records-length (a ∷ []) = omega arith
 records-length (a ∷ b ∷ []) = omega arith
@@ -34,8 +34,8 @@ records-length (a ∷ b ∷ d ∷ []) = omega arith
 records-length (a ∷ b ∷ d ∷ way ∷ ns) = omega (arith, records-length ns)
 
 -- the record that stands from an offset on
-abbrev pub fourAt : List ℕ → ℕ → Record
-fourAt ns at =
+abbrev pub four_at : List ℕ → ℕ → Record
+four_at ns at =
     record {
       left_a = get_or ns at 0;
       left_b = get_or ns (at + 1) 0;
@@ -43,29 +43,29 @@ fourAt ns at =
       direction = get_or ns (at + 3) 0;
     }
 
-four-later : (xs ns : List ℕ) (at : ℕ) → fourAt (xs ++ ns) (length xs + at) ≡ fourAt ns at
+four-later : (xs ns : List ℕ) (at : ℕ) → four_at (xs ++ ns) (length xs + at) ≡ four_at ns at
 four-later xs ns at = simp (add_assoc, get_or-append-add)
 
-pub record-held : (ns : List ℕ) (k : ℕ) → recordWidth * k + recordWidth ≤ length ns
-    → recordAt (recordsOf ns) k ≡ fourAt ns (recordWidth * k)
-unfolding recordsOf
+pub record-held : (ns : List ℕ) (k : ℕ) → record_width * k + record_width ≤ length ns
+    → record_at (records_of ns) k ≡ four_at ns (record_width * k)
+unfolding records_of
 record-held [] k h = absurd (omega arith)
 record-held (a ∷ []) k h = absurd (omega arith)
 record-held (a ∷ b ∷ []) k h = absurd (omega arith)
 record-held (a ∷ b ∷ d ∷ []) k h = absurd (omega arith)
 record-held (a ∷ b ∷ d ∷ way ∷ ns) zero h = refl
 record-held (a ∷ b ∷ d ∷ way ∷ ns) (suc k) h =
-    let later : 4 + recordWidth * k ≡ recordWidth * suc k = omega arith in
+    let later : 4 + record_width * k ≡ record_width * suc k = omega arith in
     record-held ns k (omega arith)
-    ∙ sym (four-later (a ∷ b ∷ d ∷ way ∷ []) ns (recordWidth * k))
-    ∙ ap (fourAt (a ∷ b ∷ d ∷ way ∷ ns)) later
+    ∙ sym (four-later (a ∷ b ∷ d ∷ way ∷ []) ns (record_width * k))
+    ∙ ap (four_at (a ∷ b ∷ d ∷ way ∷ ns)) later
 
-pub record-inside : (ns : List ℕ) {count k : ℕ} → count ≡ length (recordsOf ns) → k < count
-    → recordWidth * k + recordWidth ≤ length ns
+pub record-inside : (ns : List ℕ) {count k : ℕ} → count ≡ length (records_of ns) → k < count
+    → record_width * k + record_width ≤ length ns
 record-inside ns counted below = omega (arith, records-length ns)
 
-pub list_length : (ms : List Match) → length (list_of ms) ≡ recordWidth * length ms
-list_length ms = flat-length numbersOf recordWidth (λ m. refl) ms
+pub list_length : (ms : List Match) → length (list_of ms) ≡ record_width * length ms
+list_length ms = flat-length numbers_of record_width (λ m. refl) ms
 
 pub match-said : {m : Match} → Tracked m
     → record {
@@ -79,8 +79,8 @@ pub match-said : {m : Match} → Tracked m
     ≡ m
 match-said t = rw (← t.0, ← t.1)
 
-pub list_back : (ms : List Match) → ((m : Match) → Memᴰ m ms → Tracked m) → matchesOf (list_of ms) ≡ ms
-unfolding recordsOf flat_map
+pub list_back : (ms : List Match) → ((m : Match) → Memᴰ m ms → Tracked m) → matches_of (list_of ms) ≡ ms
+unfolding records_of flat_map
 list_back [] tracked = refl
 list_back (m ∷ ms) tracked =
     rw (bit-told m.reversed, match-said {m = m} (tracked m (here refl)))
@@ -88,39 +88,39 @@ list_back (m ∷ ms) tracked =
 
 -- ---- marks
 
-pub points-length : (zs : List ℕ) → length (points_of zs) ≡ length zs / markNumbers
+pub points-length : (zs : List ℕ) → length (points_of zs) ≡ length zs / mark_numbers
 unfolding points_of
 points-length [] = omega arith
 points-length (a ∷ []) = omega arith
 points-length (a ∷ b ∷ zs) = omega (arith, points-length zs)
 
 -- the mark that stands from an offset on
-abbrev pub twoAt : List ℕ → ℕ → Mark
-twoAt zs at = record { side = get_or zs at 0; position = get_or zs (at + 1) 0 }
+abbrev pub two_at : List ℕ → ℕ → Mark
+two_at zs at = record { side = get_or zs at 0; position = get_or zs (at + 1) 0 }
 
-two-later : (xs zs : List ℕ) (at : ℕ) → twoAt (xs ++ zs) (length xs + at) ≡ twoAt zs at
+two-later : (xs zs : List ℕ) (at : ℕ) → two_at (xs ++ zs) (length xs + at) ≡ two_at zs at
 two-later xs zs at = simp (add_assoc, get_or-append-add)
 
-pub point-held : (zs : List ℕ) (n : ℕ) → markNumbers * n + markNumbers ≤ length zs
-    → pointAt (points_of zs) n ≡ twoAt zs (markNumbers * n)
+pub point-held : (zs : List ℕ) (n : ℕ) → mark_numbers * n + mark_numbers ≤ length zs
+    → point_at (points_of zs) n ≡ two_at zs (mark_numbers * n)
 unfolding points_of
 point-held [] n h = absurd (omega arith)
 point-held (a ∷ []) n h = absurd (omega arith)
 point-held (a ∷ b ∷ zs) zero h = refl
 point-held (a ∷ b ∷ zs) (suc n) h =
-    let later : 2 + markNumbers * n ≡ markNumbers * suc n = omega arith in
+    let later : 2 + mark_numbers * n ≡ mark_numbers * suc n = omega arith in
     point-held zs n (omega arith)
-    ∙ sym (two-later (a ∷ b ∷ []) zs (markNumbers * n))
-    ∙ ap (twoAt (a ∷ b ∷ zs)) later
+    ∙ sym (two-later (a ∷ b ∷ []) zs (mark_numbers * n))
+    ∙ ap (two_at (a ∷ b ∷ zs)) later
 
 pub point-inside : (zs : List ℕ) {count k : ℕ} → count ≡ length (points_of zs) → k < count
-    → markNumbers * k + markNumbers ≤ length zs
+    → mark_numbers * k + mark_numbers ≤ length zs
 point-inside zs counted below = omega (arith, points-length zs)
 
-pub point-list-length : (ks : List Mark) → length (pointList ks) ≡ markNumbers * length ks
-point-list-length ks = flat-length pointNumbers markNumbers (λ k. refl) ks
+pub point-list-length : (ks : List Mark) → length (point_list ks) ≡ mark_numbers * length ks
+point-list-length ks = flat-length point_numbers mark_numbers (λ k. refl) ks
 
-pub point-list-back : (ks : List Mark) → points_of (pointList ks) ≡ ks
+pub point-list-back : (ks : List Mark) → points_of (point_list ks) ≡ ks
 unfolding points_of flat_map
 point-list-back [] = refl
 point-list-back (k ∷ ks) = ap (λ (l : List Mark). k ∷ l) (point-list-back ks)

@@ -22,7 +22,7 @@ use borrow.Author.Tests.{ltb-false, eq-eqb, le-ltb}
 use lib.Dec.{ltb, eqb}
 use lib.ListN.{length, get_or, drop, length-append, drop_of_length-le}
 use Rattle.script.specs.Commands.{bit_of}
-use Rattle.script.specs.Steps.{matchJudgement, markJudgement}
+use Rattle.script.specs.Steps.{match_judgement, mark_judgement}
 use Rattle.script.specs.Outcomes.{Within, OnSequence}
 use Rattle.script.specs.declared.command.Match.{Match}
 use Rattle.script.specs.declared.command.Mark.{Mark}
@@ -30,12 +30,12 @@ use Rattle.script.specs.declared.refusal.Refusal.{Refusal}
 use Rattle.script.specs.declared.step.Judgement.{Judgement}
 use Rattle.script.specs.declared.step.Judgement.TheVariants.{Sound, Faulty}
 use Rattle.script.proofs.Judged.{Weighed, weighed-judgement, Measured, measured-judgement, Opens, opens-step}
-use Rattle.records.specs.Records.{numbersOf, list_of, recordsOf, noRecord, recordAt, match_of, matchesOf}
-use Rattle.records.specs.Records.{pointNumbers, pointList, points_of, noMark, pointAt}
+use Rattle.records.specs.Records.{numbers_of, list_of, records_of, no_record, record_at, match_of, matches_of}
+use Rattle.records.specs.Records.{point_numbers, point_list, points_of, no_mark, point_at}
 use Rattle.records.specs.Outcomes.{WayAt, Says, SaysMark, Begun, Passed, begun, passed}
-use Rattle.records.specs.Outcomes.{Marked, records-passed, marked}
-use Rattle.records.specs.Writing.{recordJudgement, firstFault, judgedFrom, recordsJudgement, marksJudgement}
-use Rattle.records.specs.Writing.{judgementOf}
+use Rattle.records.specs.Outcomes.{Marked, records_passed, marked}
+use Rattle.records.specs.Writing.{record_judgement, first_fault, judged_from, records_judgement, marks_judgement}
+use Rattle.records.specs.Writing.{judgement_of}
 use Rattle.records.proofs.Bytes.{drop-one, drop-two, drop-four}
 use Rattle.records.proofs.Scripts.{flat-snoc, Tracked}
 use Rattle.records.proofs.Lists.{records-length, record-held, match-said, list_back}
@@ -56,18 +56,18 @@ way-good (WayAt.direct e) = rw e
 way-good (WayAt.backward e) = rw e
 
 -- a record that says a match has direction 0 or 1
-pub says-few : {ns : List ℕ} {n : ℕ} {m : Match} → Says ns n m → (recordAt (recordsOf ns) n).direction ≤ 1
+pub says-few : {ns : List ℕ} {n : ℕ} {m : Match} → Says ns n m → (record_at (records_of ns) n).direction ≤ 1
 says-few {ns} {n} s = rw (record-held ns n s.whole) (ltb-false 1 _ (way-good s.way))
 
 -- a record that says a match is judged as the match is
 pub says-judged : (p q number : ℕ) {ns : List ℕ} {n : ℕ} {m : Match} → Says ns n m
-    → recordJudgement p q number (recordAt (recordsOf ns) n) ≡ matchJudgement p q number m
+    → record_judgement p q number (record_at (records_of ns) n) ≡ match_judgement p q number m
 says-judged p q number {ns} {n} {m} s =
     let held = record-held ns n s.whole in
-    let good : ltb 1 (recordAt (recordsOf ns) n).direction ≡ false = rw held (way-good s.way) in
-    let is : match_of (recordAt (recordsOf ns) n) ≡ m =
-    rw (held, s.left-a, s.left-b, s.letters, way-match s.way) (match-said (s.on-a, s.on-b)) in
-    rw good (ap (matchJudgement p q number) is)
+    let good : ltb 1 (record_at (records_of ns) n).direction ≡ false = rw held (way-good s.way) in
+    let is : match_of (record_at (records_of ns) n) ≡ m =
+    rw (held, s.left_a, s.left_b, s.letters, way-match s.way) (match-said (s.on_a, s.on_b)) in
+    rw good (ap (match_judgement p q number) is)
 
 way_at : (ns : List ℕ) (at : ℕ) → get_or ns at 0 ≤ 1 → WayAt ns at (eqb (get_or ns at 0) 1)
 way_at ns at h =
@@ -77,31 +77,31 @@ way_at ns at h =
     ]
 
 pub record-says : (ns : List ℕ) (n : ℕ) → 4 * n + 4 ≤ length ns → get_or ns (4 * n + 3) 0 ≤ 1
-    → Says ns n (match_of (recordAt (recordsOf ns) n))
+    → Says ns n (match_of (record_at (records_of ns) n))
 record-says ns n h few =
     rw (record-held ns n h)
     (record {
       whole = h;
-      on-a = refl;
-      on-b = refl;
-      left-a = refl;
-      left-b = refl;
+      on_a = refl;
+      on_b = refl;
+      left_a = refl;
+      left_b = refl;
       letters = refl;
       way = way_at ns (4 * n + 3) few;
     })
 
-says-numbers : {ns : List ℕ} {n : ℕ} {m : Match} → Says ns n m → drop (4 * n) ns ≡ numbersOf m ++ drop (4 * n + 4) ns
-says-numbers {ns} {n} s = drop-four ns 0 (4 * n) s.whole ∙ rw (s.left-a, s.left-b, s.letters, way-bit s.way)
+says-numbers : {ns : List ℕ} {n : ℕ} {m : Match} → Says ns n m → drop (4 * n) ns ≡ numbers_of m ++ drop (4 * n + 4) ns
+says-numbers {ns} {n} s = drop-four ns 0 (4 * n) s.whole ∙ rw (s.left_a, s.left_b, s.letters, way-bit s.way)
 
 -- ---- one mark
 
-pub says-point : {zs : List ℕ} {n : ℕ} {k : Mark} → SaysMark zs n k → pointAt (points_of zs) n ≡ k
+pub says-point : {zs : List ℕ} {n : ℕ} {k : Mark} → SaysMark zs n k → point_at (points_of zs) n ≡ k
 says-point {zs} {n} s = point-held zs n s.whole ∙ rw (s.side, s.position)
 
-pub point-says : (zs : List ℕ) (n : ℕ) → 2 * n + 2 ≤ length zs → SaysMark zs n (pointAt (points_of zs) n)
+pub point-says : (zs : List ℕ) (n : ℕ) → 2 * n + 2 ≤ length zs → SaysMark zs n (point_at (points_of zs) n)
 point-says zs n h = rw (point-held zs n h) (record { whole = h; side = refl; position = refl })
 
-says_two : {zs : List ℕ} {n : ℕ} {k : Mark} → SaysMark zs n k → drop (2 * n) zs ≡ pointNumbers k ++ drop (2 * n + 2) zs
+says_two : {zs : List ℕ} {n : ℕ} {k : Mark} → SaysMark zs n k → drop (2 * n) zs ≡ point_numbers k ++ drop (2 * n + 2) zs
 says_two {zs} {n} s = drop-two zs 0 (2 * n) s.whole ∙ rw (s.side, s.position)
 
 -- ---- one after the other
@@ -109,9 +109,9 @@ says_two {zs} {n} s = drop-two zs 0 (2 * n) s.whole ∙ rw (s.side, s.position)
 -- judging one by one
 pub judged-here : {X : Type 0} (judge : ℕ → X → Judgement) (number : ℕ) (xs : List X) (blank : X) (n : ℕ)
     → n < length xs
-    → judgedFrom judge number (drop n xs)
-    ≡ firstFault (judge number (get_or xs n blank)) (judgedFrom judge (number + 1) (drop (n + 1) xs))
-unfolding judgedFrom
+    → judged_from judge number (drop n xs)
+    ≡ first_fault (judge number (get_or xs n blank)) (judged_from judge (number + 1) (drop (n + 1) xs))
+unfolding judged_from
 judged-here judge number xs blank n h = rw (drop-one xs blank n (omega arith))
 
 -- what holds of all and of one more
@@ -147,7 +147,7 @@ module _ {p q : ℕ} {ns zs : List ℕ} where
       → Tracked m × Within p q m
   passed-good (begun b) m i = absurd (Memᴰ.not-nil i)
   passed-good (passed r s w) m i =
-      snoc-all (λ n. Tracked n × Within p q n) (λ j. passed-good r m j) ((s.on-a, s.on-b), w) i
+      snoc-all (λ n. Tracked n × Within p q n) (λ j. passed-good r m j) ((s.on_a, s.on_b), w) i
 
   -- each of them says its match
   pub passed-says : {ms : List Match} → Passed p q ns zs ms → (k : ℕ) → k < length ms → (m : Match) × Says ns k m
@@ -158,47 +158,47 @@ module _ {p q : ℕ} {ns zs : List ℕ} where
         | no n ↦ let last : length ms ≡ k = omega (arith, length-append ms (m ∷ [])) in (m, rw last at s)
       ]
 
-  passed-front : {ms : List Match} → Passed p q ns zs ms → Front numbersOf 4 ns ms
+  passed-front : {ms : List Match} → Passed p q ns zs ms → Front numbers_of 4 ns ms
   unfolding flat_map
   passed-front (begun b) = refl
-  passed-front (passed {ms} {m} r s _) = front-next numbersOf 4 ns ms m (passed-front r) (says-numbers s)
+  passed-front (passed {ms} {m} r s _) = front-next numbers_of 4 ns ms m (passed-front r) (says-numbers s)
 
   pub passed-list : {ms : List Match} → Passed p q ns zs ms → length ns ≡ 4 * length ms → list_of ms ≡ ns
-  passed-list {ms} r e = front-all numbersOf 4 ns ms (passed-front r) e
+  passed-list {ms} r e = front-all numbers_of 4 ns ms (passed-front r) e
 
-  pub passed-matches : {ms : List Match} → Passed p q ns zs ms → length ns ≡ 4 * length ms → matchesOf ns ≡ ms
-  passed-matches {ms} r e = ap matchesOf (sym (passed-list r e)) ∙ list_back ms (λ m i. (passed-good r m i).0)
+  pub passed-matches : {ms : List Match} → Passed p q ns zs ms → length ns ≡ 4 * length ms → matches_of ns ≡ ms
+  passed-matches {ms} r e = ap matches_of (sym (passed-list r e)) ∙ list_back ms (λ m i. (passed-good r m i).0)
 
   -- ---- and the marks
 
   pub marked-passed : {ms : List Match} {ks : List Mark} → Marked p q ns zs ms ks
       → Passed p q ns zs ms × (length ns ≡ 4 * length ms)
-  marked-passed (records-passed r e) = (r, e)
+  marked-passed (records_passed r e) = (r, e)
   marked-passed (marked r _ _) = marked-passed r
 
   pub marked-on : {ms : List Match} {ks : List Mark} → Marked p q ns zs ms ks → (k : Mark) → Memᴰ k ks
       → OnSequence p q k
-  marked-on (records-passed _ _) k i = absurd (Memᴰ.not-nil i)
+  marked-on (records_passed _ _) k i = absurd (Memᴰ.not-nil i)
   marked-on (marked r _ o) k i = snoc-all (OnSequence p q) (λ j. marked-on r k j) o i
 
   -- each of them is said, and its side is 0 or 1
   pub marked-says : {ms : List Match} {ks : List Mark} → Marked p q ns zs ms ks → (n : ℕ) → n < length ks
       → (k : Mark) × (SaysMark zs n k × OnSequence p q k)
-  marked-says (records-passed _ _) n h = absurd (omega arith)
+  marked-says (records_passed _ _) n h = absurd (omega arith)
   marked-says (marked {ks} {k} r s o) n h =
       elim (dec_lt n (length ks)) [
         | yes below ↦ marked-says r n below
         | no x ↦ let last : length ks ≡ n = omega (arith, length-append ks (k ∷ [])) in (k, (rw last at s, o))
       ]
 
-  marked-front : {ms : List Match} {ks : List Mark} → Marked p q ns zs ms ks → Front pointNumbers 2 zs ks
+  marked-front : {ms : List Match} {ks : List Mark} → Marked p q ns zs ms ks → Front point_numbers 2 zs ks
   unfolding flat_map
-  marked-front (records-passed _ _) = refl
-  marked-front (marked {ks} {k} r s _) = front-next pointNumbers 2 zs ks k (marked-front r) (says_two s)
+  marked-front (records_passed _ _) = refl
+  marked-front (marked {ks} {k} r s _) = front-next point_numbers 2 zs ks k (marked-front r) (says_two s)
 
   pub marked-list : {ms : List Match} {ks : List Mark} → Marked p q ns zs ms ks → length zs ≡ 2 * length ks
-      → pointList ks ≡ zs
-  marked-list {ks = ks} r e = front-all pointNumbers 2 zs ks (marked-front r) e
+      → point_list ks ≡ zs
+  marked-list {ks = ks} r e = front-all point_numbers 2 zs ks (marked-front r) e
 
   pub marked-points : {ms : List Match} {ks : List Mark} → Marked p q ns zs ms ks → length zs ≡ 2 * length ks
       → points_of zs ≡ ks
@@ -207,14 +207,14 @@ module _ {p q : ℕ} {ns zs : List ℕ} where
   -- ---- judging them
 
   begun-judged : Begun p q ns zs
-      → judgementOf p q ns zs ≡ firstFault (recordsJudgement p q ns) (marksJudgement p q (length (recordsOf ns)) zs)
+      → judgement_of p q ns zs ≡ first_fault (records_judgement p q ns) (marks_judgement p q (length (records_of ns)) zs)
   begun-judged b =
       let whole = b.whole in
       let few = b.few in
-      let whole-marks = b.whole-marks in
-      let few-marks = b.few-marks in
+      let whole_marks = b.whole_marks in
+      let few_marks = b.few_marks in
       rw (
-        opens-step (Opens.open-them b.p-range b.q-range),
+        opens-step (Opens.open_them b.p_range b.q_range),
         eq-eqb (length ns % 4) 0 (omega arith),
         eq-eqb (length zs % 2) 0 (omega arith),
         le-ltb 8192 (length ns) (omega arith),
@@ -223,42 +223,42 @@ module _ {p q : ℕ} {ns zs : List ℕ} where
 
   -- a sound record passes judging on to the next
   passed-judged : {ms : List Match} → Passed p q ns zs ms
-      → recordsJudgement p q ns ≡ judgedFrom (recordJudgement p q) (length ms + 1) (drop (length ms) (recordsOf ns))
+      → records_judgement p q ns ≡ judged_from (record_judgement p q) (length ms + 1) (drop (length ms) (records_of ns))
   passed-judged (begun b) = refl
   passed-judged (passed {ms} {m} r s w) =
       let n = length ms in
       let next : n + 1 ≡ length (ms ++ m ∷ []) = sym (length-append ms (m ∷ [])) in
       passed-judged r
-      ∙ judged-here (recordJudgement p q) (n + 1) (recordsOf ns) noRecord n
+      ∙ judged-here (record_judgement p q) (n + 1) (records_of ns) no_record n
       (omega (arith, records-length ns, s.whole))
       ∙ rw (says-judged p q (n + 1) s ∙ weighed-judgement (Weighed.sound w), next)
 
   -- and a faulty one is the list's fault
   pub fault-judged : {ms : List Match} {f : Refusal} → Passed p q ns zs ms → 4 * length ms + 4 ≤ length ns
-      → recordJudgement p q (length ms + 1) (recordAt (recordsOf ns) (length ms)) ≡ Faulty f
-      → judgementOf p q ns zs ≡ Faulty f
+      → record_judgement p q (length ms + 1) (record_at (records_of ns) (length ms)) ≡ Faulty f
+      → judgement_of p q ns zs ≡ Faulty f
   fault-judged {ms} {f} r h e =
-      let here : recordsJudgement p q ns ≡ Faulty f =
+      let here : records_judgement p q ns ≡ Faulty f =
       passed-judged r
-      ∙ judged-here (recordJudgement p q) (length ms + 1) (recordsOf ns) noRecord (length ms)
+      ∙ judged-here (record_judgement p q) (length ms + 1) (records_of ns) no_record (length ms)
       (omega (arith, records-length ns))
       ∙ rw e in
       begun-judged (passed-begun r) ∙ rw here
 
   -- behind the last record there is none
   records-judged : {ms : List Match} → Passed p q ns zs ms → length ns ≡ 4 * length ms
-      → recordsJudgement p q ns ≡ Sound
-  unfolding judgedFrom
+      → records_judgement p q ns ≡ Sound
+  unfolding judged_from
   records-judged {ms} r e =
       passed-judged r
-      ∙ rw (drop_of_length-le (recordsOf ns) {i = length ms} (omega (arith, records-length ns)))
+      ∙ rw (drop_of_length-le (records_of ns) {i = length ms} (omega (arith, records-length ns)))
 
   -- a sound mark passes judging on to the next
   marked-judged : {ms : List Match} {ks : List Mark} → Marked p q ns zs ms ks
-      → judgementOf p q ns zs
-      ≡ judgedFrom (markJudgement p q) (length ms + length ks + 1) (drop (length ks) (points_of zs))
-  marked-judged {ms} (records-passed r e) =
-      let all : length (recordsOf ns) + 1 ≡ length ms + 0 + 1 = omega (arith, records-length ns) in
+      → judgement_of p q ns zs
+      ≡ judged_from (mark_judgement p q) (length ms + length ks + 1) (drop (length ks) (points_of zs))
+  marked-judged {ms} (records_passed r e) =
+      let all : length (records_of ns) + 1 ≡ length ms + 0 + 1 = omega (arith, records-length ns) in
       begun-judged (passed-begun r)
       ∙ rw (records-judged r e, all)
   marked-judged {ms} (marked {ks} {k} r s o) =
@@ -266,24 +266,24 @@ module _ {p q : ℕ} {ns zs : List ℕ} where
       let snoc = length-append ks (k ∷ []) in
       let next : n + 1 ≡ length ms + length (ks ++ k ∷ []) + 1 = omega arith in
       marked-judged r
-      ∙ judged-here (markJudgement p q) n (points_of zs) noMark (length ks)
+      ∙ judged-here (mark_judgement p q) n (points_of zs) no_mark (length ks)
       (omega (arith, points-length zs, s.whole))
       ∙ rw (says-point s, measured-judgement (Measured.sound o), next, ← snoc)
 
   -- and a faulty one is the lists' fault
   pub mark-judged : {ms : List Match} {ks : List Mark} {k : Mark} {f : Refusal} → Marked p q ns zs ms ks
-      → SaysMark zs (length ks) k → markJudgement p q (length ms + length ks + 1) k ≡ Faulty f
-      → judgementOf p q ns zs ≡ Faulty f
+      → SaysMark zs (length ks) k → mark_judgement p q (length ms + length ks + 1) k ≡ Faulty f
+      → judgement_of p q ns zs ≡ Faulty f
   mark-judged {ms} {ks} r s e =
       marked-judged r
-      ∙ judged-here (markJudgement p q) (length ms + length ks + 1) (points_of zs) noMark (length ks)
+      ∙ judged-here (mark_judgement p q) (length ms + length ks + 1) (points_of zs) no_mark (length ks)
       (omega (arith, points-length zs, s.whole))
       ∙ rw (says-point s, e)
 
   -- behind the last mark there is none
   pub all-judged : {ms : List Match} {ks : List Mark} → Marked p q ns zs ms ks → length zs ≡ 2 * length ks
-      → judgementOf p q ns zs ≡ Sound
-  unfolding judgedFrom
+      → judgement_of p q ns zs ≡ Sound
+  unfolding judged_from
   all-judged {ks = ks} r e =
       marked-judged r
       ∙ rw (drop_of_length-le (points_of zs) {i = length ks} (omega (arith, points-length zs)))

@@ -24,7 +24,7 @@ use Rattle.script.specs.Outcomes.{Reach, opened, taken, marked, Outcome}
 use Rattle.script.specs.declared.command.Match.{Match}
 use Rattle.script.specs.declared.command.Mark.{Mark}
 use Rattle.script.proofs.Outcome.{reach-place}
-use Rattle.records.specs.Bytes.{numberBytes, lengthsBytes, code_of, matchBytes, markBytes, bytes_of}
+use Rattle.records.specs.Bytes.{number_bytes, lengths_bytes, code_of, match_bytes, mark_bytes, bytes_of}
 use Rattle.records.proofs.Bytes.{Bytes, number_append, number-back, drop-one, drop-two, drop-number}
 
 -- ---- item by item
@@ -59,22 +59,22 @@ before-none : {Y : Type 0} (a b c rest : List Y) {d : List Y} → d ≡ []
 before-none a b c rest none = rw none (simp (append-nil, append_assoc))
 
 -- what stands before the first mark, and before the end
-passed_length : (p q : ℕ) (ms : List Match) → length (lengthsBytes p q ++ flat_map matchBytes ms) ≡ 9 + 13 * length ms
+passed_length : (p q : ℕ) (ms : List Match) → length (lengths_bytes p q ++ flat_map match_bytes ms) ≡ 9 + 13 * length ms
 passed_length p q ms =
     omega (
       arith,
-      length-append (lengthsBytes p q) (flat_map matchBytes ms),
-      flat-length matchBytes 13 (λ m. refl) ms,
+      length-append (lengths_bytes p q) (flat_map match_bytes ms),
+      flat-length match_bytes 13 (λ m. refl) ms,
     )
 
 marked-length : (p q : ℕ) (ms : List Match) (ks : List Mark)
-    → length (lengthsBytes p q ++ flat_map matchBytes ms ++ flat_map markBytes ks) ≡ 9 + 13 * length ms + 6 * length ks
+    → length (lengths_bytes p q ++ flat_map match_bytes ms ++ flat_map mark_bytes ks) ≡ 9 + 13 * length ms + 6 * length ks
 marked-length p q ms ks =
     omega (
       arith,
       passed_length p q ms,
-      length-append (lengthsBytes p q ++ flat_map matchBytes ms) (flat_map markBytes ks),
-      flat-length markBytes 6 (λ k. refl) ks,
+      length-append (lengths_bytes p q ++ flat_map match_bytes ms) (flat_map mark_bytes ks),
+      flat-length mark_bytes 6 (λ k. refl) ks,
     )
 
 pub bytes-length : (p q : ℕ) (ms : List Match) (ks : List Mark)
@@ -84,7 +84,7 @@ bytes-length p q ms ks =
     omega (
       arith,
       marked-length p q ms ks,
-      length-append (lengthsBytes p q ++ flat_map matchBytes ms ++ flat_map markBytes ks) (0x45 ∷ []),
+      length-append (lengths_bytes p q ++ flat_map match_bytes ms ++ flat_map mark_bytes ks) (0x45 ∷ []),
     )
 
 -- ---- what is written is read
@@ -125,47 +125,47 @@ flat-split f pre rest xs ys x = simp (flat_append f xs (x ∷ ys), append_assoc)
 
 module _ {p q : ℕ} (a : InRange p) (b : InRange q) where
   match-at : (pre rest : List ℕ) (m : Match) → Tracked m → Within p q m
-      → MatchAt (pre ++ (matchBytes m ++ rest)) (length pre) m
+      → MatchAt (pre ++ (match_bytes m ++ rest)) (length pre) m
   match-at pre rest m tracked w =
       let few = a.few in
       let few' = b.few in
       let some = w.some in
-      let in-a = w.in-a in
+      let in_a = w.in_a in
       let in_b = w.in_b in
-      let s = matchBytes m ++ rest in
+      let s = match_bytes m ++ rest in
       record {
         code = code_at pre _ m.reversed;
-        whole = omega (arith, length-append pre s, length-append (matchBytes m) rest);
-        on-a = tracked.0;
-        on-b = tracked.1;
-        left-a = sym (number_append pre s 1 ∙ number-back m.left_a (omega arith));
-        left-b = sym (number_append pre s 5 ∙ number-back m.left_b (omega arith));
+        whole = omega (arith, length-append pre s, length-append (match_bytes m) rest);
+        on_a = tracked.0;
+        on_b = tracked.1;
+        left_a = sym (number_append pre s 1 ∙ number-back m.left_a (omega arith));
+        left_b = sym (number_append pre s 5 ∙ number-back m.left_b (omega arith));
         letters = sym (number_append pre s 9 ∙ number-back m.length (omega arith));
       }
 
   -- a mark on A or B has 32 bits
   on-few : {k : Mark} → OnSequence p q k → k.position ≤ 1_000_000_000
-  on-few (OnSequence.on-a _ h) = omega (arith, a.few)
-  on-few (OnSequence.on-b _ h) = omega (arith, b.few)
+  on-few (OnSequence.on_a _ h) = omega (arith, a.few)
+  on-few (OnSequence.on_b _ h) = omega (arith, b.few)
 
   mark-at : (pre rest : List ℕ) (k : Mark) → OnSequence p q k
-      → MarkAt (pre ++ (markBytes k ++ rest)) (length pre) k
+      → MarkAt (pre ++ (mark_bytes k ++ rest)) (length pre) k
   mark-at pre rest k on =
-      let s = markBytes k ++ rest in
+      let s = mark_bytes k ++ rest in
       record {
         code = byte_at pre _ 0x4D;
-        whole = omega (arith, length-append pre s, length-append (markBytes k) rest);
+        whole = omega (arith, length-append pre s, length-append (mark_bytes k) rest);
         side = sym (get_or-append-add pre s 1 0);
         position = sym (number_append pre s 2 ∙ number-back k.position (omega (arith, on-few on)));
       }
 
-  lengths-at : (rest : List ℕ) → LengthsAt (lengthsBytes p q ++ rest) p q
+  lengths-at : (rest : List ℕ) → LengthsAt (lengths_bytes p q ++ rest) p q
   lengths-at rest =
       let few = a.few in
       let few' = b.few in
       record {
         code = byte_at [] _ 0x4C;
-        whole = omega (arith, length-append (lengthsBytes p q) rest);
+        whole = omega (arith, length-append (lengths_bytes p q) rest);
         first = sym (number-back p (omega arith));
         second = sym (number-back q (omega arith));
       }
@@ -173,13 +173,13 @@ module _ {p q : ℕ} (a : InRange p) (b : InRange q) where
   -- behind the lengths stand the matches ..
   matches-reach : (ms : List Match) (rest : List ℕ) → ((m : Match) → Memᴰ m ms → Tracked m × Within p q m)
       → length ms ≤ 2048
-      → Reach (lengthsBytes p q ++ (flat_map matchBytes ms ++ rest)) p q (9 + 13 * length ms) ms []
+      → Reach (lengths_bytes p q ++ (flat_map match_bytes ms ++ rest)) p q (9 + 13 * length ms) ms []
   matches-reach ms rest good few =
-      let s = lengthsBytes p q ++ (flat_map matchBytes ms ++ rest) in
+      let s = lengths_bytes p q ++ (flat_map match_bytes ms ++ rest) in
       along (λ xs. Reach s p q (9 + 13 * length xs) xs []) ms (opened (lengths-at _) a b) (λ xs ys m e r.
-      let pre = lengthsBytes p q ++ flat_map matchBytes xs in
-      let is : s ≡ pre ++ (matchBytes m ++ (flat_map matchBytes ys ++ rest)) =
-      rw (← e) (flat-split matchBytes (lengthsBytes p q) rest xs ys m) in
+      let pre = lengths_bytes p q ++ flat_map match_bytes xs in
+      let is : s ≡ pre ++ (match_bytes m ++ (flat_map match_bytes ys ++ rest)) =
+      rw (← e) (flat-split match_bytes (lengths_bytes p q) rest xs ys m) in
       let g = good m (among xs ys m e) in
       let stands : MatchAt s (9 + 13 * length xs) m =
       rw (is, ← passed_length p q xs) (match-at pre _ m g.0 g.1) in
@@ -189,15 +189,15 @@ module _ {p q : ℕ} (a : InRange p) (b : InRange q) where
 
   -- .. and behind these the marks
   marks-reach : (ms : List Match) (ks : List Mark) {s : List ℕ} (rest : List ℕ)
-      → s ≡ (lengthsBytes p q ++ flat_map matchBytes ms) ++ (flat_map markBytes ks ++ rest)
+      → s ≡ (lengths_bytes p q ++ flat_map match_bytes ms) ++ (flat_map mark_bytes ks ++ rest)
       → ((k : Mark) → Memᴰ k ks → OnSequence p q k) → length ks ≤ 512 → Reach s p q (9 + 13 * length ms) ms []
       → Reach s p q (9 + 13 * length ms + 6 * length ks) ms ks
   marks-reach ms ks {s} rest parts good few start =
       let zero : 9 + 13 * length ms ≡ 9 + 13 * length ms + 6 * 0 = omega arith in
       along (λ xs. Reach s p q (9 + 13 * length ms + 6 * length xs) ms xs) ks (rw zero at start) (λ xs ys k e r.
-      let pre = lengthsBytes p q ++ flat_map matchBytes ms ++ flat_map markBytes xs in
-      let is : s ≡ pre ++ (markBytes k ++ (flat_map markBytes ys ++ rest)) =
-      parts ∙ rw (← e) (flat-split markBytes (lengthsBytes p q ++ flat_map matchBytes ms) rest xs ys k) in
+      let pre = lengths_bytes p q ++ flat_map match_bytes ms ++ flat_map mark_bytes xs in
+      let is : s ≡ pre ++ (mark_bytes k ++ (flat_map mark_bytes ys ++ rest)) =
+      parts ∙ rw (← e) (flat-split mark_bytes (lengths_bytes p q ++ flat_map match_bytes ms) rest xs ys k) in
       let on = good k (among xs ys k e) in
       let stands : MarkAt s (9 + 13 * length ms + 6 * length xs) k =
       rw (is, ← marked-length p q ms xs) (mark-at pre _ k on) in
@@ -210,17 +210,17 @@ module _ {p q : ℕ} (a : InRange p) (b : InRange q) where
     pub written-first : Reach (bytes_of p q ms ks) p q (9 + 13 * length ms) ms []
     unfolding bytes_of
     written-first =
-        let rest = flat_map markBytes ks ++ 0x45 ∷ [] in
-        let parts : bytes_of p q ms ks ≡ lengthsBytes p q ++ (flat_map matchBytes ms ++ rest) = simp append_assoc in
+        let rest = flat_map mark_bytes ks ++ 0x45 ∷ [] in
+        let parts : bytes_of p q ms ks ≡ lengths_bytes p q ++ (flat_map match_bytes ms ++ rest) = simp append_assoc in
         rw parts (matches-reach ms rest good few)
 
     pub written-admitted : ((k : Mark) → Memᴰ k ks → OnSequence p q k) → length ks ≤ 512
         → Outcome (bytes_of p q ms ks) (value (contents (p ∷ q ∷ []) ms ks))
     unfolding bytes_of
-    written-admitted good-marks few-marks =
-        let pre = lengthsBytes p q ++ flat_map matchBytes ms ++ flat_map markBytes ks in
-        let parts = append_assoc (lengthsBytes p q ++ flat_map matchBytes ms) (flat_map markBytes ks) (0x45 ∷ []) in
-        Outcome.is-admitted (marks-reach ms ks _ parts good-marks few-marks written-first)
+    written-admitted good-marks few_marks =
+        let pre = lengths_bytes p q ++ flat_map match_bytes ms ++ flat_map mark_bytes ks in
+        let parts = append_assoc (lengths_bytes p q ++ flat_map match_bytes ms) (flat_map mark_bytes ks) (0x45 ∷ []) in
+        Outcome.is_admitted (marks-reach ms ks _ parts good-marks few_marks written-first)
         (rw (← marked-length p q ms ks) (byte_at pre [] 0x45))
         (omega (arith, length-append pre (0x45 ∷ []), marked-length p q ms ks))
 
@@ -228,10 +228,10 @@ module _ {p q : ℕ} (a : InRange p) (b : InRange q) where
 
 module _ (s : List ℕ) (bytes : Bytes s) where
   number-bytes : (from to : ℕ) {n : ℕ} → n ≡ number_at s from → from + 4 ≡ to → to ≤ length s
-      → drop from s ≡ numberBytes n ++ drop to s
+      → drop from s ≡ number_bytes n ++ drop to s
   number-bytes from to is on h = rw (is, ← on) (drop-number s bytes from (omega arith))
 
-  lengths-bytes : {p q : ℕ} → LengthsAt s p q → s ≡ lengthsBytes p q ++ drop 9 s
+  lengths-bytes : {p q : ℕ} → LengthsAt s p q → s ≡ lengths_bytes p q ++ drop 9 s
   lengths-bytes l =
       let whole = l.whole in
       drop-one s 0 0 (omega arith)
@@ -245,27 +245,27 @@ module _ (s : List ℕ) (bytes : Bytes s) where
   match-code (MatchByte.direct b) = b.is
   match-code (MatchByte.backward b) = b.is
 
-  match-bytes : {at : ℕ} {m : Match} → MatchAt s at m → drop at s ≡ matchBytes m ++ drop (at + 13) s
+  match-bytes : {at : ℕ} {m : Match} → MatchAt s at m → drop at s ≡ match_bytes m ++ drop (at + 13) s
   match-bytes {at} d =
       let whole = d.whole in
       drop-one s 0 at (omega arith)
       ∙ rw (
         match-code d.code,
-        number-bytes (at + 1) (at + 5) d.left-a (omega arith) (omega arith),
-        number-bytes (at + 5) (at + 9) d.left-b (omega arith) (omega arith),
+        number-bytes (at + 1) (at + 5) d.left_a (omega arith) (omega arith),
+        number-bytes (at + 5) (at + 9) d.left_b (omega arith) (omega arith),
         number-bytes (at + 9) (at + 13) d.letters (omega arith) whole,
       )
 
-  mark-bytes : {at : ℕ} {k : Mark} → MarkAt s at k → drop at s ≡ markBytes k ++ drop (at + 6) s
+  mark-bytes : {at : ℕ} {k : Mark} → MarkAt s at k → drop at s ≡ mark_bytes k ++ drop (at + 6) s
   mark-bytes {at} d =
       let whole = d.whole in
       drop-two s 0 at (omega arith)
       ∙ rw (d.code.is, ← d.side, number-bytes (at + 2) (at + 6) d.position (omega arith) whole)
 
   -- before the first mark a match stands at every thirteenth byte ..
-  no-mark : {at : ℕ} {way : Bool} → MatchByte s at way → get_or s at 0 ≡ 0x4D → ⊥
-  no-mark (MatchByte.direct b) e = omega (arith, b.is)
-  no-mark (MatchByte.backward b) e = omega (arith, b.is)
+  no_mark : {at : ℕ} {way : Bool} → MatchByte s at way → get_or s at 0 ≡ 0x4D → ⊥
+  no_mark (MatchByte.direct b) e = omega (arith, b.is)
+  no_mark (MatchByte.backward b) e = omega (arith, b.is)
 
   matches-stand : {p q at : ℕ} {ms : List Match} {ks : List Mark} → Reach s p q at ms ks → length ks ≡ 0
       → (i : ℕ) → i < length ms → get_or s (9 + 13 * i) 0 ≡ 0x4D → ⊥
@@ -274,7 +274,7 @@ module _ (s : List ℕ) (bytes : Bytes s) where
       elim (dec_lt i (length ms)) [
         | yes below ↦ matches-stand r none i below
         | no n ↦ let last : at ≡ 9 + 13 * i = omega (arith, reach-place r, length-append ms (m ∷ [])) in
-            rw last at (no-mark d.code)
+            rw last at (no_mark d.code)
       ]
   matches-stand (marked {ks = ks} {k} r _ _ _) none i h = absurd (omega (arith, length-append ks (k ∷ [])))
 
@@ -291,24 +291,24 @@ module _ (s : List ℕ) (bytes : Bytes s) where
 
     -- .. and the bytes are those of the matches, then those of the marks
     reach-bytes : {at : ℕ} {ms : List Match} {ks : List Mark} → Reach s p q at ms ks → length ms ≤ length all
-        → s ≡ (lengthsBytes p q ++ flat_map matchBytes ms ++ flat_map markBytes ks) ++ drop at s
+        → s ≡ (lengths_bytes p q ++ flat_map match_bytes ms ++ flat_map mark_bytes ks) ++ drop at s
     unfolding flat_map
     reach-bytes (opened l _ _) h = lengths-bytes l
     reach-bytes (taken {ms} {ks} {m} r _ d _) h =
         let fewer : length ms < length all = omega (arith, length-append ms (m ∷ [])) in
         reach-bytes r (omega arith)
-        ∙ rw (match-bytes d, flat-snoc matchBytes ms m)
-        (before-none (lengthsBytes p q) (flat_map matchBytes ms) (matchBytes m) _
-        (none-flat markBytes ks (marks-late r fewer)))
+        ∙ rw (match-bytes d, flat-snoc match_bytes ms m)
+        (before-none (lengths_bytes p q) (flat_map match_bytes ms) (match_bytes m) _
+        (none-flat mark_bytes ks (marks-late r fewer)))
     reach-bytes (marked {ms} {ks} {k} r _ d _) h =
         reach-bytes r h
-        ∙ rw (mark-bytes d, flat-snoc markBytes ks k)
-        (behind (lengthsBytes p q ++ flat_map matchBytes ms) (flat_map markBytes ks) (markBytes k) _)
+        ∙ rw (mark-bytes d, flat-snoc mark_bytes ks k)
+        (behind (lengths_bytes p q ++ flat_map match_bytes ms) (flat_map mark_bytes ks) (mark_bytes k) _)
 
 pub admitted-written : (s : List ℕ) → Bytes s → {p q at : ℕ} {ms : List Match} {ks : List Mark}
     → Outcome s (value (contents (p ∷ q ∷ []) ms ks)) → Reach s p q at ms [] → bytes_of p q ms ks ≡ s
 unfolding bytes_of
-admitted-written s bytes {ms = ms} (Outcome.is-admitted {at} r b e) before =
+admitted-written s bytes {ms = ms} (Outcome.is_admitted {at} r b e) before =
     let end : drop at s ≡ 0x45 ∷ [] =
     drop-one s 0 at (omega arith)
     ∙ rw (b.is, drop_of_length-le s {i = at + 1} (omega arith)) in

@@ -1,5 +1,5 @@
 -- What writing lists and reading them promise, a field for each sentence. TO READ: contracts mean what stands here.
---     writtenAnswer w, listedAnswer l     the replies in the words of 01 and 02
+--     written_answer w, listed_answer l     the replies in the words of 01 and 02
 --     MatchesFirst    all matches of a script stand before its marks
 --     Back            a script is the one of these lengths, records and marks, and is read back into them
 --     WritingDemand   what the call that writes promises
@@ -15,10 +15,10 @@ use Rattle.script.specs.Outcomes.{Reach, Outcome}
 use Rattle.script.specs.Demands.{Counted, counted}
 use Rattle.script.specs.declared.command.Match.{Match}
 use Rattle.script.specs.declared.command.Mark.{Mark}
-use Rattle.records.specs.Records.{list_of, pointList}
+use Rattle.records.specs.Records.{list_of, point_list}
 use Rattle.records.specs.Outcomes.{Says, SaysMark, WritingOutcome, ListingOutcome}
-use Rattle.records.specs.Writing.{writingOf}
-use Rattle.records.specs.Listing.{listingOf}
+use Rattle.records.specs.Writing.{writing_of}
+use Rattle.records.specs.Listing.{listing_of}
 use Rattle.records.specs.declared.Written.{Written}
 use Rattle.records.specs.declared.Listed.{Listed}
 
@@ -35,9 +35,9 @@ pub record MatchesFirst (s : List ℕ) : Type 0 where
 -- ---- writing
 
 -- SCOPE, "Enums": the script's length, or the refusal
-abbrev pub writtenAnswer : Written → Answer ℕ
-writtenAnswer (Written.Bytes n) = value n
-writtenAnswer (Written.Refused f) = refusal (number_of f) (place_of f)
+abbrev pub written_answer : Written → Answer ℕ
+written_answer (Written.Bytes n) = value n
+written_answer (Written.Refused f) = refusal (number_of f) (place_of f)
 
 -- "records to bytes to records"
 pub record Back (p q : ℕ) (ns zs script : List ℕ) : Type 0 where
@@ -47,12 +47,12 @@ pub record Back (p q : ℕ) (ns zs script : List ℕ) : Type 0 where
   pub admitted : Outcome script (value (contents (p ∷ q ∷ []) matches marks))
   -- .. its matches are these records and its marks these, in their order ..
   pub listed : list_of matches ≡ ns
-  pub listed-marks : pointList marks ≡ zs
+  pub listed_marks : point_list marks ≡ zs
   -- .. the marks behind the matches ..
   pub first : MatchesFirst script
   -- .. so that the other call gives them back, in any buffers that have room for them
   pub back : (lent lent-marks : List ℕ) → length ns ≤ length lent → length zs ≤ length lent-marks
-      → listingOf script lent lent-marks
+      → listing_of script lent lent-marks
       ≡ record {
         reply = Listed.Records p q (length matches) (length marks);
         records = ns ++ drop (length ns) lent;
@@ -76,16 +76,16 @@ pub record WritingDemand (p q : ℕ) (ns zs out out' : List ℕ) (answer : Answe
 -- ---- reading into lists
 
 -- SCOPE, "Enums": the lengths and the counts, or the refusal
-abbrev pub listedAnswer : Listed → Answer Counted
-listedAnswer (Listed.Records p q count marks) = value (counted p q count marks)
-listedAnswer (Listed.Refused f) = refusal (number_of f) (place_of f)
+abbrev pub listed_answer : Listed → Answer Counted
+listed_answer (Listed.Records p q count marks) = value (counted p q count marks)
+listed_answer (Listed.Refused f) = refusal (number_of f) (place_of f)
 
 -- "bytes to records to bytes", of the script s and the records and marks in it
 pub record Again (s : List ℕ) (p q : ℕ) (ns zs : List ℕ) : Type 0 where
   -- the other call writes a script as long as this one, in any buffer that has room for it ..
   pub script : List ℕ
   pub written : (lent : List ℕ) → length s ≤ length lent
-      → writingOf p q ns zs lent
+      → writing_of p q ns zs lent
       ≡ record { reply = Written.Bytes (length s); script = script ++ drop (length s) lent }
   -- .. and it is this one, byte for byte, if the matches stand first here, and only then
   pub same : MatchesFirst s → script ≡ s
@@ -98,21 +98,21 @@ pub record ListingDemand (s out points out' points' : List ℕ) (answer : Answer
   -- .. and any outcome whose condition is met is the answer
   pub alone : (a : Answer Counted) → ListingOutcome s (length out) (length points) a → a ≡ answer
   pub as_long : length out' ≡ length out
-  pub marks-as-long : length points' ≡ length points
+  pub marks_as_long : length points' ≡ length points
   -- a refused call leaves each lent number
   pub refused : {n place : ℕ} → answer ≡ refusal n place → out' ≡ out
-  pub marks-refused : {n place : ℕ} → answer ≡ refusal n place → points' ≡ points
+  pub marks_refused : {n place : ℕ} → answer ≡ refusal n place → points' ≡ points
   -- and one that succeeds those behind the records, and behind the marks
   pub past : {p q count marks : ℕ} → answer ≡ value (counted p q count marks)
       → drop (4 * count) out' ≡ drop (4 * count) out
-  pub marks-past : {p q count marks : ℕ} → answer ≡ value (counted p q count marks)
+  pub marks_past : {p q count marks : ℕ} → answer ≡ value (counted p q count marks)
       → drop (2 * marks) points' ≡ drop (2 * marks) points
   -- the record behind n others is that of the match behind n others
   pub held : {p q count marks : ℕ} → answer ≡ value (counted p q count marks) → (others rest : List Match) (m : Match)
       → {ls : List ℕ} {ks : List Mark} → Outcome s (value (contents ls (others ++ m ∷ rest) ks))
       → Says out' (length others) m
   -- and likewise a mark
-  pub marks-held : {p q count marks : ℕ} → answer ≡ value (counted p q count marks)
+  pub marks_held : {p q count marks : ℕ} → answer ≡ value (counted p q count marks)
       → (others rest : List Mark) (k : Mark) → {ls : List ℕ} {ms : List Match}
       → Outcome s (value (contents ls ms (others ++ k ∷ rest))) → SaysMark points' (length others) k
   -- the other call gives the script back, if its matches stand first

@@ -1,6 +1,7 @@
 // Lists of matches, a record of four numbers for each, and of marks, two numbers for each: how they are written as a
 // script, and a script as lists. specs/ has it, proofs/ the laws of it. There is no function here: the calls are
 // `writer`'s and `record_reader`'s.
+#![tactic(auto)]
 use script::Refusal;
 
 // The numbers of a record, and of a mark; specs/Records.antt has them for the definitions.

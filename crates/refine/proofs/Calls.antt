@@ -14,19 +14,19 @@ use mathlib.Core.Bool.{Bool, false}
 use mathlib.Core.List.{List, ◌∷◌, map}
 use native.Mathlib.Omega.{arith}
 use lib.ListN.{length, take, replicate, length-take, length-map, length-replicate}
-use Rattle.script.specs.Commands.{markWidth}
-use Rattle.script.specs.Limits.{mostMatches, mostMarks}
-use Rattle.script.specs.Reading.{readScript, verdictOf}
-use Rattle.script.specs.Columns.{matchesRead, marksRead, columnOf, columnRead, ColumnsRead, MarksRead}
+use Rattle.script.specs.Commands.{mark_width}
+use Rattle.script.specs.Limits.{most_matches, most_marks}
+use Rattle.script.specs.Reading.{read_script, verdict_of}
+use Rattle.script.specs.Columns.{matches_read, marks_read, column_of, column_read, ColumnsRead, MarksRead}
 use Rattle.script.specs.declared.Verdict.{Verdict}
 use Rattle.script.specs.declared.refusal.Refusal.{Refusal}
 use Rattle.script.specs.declared.command.Match.{Match as ScriptMatch}
-use Rattle.refining.specs.Columns.{FitRead, columnsRead}
-use Rattle.refining.specs.Refining.{markPlace, heldIn, refiningOf}
+use Rattle.refining.specs.Columns.{FitRead, columns_read}
+use Rattle.refining.specs.Refining.{mark_place, held_in, refining_of}
 use Rattle.refining.specs.Demands.{answer_of, Demand1, Demand2, Demand3}
 use Rattle.refining_matches.specs.Tabling.{MatchesRefined}
-use Rattle.refining_matches.proofs.MarksHeld.{marks-held}
-use Rattle.tracks.specs.Tracks.{marksOf}
+use Rattle.refining_matches.proofs.MarksHeld.{marks_held}
+use Rattle.tracks.specs.Tracks.{marks_of}
 use Rattle.refine.specs.Calls.{ScriptRefined, Roomy, RoomyMarks, Straight, bytes_of}
 use Rattle.refining.specs.declared.answers.Refined.{Refined}
 use Rattle.script.proofs.Admitted.{Holds, holds-admitted, reading-refused, matches-few, marks-few}
@@ -42,16 +42,16 @@ take-replicate (suc k) (suc n) h = ap (λ (l : List Bool). false ∷ l) (take-re
 
 -- a column stays as long as it was
 pub column-kept : {X Y : Type 0} (read : List X) (field : X → Y) (before : List Y) {after : List Y}
-    → after ≡ columnOf read field before → length after ≡ length before
+    → after ≡ column_of read field before → length after ≡ length before
 column-kept read field before is = ap length is ∙ column-length read field before
 
 -- a column with room for all begins with their fields
 module _ {X Y : Type 0} {xs read : List X} {count : ℕ} (same : read ≡ xs) (counted : length xs ≡ count) (field : X → Y)
-    (before : List Y) {after : List Y} (is : after ≡ columnOf read field before) (room : length read ≤ length before)
+    (before : List Y) {after : List Y} (is : after ≡ column_of read field before) (room : length read ≤ length before)
   where
     column-begins : take count after ≡ map field xs
     column-begins =
-        ap (λ (n : ℕ). take n after) (sym counted) ∙ ap (take (length xs)) (is ∙ ap (λ l. columnOf l field before) same)
+        ap (λ (n : ℕ). take n after) (sym counted) ∙ ap (take (length xs)) (is ∙ ap (λ l. column_of l field before) same)
         ∙ column-filled xs field before (rw same at room)
 
     column-reaches : count ≤ length after
@@ -62,20 +62,20 @@ module _ {X Y : Type 0} {xs read : List X} {count : ℕ} (same : read ≡ xs) (c
     column-prefix = omega (arith, column-reaches, length-take count after)
 
 -- the columns of an admitted script, by the reader's stated result
-module _ (script : List ℕ) {told : Verdict} {p q count marks : ℕ} (e : told ≡ verdictOf (readScript script))
+module _ (script : List ℕ) {told : Verdict} {p q count marks : ℕ} (e : told ≡ verdict_of (read_script script))
     (v : told ≡ Verdict.Admitted p q count marks) where
   held : Holds script p q count marks
   held = holds-admitted script e v
 
-  matches-read : matchesRead (readScript script) ≡ held.matches
+  matches-read : matches_read (read_script script) ≡ held.matches
   matches-read = rw held.read
 
-  marks-read : marksRead (readScript script) ≡ held.points
+  marks-read : marks_read (read_script script) ≡ held.points
   marks-read = rw held.read
 
   module _ {X : Type 0} (field : ScriptMatch → X) (before : List X) {after : List X}
-      (is : after ≡ columnRead script field before)
-      (room : length (matchesRead (readScript script)) ≤ length before) where
+      (is : after ≡ column_read script field before)
+      (room : length (matches_read (read_script script)) ≤ length before) where
     begins : take count after ≡ map field held.matches
     begins = column-begins matches-read held.counted field before is room
 
@@ -88,11 +88,11 @@ module _ (script : List ℕ) {told : Verdict} {p q count marks : ℕ} (e : told 
   module _ {z x z' x' : List ℕ} (roomy : RoomyMarks script z x) (columns : MarksRead script z x z' x') where
     pub side-reaches : marks ≤ length z'
     side-reaches =
-        column-reaches marks-read held.counted-marks (λ k. k.side) z columns.side roomy.side
+        column-reaches marks-read held.counted_marks (λ k. k.side) z columns.side roomy.side
 
     pub position-reaches : marks ≤ length x'
     position-reaches =
-        column-reaches marks-read held.counted-marks (λ k. k.position) x columns.position roomy.position
+        column-reaches marks-read held.counted_marks (λ k. k.position) x columns.position roomy.position
 
     pub side-prefix : marks ≡ length (take marks z')
     side-prefix = omega (arith, side-reaches, length-take marks z')
@@ -100,14 +100,14 @@ module _ (script : List ℕ) {told : Verdict} {p q count marks : ℕ} (e : told 
     pub position-prefix : marks ≡ length (take marks x')
     position-prefix = omega (arith, position-reaches, length-take marks x')
 
-    marks_begin : marksOf (take marks z') (take marks x') ≡ map markPlace held.points
+    marks_begin : marks_of (take marks z') (take marks x') ≡ map mark_place held.points
     marks_begin =
-        marks-held held.points
-        (column-begins marks-read held.counted-marks (λ k. k.side) z columns.side roomy.side)
-        (column-begins marks-read held.counted-marks (λ k. k.position) x columns.position roomy.position)
+        marks_held held.points
+        (column-begins marks-read held.counted_marks (λ k. k.side) z columns.side roomy.side)
+        (column-begins marks-read held.counted_marks (λ k. k.position) x columns.position roomy.position)
 
   -- a column with room for the matches has room for as many numbers as there are
-  room-reaches : {n : ℕ} → length (matchesRead (readScript script)) ≤ n → count ≤ n
+  room-reaches : {n : ℕ} → length (matches_read (read_script script)) ≤ n → count ≤ n
   room-reaches room = omega (arith, rw held.read at room, held.counted)
 
   straight-reaches : {w : List Bool} → Straight script w → count ≤ length w
@@ -123,18 +123,18 @@ module _ (script : List ℕ) {told : Verdict} {p q count marks : ℕ} (e : told 
   module _ {f g t u f' t' u' : List ℕ} {r r' : List Bool} (roomy : Roomy script f g t u r)
       (columns : ColumnsRead script f t u r f' t' u' r') where
     left-a-begins : take count f' ≡ map (λ m. m.left_a) held.matches
-    left-a-begins = begins (λ m. m.left_a) f columns.left-a roomy.left-a
+    left-a-begins = begins (λ m. m.left_a) f columns.left_a roomy.left_a
 
     left-b-begins : take count t' ≡ map (λ m. m.left_b) held.matches
-    left-b-begins = begins (λ m. m.left_b) t columns.left-b roomy.left-b
+    left-b-begins = begins (λ m. m.left_b) t columns.left_b roomy.left_b
 
     -- the lengths stand in the column of the right ends on B, as many as there are left ends on A
-    on-a : length (take count f') ≡ count
-    on-a = sym (prefix-length (λ m. m.left_a) f columns.left-a roomy.left-a)
+    on_a : length (take count f') ≡ count
+    on_a = sym (prefix-length (λ m. m.left_a) f columns.left_a roomy.left_a)
 
     letters-begin : take (length (take count f')) u' ≡ map (λ m. m.length) held.matches
     letters-begin =
-        ap (λ (n : ℕ). take n u') on-a ∙ begins (λ m. m.length) u columns.letters roomy.right-b
+        ap (λ (n : ℕ). take n u') on_a ∙ begins (λ m. m.length) u columns.letters roomy.right_b
 
     reversed-begins : take count r' ≡ map (λ m. m.reversed) held.matches
     reversed-begins = begins (λ m. m.reversed) r columns.reversed roomy.reversed
@@ -149,7 +149,7 @@ module _ (script : List ℕ) {told : Verdict} {p q count marks : ℕ} (e : told 
         × ((length (take count f') ≤ length g) × (length (take count f') ≤ length u')))))
     columns-fit straight spots points =
         let ways = prefix-length (λ m. m.reversed) r columns.reversed roomy.reversed in
-        let letters = reaches (λ m. m.length) u columns.letters roomy.right-b in (
+        let letters = reaches (λ m. m.length) u columns.letters roomy.right_b in (
           held-fit held left-a-begins left-b-begins letters-begin reversed-begins,
           (
             omega (arith, ways, held.few),
@@ -157,7 +157,7 @@ module _ (script : List ℕ) {told : Verdict} {p q count marks : ℕ} (e : told 
               straight-begins straight ∙ ap (λ (n : ℕ). replicate n false) ways,
               (
                 sym (side-prefix spots points) ∙ position-prefix spots points,
-                (omega (arith, on-a, room-reaches roomy.right-a), omega (arith, on-a, letters)),
+                (omega (arith, on_a, room-reaches roomy.right_a), omega (arith, on_a, letters)),
               ),
             ),
           ),
@@ -166,8 +166,8 @@ module _ (script : List ℕ) {told : Verdict} {p q count marks : ℕ} (e : told 
     pub read-refined : {z x z' x' : List ℕ} → RoomyMarks script z x → MarksRead script z x z' x'
         → (table work : List ℕ) {reply : Refined} {table' work' : List ℕ}
         → MatchesRefined
-        (heldIn (columnsRead (take count f') (take count t') (take (length (take count f')) u') (take count r'))
-        (marksOf (take marks z') (take marks x'))) table work reply table' work'
+        (held_in (columns_read (take count f') (take count t') (take (length (take count f')) u') (take count r'))
+        (marks_of (take marks z') (take marks x'))) table work reply table' work'
         → ScriptRefined script table work reply table' work'
     read-refined spots points table work refined =
         refined
@@ -178,16 +178,16 @@ module _ (script : List ℕ) {told : Verdict} {p q count marks : ℕ} (e : told 
 pub refining-met :
     {script table work : List ℕ} {reply : Refined} {table' work' : List ℕ}
     → ScriptRefined script table work reply table' work'
-    → (reply ≡ (refiningOf script table work).reply)
-    × ((table' ≡ (refiningOf script table work).table)
-    × ((work' ≡ (refiningOf script table work).work)
+    → (reply ≡ (refining_of script table work).reply)
+    × ((table' ≡ (refining_of script table work).table)
+    × ((work' ≡ (refining_of script table work).work)
     × (Demand1 script table work (answer_of reply) table' work'
     × (Demand2 script table work (answer_of reply) table'
     × Demand3 script table work (answer_of reply) table'))))
 refining-met {script} {table} {work} e = refining-contract script table work (sym e)
 
 pub read-refused :
-    (script table work : List ℕ) {told : Verdict} {f : Refusal} {reply : Refined} → told ≡ verdictOf (readScript script)
+    (script table work : List ℕ) {told : Verdict} {f : Refusal} {reply : Refined} → told ≡ verdict_of (read_script script)
     → told ≡ Verdict.Refused f
     → reply ≡ Refined.Refused f
     → ScriptRefined script table work reply table work
@@ -196,13 +196,13 @@ read-refused script table work e v is =
 
 -- columns of n have room for n matches: those of a script with the bytes of n, and where n is 2,048 those of any
 roomy-in :
-    (n : ℕ) {s f g t u : List ℕ} {r : List Bool} → length (matchesRead (readScript s)) ≤ n → length f ≡ n
+    (n : ℕ) {s f g t u : List ℕ} {r : List Bool} → length (matches_read (read_script s)) ≤ n → length f ≡ n
     → length g ≡ n → length t ≡ n → length u ≡ n → length r ≡ n → Roomy s f g t u r
 roomy-in n few ef eg et eu er = record {
-  left-a = omega arith;
-  right-a = omega arith;
-  left-b = omega arith;
-  right-b = omega arith;
+  left_a = omega arith;
+  right_a = omega arith;
+  left_b = omega arith;
+  right_b = omega arith;
   reversed = omega arith;
 }
 
@@ -212,22 +212,22 @@ pub short-roomy :
 short-roomy n {s} short = roomy-in n (omega (arith, matches-few s))
 
 pub many-roomy :
-    {s f g t u : List ℕ} {r : List Bool} → length f ≡ mostMatches → length g ≡ mostMatches → length t ≡ mostMatches
-    → length u ≡ mostMatches → length r ≡ mostMatches → Roomy s f g t u r
-many-roomy {s} = roomy-in mostMatches (matches-few s).1
+    {s f g t u : List ℕ} {r : List Bool} → length f ≡ most_matches → length g ≡ most_matches → length t ≡ most_matches
+    → length u ≡ most_matches → length r ≡ most_matches → Roomy s f g t u r
+many-roomy {s} = roomy-in most_matches (matches-few s).1
 
 -- and for the marks: six bytes each, and 512 at most
 pub short-marks :
-    (n k : ℕ) {s z x : List ℕ} → length s ≤ bytes_of n → bytes_of n < markWidth * (k + 1) → length z ≡ k → length x ≡ k
+    (n k : ℕ) {s z x : List ℕ} → length s ≤ bytes_of n → bytes_of n < mark_width * (k + 1) → length z ≡ k → length x ≡ k
     → RoomyMarks s z x
 short-marks n k {s} short room ez ex =
     let few = marks-few s in record { side = omega (arith, few); position = omega (arith, few) }
 
-pub many-marks : {s z x : List ℕ} → length z ≡ mostMarks → length x ≡ mostMarks → RoomyMarks s z x
+pub many-marks : {s z x : List ℕ} → length z ≡ most_marks → length x ≡ most_marks → RoomyMarks s z x
 many-marks {s} ez ex = let few = marks-few s in record { side = omega (arith, few); position = omega (arith, few) }
 
 -- the same of a column in which no match is reversed
-straight-in : (n : ℕ) {s : List ℕ} → length (matchesRead (readScript s)) ≤ n → Straight s (replicate n false)
+straight-in : (n : ℕ) {s : List ℕ} → length (matches_read (read_script s)) ≤ n → Straight s (replicate n false)
 straight-in n few = record {
   room = omega (arith, length-replicate n false);
   none = ap (λ (k : ℕ). replicate k false) (sym (length-replicate n false));
@@ -236,5 +236,5 @@ straight-in n few = record {
 pub short-straight : (n : ℕ) {s : List ℕ} → length s ≤ bytes_of n → Straight s (replicate n false)
 short-straight n {s} short = straight-in n (omega (arith, matches-few s))
 
-pub many-straight : {s : List ℕ} → Straight s (replicate mostMatches false)
-many-straight {s} = straight-in mostMatches (matches-few s).1
+pub many-straight : {s : List ℕ} → Straight s (replicate most_matches false)
+many-straight {s} = straight-in most_matches (matches-few s).1

@@ -1,6 +1,7 @@
 // The refining call, which stands above the reader, the theory and the store of cuts.
+#![tactic(auto)]
 ghost use Rattle.std.specs.Prelude.{◌≡◌, ◌≤◌, length};
-ghost use Rattle.refining.specs.Refining.{refiningOf};
+ghost use Rattle.refining.specs.Refining.{refining_of};
 ghost use Rattle.refine.specs.Calls.{Roomy, RoomyMarks, Straight, ScriptRefined, bytes_of};
 ghost use Rattle.refining.specs.Demands.{answer_of, Demand1, Demand2, Demand3};
 
@@ -190,9 +191,9 @@ pub fn refine_long(script: &[u8], table: &mut [u32], work: &mut [u32]) -> Refine
 
 // Makes the piece table of a script. Success gives the count of rows, which stand from the table's start.
 pub fn refine(script: &[u8], table: &mut [u32], work: &mut [u32]) -> Refined
-    ensures reply { result ≡ (refiningOf script.now table.old work.old).reply }
-    ensures table { table.new ≡ (refiningOf script.now table.old work.old).table }
-    ensures work { work.new ≡ (refiningOf script.now table.old work.old).work }
+    ensures reply { result ≡ (refining_of script.now table.old work.old).reply }
+    ensures table { table.new ≡ (refining_of script.now table.old work.old).table }
+    ensures work { work.new ≡ (refining_of script.now table.old work.old).work }
     ensures demand1 { Demand1 script.now table.old work.old (answer_of result) table.new
         work.new }
     ensures demand2 { Demand2 script.now table.old work.old (answer_of result) table.new }

@@ -20,10 +20,10 @@ use Rattle.refinement.specs.declared.Side.{Side}
 use Rattle.refinement.specs.Order.{◌∈◌, Rising, Distinct}
 use Rattle.refinement.specs.Match.{Match, track, left, right, Place, place, Spans}
 use Rattle.refinement.specs.Cut.{right_end, end}
-use Rattle.refinement.specs.Refinement.{Matches, Piece, rowsFor, CutOf, ResolvedRefinement}
-use Rattle.refinement.specs.Least.{endsOf, ends}
+use Rattle.refinement.specs.Refinement.{Matches, Piece, rows_for, CutOf, ResolvedRefinement}
+use Rattle.refinement.specs.Least.{ends_of, ends}
 use Rattle.refinement.proofs.Lists.{on-ite, pigeonhole, rising-map, rising-filter}
-use Rattle.refinement.proofs.Lists.{∈-filter, ∈-unfilter, ∈-flatMap}
+use Rattle.refinement.proofs.Lists.{∈-filter, ∈-unfilter, ∈-flat_map}
 use Rattle.refinement.proofs.Tiling.{Overlap, own-piece, rows_apart}
 use Rattle.refinement.proofs.Resolved.{cut_of, row_ends, has-cut, row-starts}
 use Rattle.refinement.proofs.Closure.{∈-ends}
@@ -41,31 +41,31 @@ four-per-row rs ps once cuts =
 
 -- Distinct places that are ends of rows on one side are at most two for each row.
 module _ (s : Side) where
-  sideEnds : List Match → List Place
-  sideEnds rs = flat_map (λ r. endsOf r s) rs
+  side_ends : List Match → List Place
+  side_ends rs = flat_map (λ r. ends_of r s) rs
 
-  length-side : (rs : List Match) → length (sideEnds rs) ≡ 2 * length rs
-  unfolding sideEnds flat_map
+  length-side : (rs : List Match) → length (side_ends rs) ≡ 2 * length rs
+  unfolding side_ends flat_map
   length-side [] = refl
   length-side (r ∷ rs) = omega (arith, length-side rs)
 
   two_ends :
       (rs : List Match) (ps : List Place) → Distinct ps
-      → ((p : Place) → p ∈ ps → (r : Match) × (r ∈ rs) × (p ∈ endsOf r s)) → length ps ≤ 2 * length rs
-  unfolding sideEnds
+      → ((p : Place) → p ∈ ps → (r : Match) × (r ∈ rs) × (p ∈ ends_of r s)) → length ps ≤ 2 * length rs
+  unfolding side_ends
   two_ends rs ps once held =
       omega (
         arith,
         length-side rs,
-        pigeonhole ps (sideEnds rs) once (λ p i. let v = held p i in ∈-flatMap (λ r. endsOf r s) v.1 v.2),
+        pigeonhole ps (side_ends rs) once (λ p i. let v = held p i in ∈-flat_map (λ r. ends_of r s) v.1 v.2),
       )
 
 -- a left or right end on a side is one of the two ends there
-∈-endsOf :
+∈-ends_of :
     (r : Match) (s : Side) (p : Place) → track r s ≡ p.track
-    → (p.position ≡ left r s) ⊎ (p.position ≡ right r s) → p ∈ endsOf r s
-∈-endsOf r s p e (inl f) = here (λ i. record { track = sym e i; position = f i })
-∈-endsOf r s p e (inr f) = there (here (λ i. record { track = sym e i; position = f i }))
+    → (p.position ≡ left r s) ⊎ (p.position ≡ right r s) → p ∈ ends_of r s
+∈-ends_of r s p e (inl f) = here (λ i. record { track = sym e i; position = f i })
+∈-ends_of r s p e (inr f) = there (here (λ i. record { track = sym e i; position = f i }))
 
 -- the row that a cut lies on ends at it on that very side
 pub two-per-side :
@@ -78,46 +78,46 @@ two-per-side {ms} {rs} M R s ps once on = two_ends s rs ps once (λ p i. held p 
   where
     held :
         (p : Place) → (m : Match) × (m ∈ ms) × (track m s ≡ p.track) × Spans m s p.position × CutOf rs p
-        → (r : Match) × (r ∈ rs) × (p ∈ endsOf r s)
+        → (r : Match) × (r ∈ rs) × (p ∈ ends_of r s)
     held p (m, j, e, t, c) =
         let cut = subst (λ (u : ℕ). CutOf rs (record { track = u; position = p.position })) (sym e) c in
         let v = row_ends M R j s p.position t cut in
-        (v.0, v.1, ∈-endsOf v.0 s p (v.2.same-track s ∙ e) v.3)
+        (v.0, v.1, ∈-ends_of v.0 s p (v.2.same_track s ∙ e) v.3)
 
 module _ {ms rs : List Match} {marks : List Place} (M : Matches ms) (R : ResolvedRefinement ms marks rs) {m : Match}
     (i : m ∈ ms) (s : Side) where
   -- where the rows of the match start on the side, and the right end
-  marksOf : List ℕ
-  marksOf = right m s ∷ map (λ r. left r s) (rowsFor m.number rs)
+  marks_of : List ℕ
+  marks_of = right m s ∷ map (λ r. left r s) (rows_for m.number rs)
 
-  length-marksOf : length marksOf ≡ suc (length (rowsFor m.number rs))
-  unfolding marksOf
-  length-marksOf = ap suc (length-map (rowsFor m.number rs) (λ r. left r s))
+  length-marks_of : length marks_of ≡ suc (length (rows_for m.number rs))
+  unfolding marks_of
+  length-marks_of = ap suc (length-map (rows_for m.number rs) (λ r. left r s))
 
-  row_of : {r : Match} → r ∈ rowsFor m.number rs → (r ∈ rs) × Piece m r
-  unfolding rowsFor
+  row_of : {r : Match} → r ∈ rows_for m.number rs → (r ∈ rs) × Piece m r
+  unfolding rows_for
   row_of j =
       let f = ∈-unfilter (λ r. ℕ_discrete r.number m.number) rs j in
       (f.0, own-piece M R.refines i f.0 f.1)
 
   pub match-cuts :
       (xs : List ℕ) → Distinct xs → ((x : ℕ) → x ∈ xs → Spans m s x × CutOf rs (place m s x))
-      → length xs ≤ suc (length (rowsFor m.number rs))
-  unfolding marksOf rowsFor
+      → length xs ≤ suc (length (rows_for m.number rs))
+  unfolding marks_of rows_for
   match-cuts xs once on =
-      omega (arith, length-marksOf, pigeonhole xs marksOf once (λ x j. held x (on x j) (ℕ_discrete x (right m s))))
+      omega (arith, length-marks_of, pigeonhole xs marks_of once (λ x j. held x (on x j) (ℕ_discrete x (right m s))))
     where
-      held : (x : ℕ) → Spans m s x × CutOf rs (place m s x) → Dec (x ≡ right m s) → x ∈ marksOf
+      held : (x : ℕ) → Spans m s x × CutOf rs (place m s x) → Dec (x ≡ right m s) → x ∈ marks_of
       held x t (yes e) = here e
       held x t (no n) =
           let v = row-starts M R i s x (omega (arith, t.0)) t.1 in
           let row = ∈-filter (λ r. ℕ_discrete r.number m.number) v.1 v.2.same_number in
           there (Memᴰ.cast (sym v.3) (Memᴰ.map (λ r. left r s) row))
 
-  starts_apart : Distinct (map (λ r. left r s) (rowsFor m.number rs))
-  unfolding rowsFor
+  starts_apart : Distinct (map (λ r. left r s) (rows_for m.number rs))
+  unfolding rows_for
   starts_apart =
-      rising-map (λ r r'. ¬ Overlap r r' s) ◌≢◌ (λ r. left r s) (rowsFor m.number rs)
+      rising-map (λ r r'. ¬ Overlap r r' s) ◌≢◌ (λ r. left r s) (rows_for m.number rs)
       (λ r r' j j' n e.
       let p = (row_of j).1 in
       let p' = (row_of j').1 in
@@ -129,26 +129,26 @@ module _ {ms rs : List Match} {marks : List Place} (M : Matches ms) (R : Resolve
 
   pub match-cuts-all :
       (xs : List ℕ) → Distinct xs → ((x : ℕ) → (x ∈ xs) ↔ (Spans m s x × CutOf rs (place m s x)))
-      → length xs ≡ suc (length (rowsFor m.number rs))
-  unfolding marksOf
+      → length xs ≡ suc (length (rows_for m.number rs))
+  unfolding marks_of
   match-cuts-all xs once on =
       let few = match-cuts xs once (λ x j. (on x).0 j) in
-      let many = pigeonhole marksOf xs (before, starts_apart) (λ x j. cut x (Memᴰ.cases_cons j)) in
-      omega (arith, length-marksOf)
+      let many = pigeonhole marks_of xs (before, starts_apart) (λ x j. cut x (Memᴰ.cases_cons j)) in
+      omega (arith, length-marks_of)
     where
-      before : (x : ℕ) → x ∈ map (λ r. left r s) (rowsFor m.number rs) → right m s ≢ x
+      before : (x : ℕ) → x ∈ map (λ r. left r s) (rows_for m.number rs) → right m s ≢ x
       before x j e =
-          let f = Memᴰ.of_map (λ r. left r s) (rowsFor m.number rs) j in
+          let f = Memᴰ.of_map (λ r. left r s) (rows_for m.number rs) j in
           let p = (row_of f.1).1 in
-          omega (arith, f.2, p.ends-within s, p.lettered)
+          omega (arith, f.2, p.ends_within s, p.lettered)
 
-      cut : (x : ℕ) → (x ≡ right m s) ⊎ (x ∈ map (λ r. left r s) (rowsFor m.number rs)) → x ∈ xs
+      cut : (x : ℕ) → (x ≡ right m s) ⊎ (x ∈ map (λ r. left r s) (rows_for m.number rs)) → x ∈ xs
       cut x (inl e) = rw e ((on (right m s)).1 (omega arith, has-cut M R (end i (right_end s))))
       cut x (inr j) =
-          let f = Memᴰ.of_map (λ r. left r s) (rowsFor m.number rs) j in
+          let f = Memᴰ.of_map (λ r. left r s) (rows_for m.number rs) j in
           let v = row_of f.1 in
           (on x).1
-          (omega (arith, f.2, v.1.starts-within s, v.1.ends-within s), cut_of v.0 v.1 s x (inl (sym f.2)))
+          (omega (arith, f.2, v.1.starts_within s, v.1.ends_within s), cut_of v.0 v.1 s x (inl (sym f.2)))
 
 -- Summed up over the matches.
 abbrev pub total : (Match → ℕ) → List Match → ℕ
@@ -161,24 +161,24 @@ total_mono f g [] h = omega arith
 total_mono f g (m ∷ ms) h = omega (arith, h m (here refl), total_mono f g ms (λ m' i. h m' (there i)))
 
 rows_head :
-    (n : ℕ) (r : Match) (rs : List Match) → r.number ≡ n → length (rowsFor n (r ∷ rs)) ≡ suc (length (rowsFor n rs))
-unfolding rowsFor
+    (n : ℕ) (r : Match) (rs : List Match) → r.number ≡ n → length (rows_for n (r ∷ rs)) ≡ suc (length (rows_for n rs))
+unfolding rows_for
 rows_head n r rs e =
-    on-ite (λ (l : List Match). length l ≡ suc (length (rowsFor n rs))) (ℕ_discrete r.number n) (λ _. refl)
+    on-ite (λ (l : List Match). length l ≡ suc (length (rows_for n rs))) (ℕ_discrete r.number n) (λ _. refl)
     (λ k. absurd (k e))
 
-rows-skip : (n : ℕ) (r : Match) (rs : List Match) → r.number ≢ n → length (rowsFor n (r ∷ rs)) ≡ length (rowsFor n rs)
-unfolding rowsFor
+rows-skip : (n : ℕ) (r : Match) (rs : List Match) → r.number ≢ n → length (rows_for n (r ∷ rs)) ≡ length (rows_for n rs)
+unfolding rows_for
 rows-skip n r rs e =
-    on-ite (λ (l : List Match). length l ≡ length (rowsFor n rs)) (ℕ_discrete r.number n) (λ k. absurd (e k))
+    on-ite (λ (l : List Match). length l ≡ length (rows_for n rs)) (ℕ_discrete r.number n) (λ k. absurd (e k))
     (λ _. refl)
 
 -- one for each row of a match, and one more
 abbrev slots : List Match → Match → ℕ
-slots rs m = 1 + length (rowsFor m.number rs)
+slots rs m = 1 + length (rows_for m.number rs)
 
 slots-none : (ms : List Match) → total (slots []) ms ≡ length ms
-unfolding rowsFor
+unfolding rows_for
 slots-none [] = refl
 slots-none (m ∷ ms) = omega (arith, slots-none ms)
 

@@ -24,9 +24,9 @@ use lib.Dec.{leb}
 use borrow.Author.Tests.{leb-true, le-leb, lt-leb}
 use Rattle.refinement.specs.declared.Side.{Side}
 use Rattle.refinement.specs.declared.Side.TheVariants.{A, B}
-use Rattle.refinement.specs.Match.{Match, other, left, right, Spans, spanned, carryOver, carry}
-use Rattle.refinement.specs.Match.{between, AnswerKept, carryTo}
-use Rattle.refinement.specs.Refinement.{Piece, Holds, Inside, facingLeft, facingRight}
+use Rattle.refinement.specs.Match.{Match, other, left, right, Spans, spanned, carry_over, carry}
+use Rattle.refinement.specs.Match.{between, AnswerKept, carry_to}
+use Rattle.refinement.specs.Refinement.{Piece, Holds, Inside, facing_left, facing_right}
 use Rattle.refinement.specs.Least.{piece_of}
 
 abbrev MeetsBy : Bool → ℕ → ℕ → ℕ → ℕ → ℕ → Type 0
@@ -36,7 +36,7 @@ MeetsBy true i k d x y = x + y ≡ i + k + d
 abbrev pub Meets : Match → Side → ℕ → ℕ → Type 0
 Meets m s x y = MeetsBy m.reversed (left m s) (left m (other s)) m.length x y
 
-carried-meets : (b : Bool) (i k d h : ℕ) → i ≤ h → h ≤ i + d → MeetsBy b i k d h (carryOver b i k d h)
+carried-meets : (b : Bool) (i k d h : ℕ) → i ≤ h → h ≤ i + d → MeetsBy b i k d h (carry_over b i k d h)
 carried-meets false i k d h l r = omega arith
 carried-meets true i k d h l r = omega arith
 
@@ -109,7 +109,7 @@ module _ (m : Match) where
 
 -- A piece's left end on A stands beside the end on B that faces it, so piece and match have one offset.
 offset :
-    (b : Bool) (m r : Match) → MeetsBy b (left m A) (left m B) m.length (left r A) (facingLeft b r) → (x y : ℕ)
+    (b : Bool) (m r : Match) → MeetsBy b (left m A) (left m B) m.length (left r A) (facing_left b r) → (x y : ℕ)
     → MeetsBy b (left m A) (left m B) m.length x y ↔ MeetsBy b (left r A) (left r B) r.length x y
 offset false m r e x y = omega arith
 offset true m r e x y = omega arith
@@ -137,25 +137,25 @@ faces-holds m x y f =
     (λ h. omega (arith, on.0 (omega arith)), λ h. omega (arith, on.1 (omega arith)))
 
 pub faces-exist : (m : Match) (y : ℕ) → Holds m B y → (x : ℕ) × Faces m x y
-faces-exist m y h = faced m.reversed (left m A) (left m B) m.length y h.from-left h.before-right
+faces-exist m y h = faced m.reversed (left m A) (left m B) m.length y h.from_left h.before_right
 
 module _ {m r : Match} (p : Piece m r) where
   pub piece-spans : (s : Side) (h : ℕ) → Spans r s h → Spans m s h
-  piece-spans s h t = let l = p.starts-within s in let k = p.ends-within s in omega arith
+  piece-spans s h t = let l = p.starts_within s in let k = p.ends_within s in omega arith
 
   same-offset : (x y : ℕ) → Meets m A x y ↔ MeetsBy m.reversed (left r A) (left r B) r.length x y
   same-offset x y =
       let l = carry-meets m A (left r A) (piece-spans A (left r A) (left-spanned r A)) in
       offset m.reversed m r
-      (subst (λ (b : Bool). MeetsBy m.reversed (left m A) (left m B) m.length (left r A) (facingLeft b r))
-      p.same-direction (rw p.left-carries at l))
+      (subst (λ (b : Bool). MeetsBy m.reversed (left m A) (left m B) m.length (left r A) (facing_left b r))
+      p.same_direction (rw p.left_carries at l))
       x y
 
   pub piece-faces : (x y : ℕ) → Faces m x y ↔ Faces r x y
-  piece-faces x y = rw p.same-direction (same-offset x (before m.reversed y))
+  piece-faces x y = rw p.same_direction (same-offset x (before m.reversed y))
 
   meets-A : (x y : ℕ) → Meets m A x y ↔ Meets r A x y
-  meets-A x y = rw p.same-direction (same-offset x y)
+  meets-A x y = rw p.same_direction (same-offset x y)
 
   piece-meets : (s : Side) (x y : ℕ) → Meets m s x y → Meets r s x y
   piece-meets A x y h = (meets-A x y).0 h
@@ -177,8 +177,8 @@ module _ {m r : Match} (p : Piece m r) where
 -- a piece made of the two positions x and y on A and what they carry to, u and v
 made :
     (b : Bool) (i k d x y u v : ℕ) (r : Match) → MeetsBy b i k d x u → MeetsBy b i k d y v → i ≤ x → x < y → y ≤ i + d
-    → r.leftB ≡ min u v → r.length ≡ y - x
-    → (k ≤ left r B) × (right r B ≤ k + d) × (u ≡ facingLeft b r) × (v ≡ facingRight b r)
+    → r.left_b ≡ min u v → r.length ≡ y - x
+    → (k ≤ left r B) × (right r B ≤ k + d) × (u ≡ facing_left b r) × (v ≡ facing_right b r)
 made false i k d x y u v r p q l n h e f = omega arith
 made true i k d x y u v r p q l n h e f = omega arith
 
@@ -192,13 +192,13 @@ piece-of m x y l n h =
     let stop : x + (y - x) ≡ y = omega arith in
     record {
       same_number = refl;
-      same-track = λ s. elim s [ A ↦ refl | B ↦ refl ];
-      same-direction = refl;
+      same_track = λ s. elim s [ A ↦ refl | B ↦ refl ];
+      same_direction = refl;
       lettered = omega arith;
-      starts-within = λ s. elim s [ A ↦ l | B ↦ f.0 ];
-      ends-within = λ s. elim s [ A ↦ omega arith | B ↦ f.1 ];
-      left-carries = f.2;
-      right-carries = ap (carry m A) stop ∙ f.3;
+      starts_within = λ s. elim s [ A ↦ l | B ↦ f.0 ];
+      ends_within = λ s. elim s [ A ↦ omega arith | B ↦ f.1 ];
+      left_carries = f.2;
+      right_carries = ap (carry m A) stop ∙ f.3;
     }
 
 -- The test of the code, and its formula. `spanned i d` is `between i (i + d)`.
@@ -216,7 +216,7 @@ between-from i g h l = rw (le-leb i h l)
 pub spanned-iff : (m : Match) (s : Side) (h : ℕ) → (spanned (left m s) m.length h ≡ true) ↔ Spans m s h
 spanned-iff m s h = (
   λ e. omega (arith, between-bounds (left m s) (right m s) h e),
-  λ t. sym (between-from (left m s) (right m s) h t.from-left) ∙ le-leb h (right m s) t.to-right,
+  λ t. sym (between-from (left m s) (right m s) h t.from_left) ∙ le-leb h (right m s) t.to_right,
 )
 
 pub between-spanned : (i d : ℕ) {g : ℕ} → g ≡ i + d → (h : ℕ) → between i g h ≡ spanned i d h
@@ -237,7 +237,7 @@ answer-kept i g h a = (
   },
 )
 
-pub carry-ends : (b : Bool) (i k d h : ℕ) {l : ℕ} → l ≡ k + d → carryTo b i k l h ≡ carryOver b i k d h
+pub carry-ends : (b : Bool) (i k d h : ℕ) {l : ℕ} → l ≡ k + d → carry_to b i k l h ≡ carry_over b i k d h
 carry-ends false i k d h e = refl
 carry-ends true i k d h e = ap (λ (z : ℕ). z - (h - i)) e
 

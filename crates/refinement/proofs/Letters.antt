@@ -15,7 +15,7 @@ module _ {ms rs : List Match} (M : Matches ms) (T : Refines ms rs) (s : Side) (x
   pub letter-of-row : {r : Match} → r ∈ rs → Holds r s x → (m : Match) × (m ∈ ms) × Holds m s x
   letter-of-row {r} i h =
       let o = T.pieces r i in
-      (o.0, o.1, omega (arith, o.2.starts-within s, o.2.ends-within s, h.from-left, h.before-right))
+      (o.0, o.1, omega (arith, o.2.starts_within s, o.2.ends_within s, h.from_left, h.before_right))
 
   pub letter-on-row : {m : Match} → m ∈ ms → Holds m s x → (r : Match) × (r ∈ rs) × Holds r s x
   letter-on-row i h = let c = cover-letter M T i s x h in (c.0, c.1, c.3)

@@ -1,7 +1,7 @@
 -- Lists as sets and as rising rows: what the theory needs of them, with no word of matches.
 --     on-ite                   what holds of both branches of a test
 --     ∈-filter, ∈-unfilter     the members that pass a test
---     ∈-flatMap, ∈-unflatMap   the members of joined lists
+--     ∈-flat_map, ∈-unflat_map   the members of joined lists
 --     rising-append, rising-filter, rising-map, rising-weaken     lists that rise, made from lists that rise
 --     pigeonhole               a list without repeats is no longer than one that contains it
 --     rising-equal             two rising lists of equal length, one within the other, are equal
@@ -17,7 +17,7 @@ use mathlib.Core.List.Memᴰ.{head as here}
 use mathlib.Core.List.Memᴰ.{tail as there}
 use native.Mathlib.Omega.{arith}
 use lib.ListN.{length}
-use Rattle.refinement.specs.Order.{◌∈◌, Rising, Distinct, insertBy, sortBy}
+use Rattle.refinement.specs.Order.{◌∈◌, Rising, Distinct, insert_by, sort_by}
 
 pub on-ite :
     {P C : Type 0} (Q : C → Type 0) (d : Dec P) {a b : C} → (P → Q a) → (¬ P → Q b) → Q (ite d a b)
@@ -25,16 +25,16 @@ on-ite Q (yes p) f g = f p
 on-ite Q (no n) f g = g n
 
 module _ {X Y : Type 0} (f : X → List Y) where
-  pub ∈-flatMap : {x : X} {xs : List X} {y : Y} → x ∈ xs → y ∈ f x → y ∈ flat_map f xs
+  pub ∈-flat_map : {x : X} {xs : List X} {y : Y} → x ∈ xs → y ∈ f x → y ∈ flat_map f xs
   unfolding flat_map
-  ∈-flatMap {xs} (here {xs = zs} e) j = Memᴰ.append_left (flat_map f zs) (rw e at j)
-  ∈-flatMap (there {x = z} i) j = Memᴰ.append_right (f z) (∈-flatMap i j)
+  ∈-flat_map {xs} (here {xs = zs} e) j = Memᴰ.append_left (flat_map f zs) (rw e at j)
+  ∈-flat_map (there {x = z} i) j = Memᴰ.append_right (f z) (∈-flat_map i j)
 
-  pub ∈-unflatMap : (xs : List X) {y : Y} → y ∈ flat_map f xs → (x : X) × (x ∈ xs) × (y ∈ f x)
+  pub ∈-unflat_map : (xs : List X) {y : Y} → y ∈ flat_map f xs → (x : X) × (x ∈ xs) × (y ∈ f x)
   unfolding flat_map
-  ∈-unflatMap [] j = absurd (Memᴰ.not-nil j)
-  ∈-unflatMap (x ∷ xs) j =
-      ⊎_elim (λ t. (x, here refl, t)) (λ t. let b = ∈-unflatMap xs t in (b.0, there b.1, b.2))
+  ∈-unflat_map [] j = absurd (Memᴰ.not-nil j)
+  ∈-unflat_map (x ∷ xs) j =
+      ⊎_elim (λ t. (x, here refl, t)) (λ t. let b = ∈-unflat_map xs t in (b.0, there b.1, b.2))
       (Memᴰ.append_cases (f x) j)
 
 module _ {X : Type 0} where
@@ -147,8 +147,8 @@ module _ {X : Type 0} where
         (omega (arith, pigeonhole xs ys (rising-distinct xs p) f, pigeonhole ys xs (rising-distinct ys q) g))
 
   module _ (R : X → X → Type 0) (dec : (x y : X) → Dec (R x y)) where
-    ∈-insert : (x : X) (ys : List X) {z : X} → (z ≡ x) ⊎ (z ∈ ys) → z ∈ insertBy dec x ys
-    unfolding insertBy
+    ∈-insert : (x : X) (ys : List X) {z : X} → (z ≡ x) ⊎ (z ∈ ys) → z ∈ insert_by dec x ys
+    unfolding insert_by
     ∈-insert x [] h = ⊎_elim here there h
     ∈-insert x (y ∷ ys) {z} h =
         on-ite (λ l. z ∈ l) (dec x y) (λ _. ⊎_elim here there h)
@@ -156,8 +156,8 @@ module _ {X : Type 0} where
         ⊎_elim (λ e. there (∈-insert x ys (inl e)))
         (λ t. ⊎_elim here (λ j. there (∈-insert x ys (inr j))) (Memᴰ.cases_cons t)) h)
 
-    ∈-uninsert : (x : X) (ys : List X) {z : X} → z ∈ insertBy dec x ys → (z ≡ x) ⊎ (z ∈ ys)
-    unfolding insertBy
+    ∈-uninsert : (x : X) (ys : List X) {z : X} → z ∈ insert_by dec x ys → (z ≡ x) ⊎ (z ∈ ys)
+    unfolding insert_by
     ∈-uninsert x [] h = Memᴰ.cases_cons h
     ∈-uninsert x (y ∷ ys) {z} h =
         on-ite (λ l. z ∈ l → (z ≡ x) ⊎ (z ∈ (y ∷ ys))) (dec x y) (λ _ t. Memᴰ.cases_cons t)
@@ -165,32 +165,32 @@ module _ {X : Type 0} where
         ⊎_elim (λ e. inr (here e)) (λ j. ⊎_elim inl (λ k. inr (there k)) (∈-uninsert x ys j)) (Memᴰ.cases_cons t))
         h
 
-    length-insert : (x : X) (ys : List X) → length (insertBy dec x ys) ≡ suc (length ys)
-    unfolding insertBy
+    length-insert : (x : X) (ys : List X) → length (insert_by dec x ys) ≡ suc (length ys)
+    unfolding insert_by
     length-insert x [] = refl
     length-insert x (y ∷ ys) =
         on-ite (λ (l : List X). length l ≡ suc (suc (length ys))) (dec x y) (λ _. refl)
         (λ _. ap suc (length-insert x ys))
 
-    pub ∈-sort : {z : X} {xs : List X} → z ∈ xs → z ∈ sortBy dec xs
-    unfolding sortBy
-    ∈-sort (here {x = x} {xs = xs} e) = ∈-insert x (sortBy dec xs) (inl e)
-    ∈-sort (there {x = x} {xs = xs} h) = ∈-insert x (sortBy dec xs) (inr (∈-sort h))
+    pub ∈-sort : {z : X} {xs : List X} → z ∈ xs → z ∈ sort_by dec xs
+    unfolding sort_by
+    ∈-sort (here {x = x} {xs = xs} e) = ∈-insert x (sort_by dec xs) (inl e)
+    ∈-sort (there {x = x} {xs = xs} h) = ∈-insert x (sort_by dec xs) (inr (∈-sort h))
 
-    pub ∈-unsort : {z : X} (xs : List X) → z ∈ sortBy dec xs → z ∈ xs
-    unfolding sortBy
+    pub ∈-unsort : {z : X} (xs : List X) → z ∈ sort_by dec xs → z ∈ xs
+    unfolding sort_by
     ∈-unsort [] h = h
-    ∈-unsort (x ∷ xs) h = ⊎_elim here (λ t. there (∈-unsort xs t)) (∈-uninsert x (sortBy dec xs) h)
+    ∈-unsort (x ∷ xs) h = ⊎_elim here (λ t. there (∈-unsort xs t)) (∈-uninsert x (sort_by dec xs) h)
 
-    pub length-sort : (xs : List X) → length (sortBy dec xs) ≡ length xs
-    unfolding sortBy
+    pub length-sort : (xs : List X) → length (sort_by dec xs) ≡ length xs
+    unfolding sort_by
     length-sort [] = refl
-    length-sort (x ∷ xs) = length-insert x (sortBy dec xs) ∙ ap suc (length-sort xs)
+    length-sort (x ∷ xs) = length-insert x (sort_by dec xs) ∙ ap suc (length-sort xs)
 
     module _ (trans : (x y z : X) → R x y → R y z → R x z) where
       rising-insert :
-          (x : X) (ys : List X) → ((y : X) → y ∈ ys → R x y ⊎ R y x) → Rising R ys → Rising R (insertBy dec x ys)
-      unfolding insertBy
+          (x : X) (ys : List X) → ((y : X) → y ∈ ys → R x y ⊎ R y x) → Rising R ys → Rising R (insert_by dec x ys)
+      unfolding insert_by
       rising-insert x [] apart h = (λ z t. absurd (Memᴰ.not-nil t), tt)
       rising-insert x (y ∷ ys) apart h =
           on-ite (Rising R) (dec x y)
@@ -202,7 +202,7 @@ module _ {X : Type 0} where
           ))
 
       -- elements of which each two stand one way or the other
-      pub rising-sort : (xs : List X) → Rising (λ x y. R x y ⊎ R y x) xs → Rising R (sortBy dec xs)
-      unfolding sortBy
+      pub rising-sort : (xs : List X) → Rising (λ x y. R x y ⊎ R y x) xs → Rising R (sort_by dec xs)
+      unfolding sort_by
       rising-sort [] h = tt
-      rising-sort (x ∷ xs) h = rising-insert x (sortBy dec xs) (λ y t. h.0 y (∈-unsort xs t)) (rising-sort xs h.1)
+      rising-sort (x ∷ xs) h = rising-insert x (sort_by dec xs) (λ y t. h.0 y (∈-unsort xs t)) (rising-sort xs h.1)

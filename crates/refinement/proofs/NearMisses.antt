@@ -16,9 +16,9 @@ use native.Mathlib.Decide.{dec_le, dec_lt, ℕ_discrete}
 use lib.ListN.{length}
 use Rattle.refinement.specs.declared.Side.{Side}
 use Rattle.refinement.specs.declared.Side.TheVariants.{A, B}
-use Rattle.refinement.specs.Order.{◌∈◌, Distinct, insertBy, sortBy}
-use Rattle.refinement.specs.Match.{Match, matchAB, track, Place, Spans}
-use Rattle.refinement.specs.Refinement.{Matches, Refines, holds?, rowsOver, CutOf, ResolvedRefinement}
+use Rattle.refinement.specs.Order.{◌∈◌, Distinct, insert_by, sort_by}
+use Rattle.refinement.specs.Match.{Match, match_ab, track, Place, Spans}
+use Rattle.refinement.specs.Refinement.{Matches, Refines, holds?, rows_over, CutOf, ResolvedRefinement}
 use Rattle.refinement.specs.Least
 use Rattle.refinement.proofs.Table.{table-has}
 use Rattle.refinement.proofs.Closure.{added, ∈-spanned, cut-on-match, least-closed, spanned-closed}
@@ -26,10 +26,10 @@ use Rattle.refinement.proofs.Theorem.{cuts-computed, table-cuts, single-resolved
 
 -- a match or a row: number, left-A, left-B, length
 direct : ℕ → ℕ → ℕ → ℕ → Match
-direct n i k d = matchAB n i k d false
+direct n i k d = match_ab n i k d false
 
 reversed : ℕ → ℕ → ℕ → ℕ → Match
-reversed n i k d = matchAB n i k d true
+reversed n i k d = match_ab n i k d true
 
 -- 01's run
 run : List Match
@@ -40,36 +40,36 @@ extra : Place
 extra = record { track = 0; position = 1 }
 
 -- a match that joins a track to itself: the stretch from 0 to 4 beside the one from 10 to 14
-selfJoined : Match
-selfJoined = record { number = 1; trackA = 0; leftA = 0; trackB = 0; leftB = 10; length = 4; reversed = false }
+self_joined : Match
+self_joined = record { number = 1; track_a = 0; left_a = 0; track_b = 0; left_b = 10; length = 4; reversed = false }
 
 -- what the near misses need of the definitions, by one computation
 record Computed : Type 0 where
-  run-least : length (Least.leastTable run []) ≡ 8
-  run-single : length (Least.singleLetters run) ≡ 11
-  run-uncut : decide (Least.in? extra (Least.leastCuts run [])) ≡ false
-  twice : rowsOver 1 A 0 (direct 1 0 0 4 ∷ direct 1 0 0 4 ∷ []) ≡ 2
-  self-least : length (Least.leastTable (selfJoined ∷ []) []) ≡ 1
-  self-cuts : length (Least.leastCuts (selfJoined ∷ []) []) ≡ 4
+  run_least : length (Least.least_table run []) ≡ 8
+  run_single : length (Least.single_letters run) ≡ 11
+  run_uncut : decide (Least.in? extra (Least.least_cuts run [])) ≡ false
+  twice : rows_over 1 A 0 (direct 1 0 0 4 ∷ direct 1 0 0 4 ∷ []) ≡ 2
+  self_least : length (Least.least_table (self_joined ∷ []) []) ≡ 1
+  self_cuts : length (Least.least_cuts (self_joined ∷ []) []) ≡ 4
 
 computed : Computed
-unfolding direct reversed run extra selfJoined flat_map insertBy sortBy Dec.and dec_le dec_lt ℕ_discrete decide holds?
-    rowsOver Least.spans? Least.spansPlace? Least.same? Least.in? Least.ends Least.spanning Least.images
-    Least.spannedMarks Least.addNew Least.grow Least.spanCount Least.leastCuts Least.cutsWithin Least.piece_of
-    Least.piecesBetween Least.pieces_of Least.tableFrom Least.leastTable Least.spannedFrom Least.spannedPlaces
-    Least.singleLetters
+unfolding direct reversed run extra self_joined flat_map insert_by sort_by Dec.and dec_le dec_lt ℕ_discrete decide holds?
+    rows_over Least.spans? Least.spans_place? Least.same? Least.in? Least.ends Least.spanning Least.images
+    Least.spanned_marks Least.add_new Least.grow Least.span_count Least.least_cuts Least.cuts_within Least.piece_of
+    Least.pieces_between Least.pieces_of Least.table_from Least.least_table Least.spanned_from Least.spanned_places
+    Least.single_letters
 computed = record {
-  run-least = refl;
-  run-single = refl;
-  run-uncut = refl;
+  run_least = refl;
+  run_single = refl;
+  run_uncut = refl;
   twice = refl;
-  self-least = refl;
-  self-cuts = refl;
+  self_least = refl;
+  self_cuts = refl;
 }
 
-runMatches : Matches run
+run_matches : Matches run
 unfolding run direct reversed
-runMatches = record {
+run_matches = record {
   lettered = λ m i. lettered m (Memᴰ.cases_cons i);
   numbered = (λ m i. rw (Memᴰ.eq_of_singleton i) (omega arith), ((λ m i. absurd (Memᴰ.not-nil i)), tt));
 }
@@ -80,24 +80,24 @@ runMatches = record {
 
 -- 01, "Where the sheet went wrong": "Chopping every match to single letters: resolved, and far from least."
 record Needless : Type 0 where
-  resolved : ResolvedRefinement run [] (Least.singleLetters run)
-  more : length (Least.leastTable run []) < length (Least.singleLetters run)
-  needless : CutOf (Least.singleLetters run) extra
-  missing : ¬ CutOf (Least.leastTable run []) extra
+  resolved : ResolvedRefinement run [] (Least.single_letters run)
+  more : length (Least.least_table run []) < length (Least.single_letters run)
+  needless : CutOf (Least.single_letters run) extra
+  missing : ¬ CutOf (Least.least_table run []) extra
 
 run-needless : Needless
-unfolding Least.singleLetters run direct extra
+unfolding Least.single_letters run direct extra
 run-needless =
     let on : Spans (direct 1 0 0 6) A 1 = omega arith in
-    let uncut = Least.in? extra (Least.leastCuts run []) in
+    let uncut = Least.in? extra (Least.least_cuts run []) in
     record {
-      resolved = single-resolved run [] runMatches;
-      more = omega (arith, computed.run-least, computed.run-single);
+      resolved = single-resolved run [] run_matches;
+      more = omega (arith, computed.run_least, computed.run_single);
       needless =
-          table-has runMatches (spanned-closed run []) (here refl) A 1 on (added [] (∈-spanned (here refl) A 1 on));
+          table-has run_matches (spanned-closed run []) (here refl) A 1 on (added [] (∈-spanned (here refl) A 1 on));
       missing = λ c.
-          let i = (cuts-computed run [] extra).1 ((table-cuts run [] runMatches extra).0 c) in
-          true≢false (sym ((decide_iff uncut).1 i) ∙ computed.run-uncut);
+          let i = (cuts-computed run [] extra).1 ((table-cuts run [] run_matches extra).0 c) in
+          true≢false (sym ((decide_iff uncut).1 i) ∙ computed.run_uncut);
     }
 
 doubled-refused : ¬ Refines (direct 1 0 0 4 ∷ []) (direct 1 0 0 4 ∷ direct 1 0 0 4 ∷ [])
@@ -110,25 +110,25 @@ doubled-refused T =
 -- A and on B together. So its bound is one of a side, and not of a track.
 two-per-track-refused :
     ¬ ((ps : List Place) → Distinct ps
-    → ((p : Place) → p ∈ ps → (p.track ≡ 0) × CutOf (Least.leastTable (selfJoined ∷ []) []) p)
-    → length ps ≤ 2 * length (Least.leastTable (selfJoined ∷ []) []))
-unfolding selfJoined
+    → ((p : Place) → p ∈ ps → (p.track ≡ 0) × CutOf (Least.least_table (self_joined ∷ []) []) p)
+    → length ps ≤ 2 * length (Least.least_table (self_joined ∷ []) []))
+unfolding self_joined
 two-per-track-refused bound =
-    let ms = selfJoined ∷ [] in
+    let ms = self_joined ∷ [] in
     let few =
-    bound (Least.leastCuts ms []) (least-closed ms []).once (λ p i.
+    bound (Least.least_cuts ms []) (least-closed ms []).once (λ p i.
     let c = (cuts-computed ms [] p).0 i in
     let v = cut-on-match c in
-    (v.3 ∙ one-track v.0 (Memᴰ.eq_of_singleton v.1) v.2, (table-cuts ms [] selfMatches p).1 c))
+    (v.3 ∙ one-track v.0 (Memᴰ.eq_of_singleton v.1) v.2, (table-cuts ms [] self_matches p).1 c))
     in
-    omega (arith, computed.self-least, computed.self-cuts, few)
+    omega (arith, computed.self_least, computed.self_cuts, few)
   where
-    selfMatches : Matches (selfJoined ∷ [])
-    selfMatches = record {
+    self_matches : Matches (self_joined ∷ [])
+    self_matches = record {
       lettered = λ m i. rw (Memᴰ.eq_of_singleton i) (omega arith);
       numbered = (λ m i. absurd (Memᴰ.not-nil i), tt);
     }
 
-    one-track : (m : Match) → m ≡ selfJoined → (s : Side) → track m s ≡ 0
+    one-track : (m : Match) → m ≡ self_joined → (s : Side) → track m s ≡ 0
     one-track m e A = rw e refl
     one-track m e B = rw e refl

@@ -16,7 +16,7 @@ use Rattle.refinement.specs.declared.Side.TheVariants.{A, B}
 use Rattle.refinement.specs.Order.{◌∈◌, Distinct}
 use Rattle.refinement.specs.Match.{Match, other, track, left, right, Place, place, carry}
 use Rattle.refinement.specs.Cut.{End}
-use Rattle.refinement.specs.Refinement.{Matches, facingLeft, facingRight, Piece, Holds, rowsOver}
+use Rattle.refinement.specs.Refinement.{Matches, facing_left, facing_right, Piece, Holds, rows_over}
 use Rattle.refinement.specs.Refinement.{CutOf, Inside, ResolvedRefinement}
 use Rattle.refinement.specs.Paper.{Support, Submatch, Definition1, Definition2}
 use Rattle.refinement.proofs.Lists.{rising-weaken}
@@ -36,8 +36,8 @@ cut-support c = let w = end-where c.2 in (c.0, c.1, w.0, w.1, w.2)
 -- Submatches are pieces.
 facing-on :
     (b : Bool) (r : Match)
-    → (left r B ≤ facingLeft b r) × (facingLeft b r ≤ right r B) × (left r B ≤ facingRight b r)
-    × (facingRight b r ≤ right r B)
+    → (left r B ≤ facing_left b r) × (facing_left b r ≤ right r B) × (left r B ≤ facing_right b r)
+    × (facing_right b r ≤ right r B)
 facing-on false r = omega arith
 facing-on true r = omega arith
 
@@ -48,29 +48,29 @@ submatch-piece {S} {S'} u =
     let k = u.stops B in
     record {
       same_number = u.part;
-      same-track = u.tracks;
-      same-direction = u.restriction;
+      same_track = u.tracks;
+      same_direction = u.restriction;
       lettered = omega (arith, u.segment A);
-      starts-within = u.starts;
-      ends-within = u.stops;
-      left-carries =
-          ⊎_elim (λ e. e) (λ e. ap (carry S A) (sym e) ∙ carry_back S B (facingLeft S'.reversed S') (omega arith))
+      starts_within = u.starts;
+      ends_within = u.stops;
+      left_carries =
+          ⊎_elim (λ e. e) (λ e. ap (carry S A) (sym e) ∙ carry_back S B (facing_left S'.reversed S') (omega arith))
           u.first;
-      right-carries =
-          ⊎_elim (λ e. e) (λ e. ap (carry S A) (sym e) ∙ carry_back S B (facingRight S'.reversed S') (omega arith))
+      right_carries =
+          ⊎_elim (λ e. e) (λ e. ap (carry S A) (sym e) ∙ carry_back S B (facing_right S'.reversed S') (omega arith))
           u.second;
     }
 
 piece-submatch : {m r : Match} → Piece m r → Submatch m r
 piece-submatch p = record {
   part = p.same_number;
-  tracks = p.same-track;
-  restriction = p.same-direction;
-  starts = p.starts-within;
+  tracks = p.same_track;
+  restriction = p.same_direction;
+  starts = p.starts_within;
   segment = λ s. omega (arith, p.lettered);
-  stops = p.ends-within;
-  first = inl p.left-carries;
-  second = inl p.right-carries;
+  stops = p.ends_within;
+  first = inl p.left_carries;
+  second = inl p.right_carries;
 }
 
 -- From 01 to the source.
@@ -84,8 +84,8 @@ module _ {ms rs : List Match} (M : Matches ms) (R : ResolvedRefinement ms [] rs)
       n (ap (λ z. z.number) e, (left r A, held, subst (λ (z : Match). Holds z A (left r A)) e held)))
       (rows_apart M R.refines A)
 
-  refines-paper : Definition1 ms rs
-  refines-paper = record {
+  refines_paper : Definition1 ms rs
+  refines_paper = record {
     set = no-repeat;
     submatches = λ r i. let o = R.refines.pieces r i in (o.0, o.1, piece-submatch o.2);
     tiles = λ m i s x. (
@@ -94,20 +94,20 @@ module _ {ms rs : List Match} (M : Matches ms) (R : ResolvedRefinement ms [] rs)
           (c.0, c.1, c.2.same_number, omega (arith, c.3)),
       λ v.
           let p = own-piece M R.refines i v.1 v.2 in
-          omega (arith, v.3, p.starts-within s, p.ends-within s),
+          omega (arith, v.3, p.starts_within s, p.ends_within s),
     );
   }
 
-  resolved-paper : Definition2 rs
-  resolved-paper = record {
-    only-ends = λ r i s h. (
+  resolved_paper : Definition2 rs
+  resolved_paper = record {
+    only_ends = λ r i s h. (
       λ t.
-          end-or-inside r s h (record { from-left = t.0; to-right = t.1 })
+          end-or-inside r s h (record { from_left = t.0; to_right = t.1 })
           (R.resolved.uncut r i s h (support-cut {p = place r s h} t.2)),
-      λ e. let t = end-spanned r s h e in (t.from-left, t.to-right, (r, i, s, refl, e)),
+      λ e. let t = end-spanned r s h e in (t.from_left, t.to_right, (r, i, s, refl, e)),
     );
-    left-projected = λ r i s. projected r i s (left r s) (inl refl);
-    right-projected = λ r i s. projected r i s (right r s) (inr refl);
+    left_projected = λ r i s. projected r i s (left r s) (inl refl);
+    right_projected = λ r i s. projected r i s (right r s) (inr refl);
   }
     where
       projected :
@@ -120,8 +120,8 @@ module _ {ms rs : List Match} (M : Matches ms) (R : ResolvedRefinement ms [] rs)
 module _ {ms rs : List Match} (M : Matches ms) (D : Definition1 ms rs) (E : Definition2 rs) where
   at-end : {r : Match} → r ∈ rs → (s : Side) (h : ℕ) → Support rs (track r s) h → ¬ Inside r s h
   at-end {r} i s h u t =
-      ⊎_elim (λ e. omega (arith, t.past-left)) (λ e. omega (arith, t.before-right))
-      ((E.only-ends r i s h).0 (omega arith, omega arith, u))
+      ⊎_elim (λ e. omega (arith, t.past_left)) (λ e. omega (arith, t.before_right))
+      ((E.only_ends r i s h).0 (omega arith, omega arith, u))
 
   -- Of two rows that share a letter neither starts or ends inside the other.
   within :
@@ -141,12 +141,12 @@ module _ {ms rs : List Match} (M : Matches ms) (D : Definition1 ms rs) (E : Defi
       in
       let p = submatch-piece o.2 in
       let p' = submatch-piece (subst (λ (z : Match). Submatch z r') same o'.2) in
-      let on : track r' A ≡ track r A = p'.same-track A ∙ sym (p.same-track A) in
+      let on : track r' A ≡ track r A = p'.same_track A ∙ sym (p.same_track A) in
       let w = within j j' on x t t' in
       let w' = within j' j (sym on) x t' t in
       piece-unique p p' (omega (arith, w, w')) (omega (arith, w, w'))
 
-  one-row : {m : Match} → m ∈ ms → (x : ℕ) → Holds m A x → rowsOver m.number A x rs ≡ 1
+  one-row : {m : Match} → m ∈ ms → (x : ℕ) → Holds m A x → rows_over m.number A x rs ≡ 1
   one-row {m} i x t =
       let c = (D.tiles m i A (suc x)).0 (omega arith) in
       exactly-one m.number A x rs c.1 c.2 (omega (arith, c.3))
@@ -166,7 +166,7 @@ module _ {ms rs : List Match} (M : Matches ms) (D : Definition1 ms rs) (E : Defi
 
 pub paper-agrees :
     {ms rs : List Match} → Matches ms → ResolvedRefinement ms [] rs ↔ (Definition1 ms rs × Definition2 rs)
-paper-agrees M = (λ R. (refines-paper M R, resolved-paper M R), λ d. paper-refines M d.0 d.1)
+paper-agrees M = (λ R. (refines_paper M R, resolved_paper M R), λ d. paper-refines M d.0 d.1)
 
 pub paper-holds :
     {ms rs : List Match} {marks : List Place} → Matches ms → ResolvedRefinement ms marks rs

@@ -37,13 +37,13 @@ pub cut_of :
     {rs : List Match} {m r : Match} → r ∈ rs → Piece m r → (s : Side) (h : ℕ) → (h ≡ left r s) ⊎ (h ≡ right r s)
     → CutOf rs (place m s h)
 cut_of {rs} {m} {r} j p s h e =
-    (r, j, subst (λ (t : ℕ). End r (record { track = t; position = h })) (p.same-track s) (end-at r s h e))
+    (r, j, subst (λ (t : ℕ). End r (record { track = t; position = h })) (p.same_track s) (end-at r s h e))
 
 module _ {ms rs : List Match} {marks : List Place} (M : Matches ms) (R : ResolvedRefinement ms marks rs) where
   pub uncut-piece : {m r : Match} → r ∈ rs → Piece m r → (s : Side) (h : ℕ) → CutOf rs (place m s h) → ¬ Inside r s h
   uncut-piece {m} {r} j p s h c =
       R.resolved.uncut r j s h
-      (subst (λ (t : ℕ). CutOf rs (record { track = t; position = h })) (sym (p.same-track s)) c)
+      (subst (λ (t : ℕ). CutOf rs (record { track = t; position = h })) (sym (p.same_track s)) c)
 
   pub row_ends :
       {m : Match} → m ∈ ms → (s : Side) (h : ℕ) → Spans m s h → CutOf rs (place m s h)
@@ -55,10 +55,10 @@ module _ {ms rs : List Match} {marks : List Place} (M : Matches ms) (R : Resolve
   match-end : {m : Match} {p : Place} → m ∈ ms → End m p → CutOf rs p
   match-end {m} i (left_end s) =
       let v = cover M R.refines i s (left m s) (left-spanned m s) in
-      cut_of v.1 v.2 s (left m s) (inl (omega (arith, v.3.from-left, v.2.starts-within s)))
+      cut_of v.1 v.2 s (left m s) (inl (omega (arith, v.3.from_left, v.2.starts_within s)))
   match-end {m} i (right_end s) =
       let v = cover M R.refines i s (right m s) (right-spanned m s) in
-      cut_of v.1 v.2 s (right m s) (inr (omega (arith, v.3.to-right, v.2.ends-within s)))
+      cut_of v.1 v.2 s (right m s) (inr (omega (arith, v.3.to_right, v.2.ends_within s)))
 
   pub has-cut : {p : Place} → Cut ms marks p → CutOf rs p
   has-cut (end i e) = match-end i e

@@ -28,9 +28,9 @@ use Rattle.refinement.specs.declared.Side.TheVariants.{A}
 use Rattle.refinement.specs.Order.{◌∈◌, Rising, Distinct}
 use Rattle.refinement.specs.Match.{Match, other, left, right, Place, place, Spans, carry}
 use Rattle.refinement.specs.Cut.{left_end, right_end, Cut, end, mark, carried}
-use Rattle.refinement.specs.Refinement.{Matches, CutOf, ResolvedRefinement, Before, inTableOrder, Least}
-use Rattle.refinement.specs.Least.{leastCuts, cutsWithin, piecesBetween, pieces_of, tableFrom, leastTable}
-use Rattle.refinement.specs.Least.{addNew, spannedPlaces, singleLetters}
+use Rattle.refinement.specs.Refinement.{Matches, CutOf, ResolvedRefinement, Before, in_table_order, Least}
+use Rattle.refinement.specs.Least.{least_cuts, cuts_within, pieces_between, pieces_of, table_from, least_table}
+use Rattle.refinement.specs.Least.{add_new, spanned_places, single_letters}
 use Rattle.refinement.proofs.Lists.{rising-same}
 use Rattle.refinement.proofs.Resolved.{has-cut}
 use Rattle.refinement.proofs.Table.{∈-cuts, cuts-∈, rising-cuts, made_row, closed-table, table-rises}
@@ -39,38 +39,38 @@ use Rattle.refinement.proofs.Minimal.{least, table-sorted}
 use Rattle.refinement.proofs.Closure.{closed-complete, least-closed, least-sound, spanned-closed}
 use Rattle.refinement.proofs.Closure.{added, ∈-spanned}
 
-pub cuts-computed : (ms : List Match) (marks : List Place) (p : Place) → (p ∈ leastCuts ms marks) ↔ Cut ms marks p
+pub cuts-computed : (ms : List Match) (marks : List Place) (p : Place) → (p ∈ least_cuts ms marks) ↔ Cut ms marks p
 cuts-computed ms marks p = (least-sound, closed-complete (least-closed ms marks))
 
 rows-equal :
     (xs ys : Match → List ℕ) (ms : List Match) → ((m : Match) → m ∈ ms → xs m ≡ ys m)
-    → flat_map (λ m. piecesBetween m (xs m)) ms ≡ flat_map (λ m. piecesBetween m (ys m)) ms
+    → flat_map (λ m. pieces_between m (xs m)) ms ≡ flat_map (λ m. pieces_between m (ys m)) ms
 unfolding flat_map
 rows-equal xs ys [] h = refl
 rows-equal xs ys (m ∷ ms) h =
-    ap₂ ◌++◌ (ap (piecesBetween m) (h m (here refl))) (rows-equal xs ys ms (λ m' i. h m' (there i)))
+    ap₂ ◌++◌ (ap (pieces_between m) (h m (here refl))) (rows-equal xs ys ms (λ m' i. h m' (there i)))
 
 module _ (ms : List Match) (marks : List Place) (M : Matches ms) where
-  pub table_resolved : ResolvedRefinement ms marks (leastTable ms marks)
-  unfolding leastTable
+  pub table_resolved : ResolvedRefinement ms marks (least_table ms marks)
+  unfolding least_table
   table_resolved = closed-table M (least-closed ms marks)
 
-  pub table-in-order : Rising Before (leastTable ms marks)
-  unfolding leastTable
-  table-in-order = table-rises (leastCuts ms marks) (least-closed ms marks).once ms M.numbered
+  pub table-in-order : Rising Before (least_table ms marks)
+  unfolding least_table
+  table-in-order = table-rises (least_cuts ms marks) (least-closed ms marks).once ms M.numbered
 
-  pub table-cuts : (p : Place) → CutOf (leastTable ms marks) p ↔ Cut ms marks p
-  unfolding leastTable
+  pub table-cuts : (p : Place) → CutOf (least_table ms marks) p ↔ Cut ms marks p
+  unfolding least_table
   table-cuts p = (λ c. least-sound (table-cut M (least-closed ms marks) p c), has-cut M table_resolved)
 
-  pub table-least : Least ms marks (leastTable ms marks)
-  unfolding leastTable
+  pub table-least : Least ms marks (least_table ms marks)
+  unfolding least_table
   table-least = least M (least-closed ms marks) (λ p i. least-sound i)
 
   pub table-equal :
       (rs : List Match) → ResolvedRefinement ms marks rs
-      → (length rs ≡ length (leastTable ms marks)) ↔ (inTableOrder rs ≡ leastTable ms marks)
-  unfolding leastTable
+      → (length rs ≡ length (least_table ms marks)) ↔ (in_table_order rs ≡ least_table ms marks)
+  unfolding least_table
   table-equal rs R =
       let C = least-closed ms marks in
       let sorted = table-sorted M C (λ p i. least-sound i) in
@@ -81,57 +81,57 @@ module _ (ms : List Match) (marks : List Place) (M : Matches ms) where
   pub too_many :
       (capacity : ℕ)
       → ((rs : List Match) → ResolvedRefinement ms marks rs → capacity < length rs)
-      ↔ (capacity < length (leastTable ms marks))
-  too_many capacity = (λ h. h (leastTable ms marks) table_resolved, λ l rs R. omega (arith, table-least.fewest rs R))
+      ↔ (capacity < length (least_table ms marks))
+  too_many capacity = (λ h. h (least_table ms marks) table_resolved, λ l rs R. omega (arith, table-least.fewest rs R))
 
   -- Only cuts on the A sides matter.
   pub cuts-of-match :
       (m : Match) (xs : List ℕ) → Rising ◌<◌ xs
-      → ((h : ℕ) → (h ∈ xs) ↔ (Spans m A h × Cut ms marks (place m A h))) → xs ≡ cutsWithin (leastCuts ms marks) m A
+      → ((h : ℕ) → (h ∈ xs) ↔ (Spans m A h × Cut ms marks (place m A h))) → xs ≡ cuts_within (least_cuts ms marks) m A
   cuts-of-match m xs rise same =
-      let ps = leastCuts ms marks in
+      let ps = least_cuts ms marks in
       let C = least-closed ms marks in
-      rising-same ◌<◌ (λ x y p q. omega arith) xs (cutsWithin ps m A) rise (rising-cuts ps m A C.once)
+      rising-same ◌<◌ (λ x y p q. omega arith) xs (cuts_within ps m A) rise (rising-cuts ps m A C.once)
       (λ h i. let t = (same h).0 i in ∈-cuts ps m A h (closed-complete C t.1) t.0)
       (λ h i. let t = cuts-∈ ps m A h i in (same h).1 (t.1, least-sound t.0))
 
   pub table-from-lists :
       (xs : Match → List ℕ) → ((m : Match) → m ∈ ms → Rising ◌<◌ (xs m))
       → ((m : Match) → m ∈ ms → (h : ℕ) → (h ∈ xs m) ↔ (Spans m A h × Cut ms marks (place m A h)))
-      → flat_map (λ m. piecesBetween m (xs m)) ms ≡ leastTable ms marks
-  unfolding leastTable tableFrom pieces_of
+      → flat_map (λ m. pieces_between m (xs m)) ms ≡ least_table ms marks
+  unfolding least_table table_from pieces_of
   table-from-lists xs rise same =
-      rows-equal xs (λ m. cutsWithin (leastCuts ms marks) m A) ms (λ m i. cuts-of-match m (xs m) (rise m i) (same m i))
+      rows-equal xs (λ m. cuts_within (least_cuts ms marks) m A) ms (λ m i. cuts-of-match m (xs m) (rise m i) (same m i))
 
   pub table-from-cuts :
       (ps : List Place) → Distinct ps
       → ((m : Match) → m ∈ ms → (h : ℕ) → Spans m A h → (place m A h ∈ ps) ↔ Cut ms marks (place m A h))
-      → tableFrom ps ms ≡ leastTable ms marks
-  unfolding tableFrom pieces_of
+      → table_from ps ms ≡ least_table ms marks
+  unfolding table_from pieces_of
   table-from-cuts ps once same =
-      table-from-lists (λ m. cutsWithin ps m A) (λ m i. rising-cuts ps m A once) on
+      table-from-lists (λ m. cuts_within ps m A) (λ m i. rising-cuts ps m A once) on
     where
       on :
           (m : Match) → m ∈ ms → (h : ℕ)
-          → (h ∈ cutsWithin ps m A) ↔ (Spans m A h × Cut ms marks (place m A h))
+          → (h ∈ cuts_within ps m A) ↔ (Spans m A h × Cut ms marks (place m A h))
       on m i h =
-          let forth : h ∈ cutsWithin ps m A → Spans m A h × Cut ms marks (place m A h) =
+          let forth : h ∈ cuts_within ps m A → Spans m A h × Cut ms marks (place m A h) =
           λ j. let t = cuts-∈ ps m A h j in (t.1, (same m i h t.1).0 t.0)
           in
           (forth, λ t. ∈-cuts ps m A h ((same m i h t.0).1 t.1) t.0)
 
-  pub single-resolved : ResolvedRefinement ms marks (singleLetters ms)
-  unfolding singleLetters
+  pub single-resolved : ResolvedRefinement ms marks (single_letters ms)
+  unfolding single_letters
   single-resolved = closed-table M (spanned-closed ms marks)
 
-  pub single-length : (r : Match) → r ∈ singleLetters ms → r.length ≡ 1
-  unfolding singleLetters
+  pub single-length : (r : Match) → r ∈ single_letters ms → r.length ≡ 1
+  unfolding single_letters
   single-length r i =
       let d = made_row M (spanned-closed ms marks) r i in
       let p = d.piece in
-      let cut : 1 < r.length → place d.owner A (left r A + 1) ∈ addNew (spannedPlaces ms) [] =
+      let cut : 1 < r.length → place d.owner A (left r A + 1) ∈ add_new (spanned_places ms) [] =
       λ l.
-      added [] (∈-spanned d.listed A (left r A + 1) (omega (arith, p.starts-within A, p.ends-within A)))
+      added [] (∈-spanned d.listed A (left r A + 1) (omega (arith, p.starts_within A, p.ends_within A)))
       in
       let short : ¬ (1 < r.length) = λ l. d.gap (left r A + 1) (cut l) (omega arith) in
       omega (arith, p.lettered)
@@ -140,19 +140,19 @@ module _ (ms : List Match) (marks : List Place) (M : Matches ms) where
 abbrev pub bare : Match → Match
 bare m = record {
   number = 0;
-  trackA = m.trackA;
-  leftA = m.leftA;
-  trackB = m.trackB;
-  leftB = m.leftB;
+  track_a = m.track_a;
+  left_a = m.left_a;
+  track_b = m.track_b;
+  left_b = m.left_b;
   length = m.length;
   reversed = m.reversed;
 }
 
 bare-spans : {m : Match} {s : Side} {h : ℕ} → Spans m s h → Spans (bare m) s h
-bare-spans t = record { from-left = t.from-left; to-right = t.to-right }
+bare-spans t = record { from_left = t.from_left; to_right = t.to_right }
 
 spans-bare : {m : Match} {s : Side} {h : ℕ} → Spans (bare m) s h → Spans m s h
-spans-bare t = record { from-left = t.from-left; to-right = t.to-right }
+spans-bare t = record { from_left = t.from_left; to_right = t.to_right }
 
 -- ms' has, under any numbers and in any order, the matches of ms
 module _ {ms ms' : List Match} {marks marks' : List Place}

@@ -21,7 +21,7 @@ use Rattle.refinement.specs.declared.Side.{Side}
 use Rattle.refinement.specs.declared.Side.TheVariants.{A, B}
 use Rattle.refinement.specs.Order.{◌∈◌, Rising}
 use Rattle.refinement.specs.Match.{Match, right, Spans}
-use Rattle.refinement.specs.Refinement.{Matches, Piece, Holds, holds?, rowsOver, Refines}
+use Rattle.refinement.specs.Refinement.{Matches, Piece, Holds, holds?, rows_over, Refines}
 use Rattle.refinement.proofs.Lists.{on-ite, ∈-filter, ∈-unfilter, rising-weaken, rising-filter}
 use Rattle.refinement.proofs.Geometry.{faces-exist, faces-holds, piece-faces}
 
@@ -49,19 +49,19 @@ at_most_one (x ∷ []) all h = omega arith
 at_most_one (x ∷ y ∷ xs) all h = absurd (h.0 y (here refl) (all x (here refl)) (all y (there (here refl))))
 
 module _ (n : ℕ) (s : Side) (x : ℕ) where
-  counted : (rs : List Match) {r : Match} → r ∈ rs → r.number ≡ n → Holds r s x → 0 < rowsOver n s x rs
-  unfolding rowsOver
+  counted : (rs : List Match) {r : Match} → r ∈ rs → r.number ≡ n → Holds r s x → 0 < rows_over n s x rs
+  unfolding rows_over
   counted rs m e h = one_of (filter (holds? n s x) rs) (∈-filter (holds? n s x) m (e, h))
 
   counted-head :
-      (r : Match) (rs : List Match) → r.number ≡ n → Holds r s x → rowsOver n s x (r ∷ rs) ≡ suc (rowsOver n s x rs)
-  unfolding rowsOver
+      (r : Match) (rs : List Match) → r.number ≡ n → Holds r s x → rows_over n s x (r ∷ rs) ≡ suc (rows_over n s x rs)
+  unfolding rows_over
   counted-head r rs e h =
       on-ite (λ (l : List Match). length l ≡ suc (length (filter (holds? n s x) rs))) (holds? n s x r) (λ _. refl)
       (λ t. absurd (t (e, h)))
 
-  counted-cons : (r : Match) (rs : List Match) → rowsOver n s x rs ≤ rowsOver n s x (r ∷ rs)
-  unfolding rowsOver
+  counted-cons : (r : Match) (rs : List Match) → rows_over n s x rs ≤ rows_over n s x (r ∷ rs)
+  unfolding rows_over
   counted-cons r rs =
       on-ite (λ (l : List Match). length (filter (holds? n s x) rs) ≤ length l) (holds? n s x r) (λ _. omega arith)
       (λ _. omega arith)
@@ -72,8 +72,8 @@ Overlap r r' s = (r.number ≡ r'.number) × ((x : ℕ) × Holds r s x × Holds 
 
 pub exactly-one :
     (n : ℕ) (s : Side) (x : ℕ) (rs : List Match) {r : Match} → r ∈ rs → r.number ≡ n → Holds r s x
-    → Rising (λ r r'. ¬ Overlap r r' s) rs → rowsOver n s x rs ≡ 1
-unfolding rowsOver
+    → Rising (λ r r'. ¬ Overlap r r' s) rs → rows_over n s x rs ≡ 1
+unfolding rows_over
 exactly-one n s x rs i e h apart =
     let test = holds? n s x in
     let alone =
@@ -86,7 +86,7 @@ exactly-one n s x rs i e h apart =
     omega (arith, counted n s x rs i e h)
 
 apart-A :
-    (rs : List Match) → ((r : Match) (x : ℕ) → r ∈ rs → Holds r A x → rowsOver r.number A x rs ≤ 1)
+    (rs : List Match) → ((r : Match) (x : ℕ) → r ∈ rs → Holds r A x → rows_over r.number A x rs ≤ 1)
     → Rising (λ r r'. ¬ Overlap r r' A) rs
 apart-A [] h = tt
 apart-A (r ∷ rs) h =
@@ -106,7 +106,7 @@ module _ {ms rs : List Match} (M : Matches ms) (T : Refines ms rs) where
       subst (λ (z : Match). Piece z r) (number-unique ms M.numbered o.1 i (sym o.2.same_number ∙ e)) o.2
 
   letter-A : {m : Match} → m ∈ ms → (x : ℕ) → Holds m A x → (r : Match) × (r ∈ rs) × Piece m r × Holds r A x
-  unfolding rowsOver
+  unfolding rows_over
   letter-A {m} i x h =
       let f = first_of (filter (holds? m.number A x) rs) (omega (arith, T.once m i x h)) in
       let g = ∈-unfilter (holds? m.number A x) rs f.1 in
@@ -133,7 +133,7 @@ module _ {ms rs : List Match} (M : Matches ms) (T : Refines ms rs) where
   apart-on-A =
       apart-A rs (λ r x j h.
       let o = T.pieces r j in
-      let held : Holds o.0 A x = omega (arith, o.2.starts-within A, o.2.ends-within A) in
+      let held : Holds o.0 A x = omega (arith, o.2.starts_within A, o.2.ends_within A) in
       rw o.2.same_number (omega (arith, T.once o.0 o.1 x held)))
 
   overlap-A : (r r' : Match) → r ∈ rs → r' ∈ rs → Overlap r r' B → Overlap r r' A
@@ -151,7 +151,7 @@ module _ {ms rs : List Match} (M : Matches ms) (T : Refines ms rs) where
       rising-weaken (λ r r'. ¬ Overlap r r' A) (λ r r'. ¬ Overlap r r' B) rs
       (λ r r' j j' n o. n (overlap-A r r' j j' o)) apart-on-A
 
-  pub rows-tile : {m : Match} → m ∈ ms → (s : Side) (x : ℕ) → Holds m s x → rowsOver m.number s x rs ≡ 1
+  pub rows-tile : {m : Match} → m ∈ ms → (s : Side) (x : ℕ) → Holds m s x → rows_over m.number s x rs ≡ 1
   rows-tile {m} i s x h =
       let c = cover-letter i s x h in
       exactly-one m.number s x rs c.1 c.2.same_number c.3 (rows_apart s)

@@ -8,7 +8,7 @@
 -- and for #103 the same of a match whose right ends are worked out beforehand:
 --     between i g h    the test, given the two ends on the side
 --     AnswerKept       that its answer is the same for each match and position
---     carryTo          where it carries h to, given the two ends there
+--     carry_to          where it carries h to, given the two ends there
 -- 01, "Positions and carrying". Differs: a match names its two tracks, where 01 has A (track 0) and B (track 1).
 -- Assumes nothing.
 use Rattle.std.specs.Prelude.{ℕ, ◌+◌, ◌-◌, ◌≤◌, ◌≡◌, ◌↔◌, Bool, true, false, ◌&&◌, leb}
@@ -18,31 +18,31 @@ use Rattle.refinement.specs.declared.Side.TheVariants.{A, B}
 -- SCOPE, "Commands" and "Numbering": a match has a number, two left ends, a length and a direction
 pub record Match : Type 0 where
   pub number : ℕ
-  pub trackA : ℕ
-  pub leftA : ℕ
-  pub trackB : ℕ
-  pub leftB : ℕ
+  pub track_a : ℕ
+  pub left_a : ℕ
+  pub track_b : ℕ
+  pub left_b : ℕ
   pub length : ℕ
   pub reversed : Bool
 
 -- a match of the first edition, between the sequences A and B
-abbrev pub matchAB : ℕ → ℕ → ℕ → ℕ → Bool → Match
-matchAB n i k d b = record { number = n; trackA = 0; leftA = i; trackB = 1; leftB = k; length = d; reversed = b }
+abbrev pub match_ab : ℕ → ℕ → ℕ → ℕ → Bool → Match
+match_ab n i k d b = record { number = n; track_a = 0; left_a = i; track_b = 1; left_b = k; length = d; reversed = b }
 
 abbrev pub other : Side → Side
 other A = B
 other B = A
 
 -- of two numbers, one for A and one for B, the one for the side
-abbrev pub onSide : Side → ℕ → ℕ → ℕ
-onSide A a b = a
-onSide B a b = b
+abbrev pub on_side : Side → ℕ → ℕ → ℕ
+on_side A a b = a
+on_side B a b = b
 
 abbrev pub track : Match → Side → ℕ
-track m s = onSide s m.trackA m.trackB
+track m s = on_side s m.track_a m.track_b
 
 abbrev pub left : Match → Side → ℕ
-left m s = onSide s m.leftA m.leftB
+left m s = on_side s m.left_a m.left_b
 
 abbrev pub right : Match → Side → ℕ
 right m s = left m s + m.length
@@ -57,21 +57,21 @@ place m s h = record { track = track m s; position = h }
 
 -- SCOPE, "Spans": from the left end to the right end, both included
 pub record Spans (m : Match) (s : Side) (h : ℕ) : Type 0 where
-  pub from-left : left m s ≤ h
-  pub to-right : h ≤ right m s
+  pub from_left : left m s ≤ h
+  pub to_right : h ≤ right m s
 
 -- the same as a test of a match with the left end i and the length d (law spanned-iff)
 abbrev pub spanned : ℕ → ℕ → ℕ → Bool
 spanned i d h = leb i h && leb h (i + d)
 
 -- SCOPE, "Carrying": h is h − i letters behind i, and goes as far behind k; reversed, as far before k + d
-abbrev pub carryOver : Bool → ℕ → ℕ → ℕ → ℕ → ℕ
-carryOver false i k d h = k + (h - i)
-carryOver true i k d h = k + d - (h - i)
+abbrev pub carry_over : Bool → ℕ → ℕ → ℕ → ℕ → ℕ
+carry_over false i k d h = k + (h - i)
+carry_over true i k d h = k + d - (h - i)
 
 -- SCOPE, "Carrying": the way back is the same formula with the sides exchanged (law carry-back)
 abbrev pub carry : Match → Side → ℕ → ℕ
-carry m s h = carryOver m.reversed (left m s) (left m (other s)) m.length h
+carry m s h = carry_over m.reversed (left m s) (left m (other s)) m.length h
 
 -- #103: the test gets the match's two ends on that side, i and g, and adds nothing
 abbrev pub between : ℕ → ℕ → ℕ → Bool
@@ -85,6 +85,6 @@ pub record AnswerKept (i g h : ℕ) (answer : Bool) : Type 0 where
   pub spans : (m : Match) (s : Side) → i ≡ left m s → g ≡ right m s → (answer ≡ true) ↔ Spans m s h
 
 -- #103: as far behind k as h is behind i; reversed, as far before l, the right end there (law carry-ends)
-abbrev pub carryTo : Bool → ℕ → ℕ → ℕ → ℕ → ℕ
-carryTo false i k l h = k + (h - i)
-carryTo true i k l h = l - (h - i)
+abbrev pub carry_to : Bool → ℕ → ℕ → ℕ → ℕ → ℕ
+carry_to false i k l h = k + (h - i)
+carry_to true i k l h = l - (h - i)

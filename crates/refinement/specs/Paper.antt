@@ -13,7 +13,7 @@ use Rattle.refinement.specs.declared.Side.{Side}
 use Rattle.refinement.specs.declared.Side.TheVariants.{A, B}
 use Rattle.refinement.specs.Order.{◌∈◌, Distinct}
 use Rattle.refinement.specs.Match.{Match, other, track, left, right, carry}
-use Rattle.refinement.specs.Refinement.{facingLeft, facingRight}
+use Rattle.refinement.specs.Refinement.{facing_left, facing_right}
 
 -- SCOPE, "Definitions 1 and 2": the left and right ends on the track of all matches of 𝒮
 abbrev pub Support : List Match → ℕ → ℕ → Type 0
@@ -29,10 +29,10 @@ pub record Submatch (S S' : Match) : Type 0 where
   pub segment : (s : Side) → left S' s < right S' s
   pub stops : (s : Side) → right S' s ≤ right S s
   pub first :
-      (carry S A (left S' A) ≡ facingLeft S'.reversed S') ⊎ (carry S B (facingLeft S'.reversed S') ≡ left S' A)
+      (carry S A (left S' A) ≡ facing_left S'.reversed S') ⊎ (carry S B (facing_left S'.reversed S') ≡ left S' A)
   pub second :
-      (carry S A (right S' A) ≡ facingRight S'.reversed S')
-      ⊎ (carry S B (facingRight S'.reversed S') ≡ right S' A)
+      (carry S A (right S' A) ≡ facing_right S'.reversed S')
+      ⊎ (carry S B (facing_right S'.reversed S') ≡ right S' A)
 
 -- the half-open interval (i, j] of S on a side
 abbrev pub Within : Match → Side → ℕ → Type 0
@@ -50,8 +50,8 @@ pub record Definition1 (𝒮 𝒮' : List Match) : Type 0 where
 -- SCOPE, "Definition 2": from end to end of a match the support has its two ends alone, and what these project to is in
 -- the support of the other side
 pub record Definition2 (𝒮 : List Match) : Type 0 where
-  pub only-ends :
+  pub only_ends :
       (S : Match) → S ∈ 𝒮 → (s : Side) (h : ℕ)
       → ((left S s ≤ h) × (h ≤ right S s) × Support 𝒮 (track S s) h) ↔ ((h ≡ left S s) ⊎ (h ≡ right S s))
-  pub left-projected : (S : Match) → S ∈ 𝒮 → (s : Side) → Support 𝒮 (track S (other s)) (carry S s (left S s))
-  pub right-projected : (S : Match) → S ∈ 𝒮 → (s : Side) → Support 𝒮 (track S (other s)) (carry S s (right S s))
+  pub left_projected : (S : Match) → S ∈ 𝒮 → (s : Side) → Support 𝒮 (track S (other s)) (carry S s (left S s))
+  pub right_projected : (S : Match) → S ∈ 𝒮 → (s : Side) → Support 𝒮 (track S (other s)) (carry S s (right S s))

@@ -7,8 +7,8 @@ use mathlib.Core.Path.{◌≡◌}
 use mathlib.Core.List.{List}
 use native.Mathlib.Omega.{arith}
 use lib.ListN.{length}
-use Rattle.refining.specs.Refining.{capacityOf, workNeeded}
+use Rattle.refining.specs.Refining.{capacity_of, work_needed}
 
 pub buffers-sized : (table : List ℕ) (rows : ℕ) → 5 * rows ≤ length table → length table < 5 * rows + 5
-    → (capacityOf table ≡ rows) × (workNeeded table ≡ 4 * rows)
+    → (capacity_of table ≡ rows) × (work_needed table ≡ 4 * rows)
 buffers-sized table rows least most = (omega arith, omega arith)

@@ -16,10 +16,10 @@ use mathlib.Core.List.Memᴰ.{head as here}
 use mathlib.Core.List.Memᴰ.{tail as there}
 use native.Mathlib.Omega.{arith}
 use lib.ListN.{length}
-use Rattle.script.specs.Reading.{Reading, admitted, refused, readScript}
+use Rattle.script.specs.Reading.{Reading, admitted, refused, read_script}
 use Rattle.script.specs.Answers.{Answer, value, contents}
 use Rattle.script.specs.Outcomes.{Outcome}
-use Rattle.script.specs.Finding.{foundIn, findingOf}
+use Rattle.script.specs.Finding.{found_in, finding_of}
 use Rattle.script.specs.declared.command.Match.{Match as ScriptMatch}
 use Rattle.script.specs.declared.command.Mark.{Mark}
 use Rattle.script.specs.declared.refusal.Refusal.{Refusal}
@@ -29,13 +29,13 @@ use Rattle.script.proofs.Outcome.{reach-within, reach-range, read-outcome, outco
 use Rattle.refinement.specs.declared.Side.{Side}
 use Rattle.refinement.specs.declared.Side.TheVariants.{A, B}
 use Rattle.refinement.specs.Order.{◌∈◌}
-use Rattle.refinement.specs.Match.{Match, other, onSide, left, right, Spans, spanned, carryOver, carry}
+use Rattle.refinement.specs.Match.{Match, other, on_side, left, right, Spans, spanned, carry_over, carry}
 use Rattle.refinement.specs.Least.{spans?}
 use Rattle.refinement.proofs.Geometry.{carry-spans, carry_back, spanned-iff}
 use Rattle.refinement.proofs.Tiling.{number-unique}
 use Rattle.refining.specs.Refining.{with_number, numbered, Given}
 use Rattle.refining.specs.Demands.{Admitted, reads}
-use Rattle.refining.specs.Carrying.{carryingOver, carryingOf, carriedAnswer, CarryingOutcome, CarryingDemand}
+use Rattle.refining.specs.Carrying.{carrying_over, carrying_of, carried_answer, CarryingOutcome, CarryingDemand}
 use Rattle.refining.specs.declared.answers.Carried.{Carried}
 use Rattle.refining.specs.declared.answers.Carried.TheVariants.{To, Refused}
 use Rattle.refining.proofs.Numbered.{admitted_of, admitted-matches, numbered-range}
@@ -54,7 +54,7 @@ found-later (none (inl e)) = absurd (omega arith)
 found-later (none (inr h)) = none (inr (omega arith))
 
 found : (n : ℕ) (ms : List ScriptMatch) (number k : ℕ) → number ≡ n + k
-    → Found (numbered (suc n) ms) number k (foundIn ms k)
+    → Found (numbered (suc n) ms) number k (found_in ms k)
 found n [] number zero e = none (inl refl)
 found n [] number (suc k) e = none (inr (omega arith))
 found n (m ∷ ms) number zero e = none (inl refl)
@@ -64,7 +64,7 @@ found n (m ∷ ms) number (suc zero) e =
 found n (m ∷ ms) number (suc (suc k)) e = found-later (found (suc n) ms number (suc k) (omega arith))
 
 finding : {script : List ℕ} {g : Given} → Admitted script g → (number : ℕ)
-    → Found g.matches number number (findingOf (readScript script) number)
+    → Found g.matches number number (finding_of (read_script script) number)
 finding (reads {ms = xs} o) number = rw (outcome-admitted o) (found 0 xs number number (omega arith))
 
 listed-number : {script : List ℕ} {g : Given} {m : Match} → Admitted script g → m ∈ g.matches
@@ -75,21 +75,21 @@ listed-number (reads {ms = xs} o) i (inr h) = omega (arith, numbered-range 1 xs 
 -- the match of the theory's list that has the number is the one that is found
 pub listed_found : {script : List ℕ} (number : ℕ) {g : Given} {m : Match} → Admitted script g → m ∈ g.matches
     → m.number ≡ number
-    → (x : ScriptMatch) × (findingOf (readScript script) number ≡ Finding.Found x) × (with_number number x ≡ m)
+    → (x : ScriptMatch) × (finding_of (read_script script) number ≡ Finding.Found x) × (with_number number x ≡ m)
 listed_found {script} number {g} {m} a i e = go refl (finding a number)
   where
-    go : {f : Finding} → findingOf (readScript script) number ≡ f → Found g.matches number number f
-        → (x : ScriptMatch) × (findingOf (readScript script) number ≡ Finding.Found x) × (with_number number x ≡ m)
+    go : {f : Finding} → finding_of (read_script script) number ≡ f → Found g.matches number number f
+        → (x : ScriptMatch) × (finding_of (read_script script) number ≡ Finding.Found x) × (with_number number x ≡ m)
     go e' (some {x} j) = (x, e', number-unique g.matches (admitted-matches a).numbered j i (sym e))
     go e' (none h) = absurd (listed-number a i (subst (λ (z : ℕ). (z ≡ 0) ⊎ (length g.matches < z)) (sym e) h))
 
 pub unlisted-none : {script : List ℕ} (number : ℕ) {g : Given} → Admitted script g
     → (number ≡ 0) ⊎ (length g.matches < number)
-    → findingOf (readScript script) number ≡ Finding.Refused NoSuchMatch
+    → finding_of (read_script script) number ≡ Finding.Refused NoSuchMatch
 unlisted-none {script} number {g} a h = go refl (finding a number)
   where
-    go : {f : Finding} → findingOf (readScript script) number ≡ f → Found g.matches number number f
-        → findingOf (readScript script) number ≡ Finding.Refused NoSuchMatch
+    go : {f : Finding} → finding_of (read_script script) number ≡ f → Found g.matches number number f
+        → finding_of (read_script script) number ≡ Finding.Refused NoSuchMatch
     go e (some j) = absurd (listed-number a j h)
     go e (none h') = e
 
@@ -100,103 +100,103 @@ untrue true n = absurd (n refl)
 untrue false n = refl
 
 over-spanned : (m : Match) (side : Side) (position : ℕ) → Spans m side position
-    → carryingOver m side position ≡ To (carry m side position)
+    → carrying_over m side position ≡ To (carry m side position)
 over-spanned m side position t = rw ((spanned-iff m side position).1 t)
 
 over-off : (m : Match) (side : Side) (position : ℕ) → ¬ Spans m side position
-    → carryingOver m side position ≡ Refused OffTheMatch
+    → carrying_over m side position ≡ Refused OffTheMatch
 over-off m side position n =
     rw (untrue (spanned (left m side) m.length position) (λ e. n ((spanned-iff m side position).0 e)))
 
 module _ (script : List ℕ) (number : ℕ) (side : Side) (position : ℕ) where
-  pub carrying-refused : {r : Refusal} → findingOf (readScript script) number ≡ Finding.Refused r
-      → carryingOf script number side position ≡ Refused r
-  unfolding carryingOf
+  pub carrying-refused : {r : Refusal} → finding_of (read_script script) number ≡ Finding.Refused r
+      → carrying_of script number side position ≡ Refused r
+  unfolding carrying_of
   carrying-refused e = rw e
 
-  carrying-found : {x : ScriptMatch} → findingOf (readScript script) number ≡ Finding.Found x
-      → carryingOf script number side position ≡ carryingOver (with_number number x) side position
-  unfolding carryingOf
+  carrying-found : {x : ScriptMatch} → finding_of (read_script script) number ≡ Finding.Found x
+      → carrying_of script number side position ≡ carrying_over (with_number number x) side position
+  unfolding carrying_of
   carrying-found e = rw e
 
-  module _ {x : ScriptMatch} {from : ℕ} (e : findingOf (readScript script) number ≡ Finding.Found x)
-      (from_is : from ≡ onSide side x.left_a x.left_b) where
+  module _ {x : ScriptMatch} {from : ℕ} (e : finding_of (read_script script) number ≡ Finding.Found x)
+      (from_is : from ≡ on_side side x.left_a x.left_b) where
     pub carrying-off : spanned from x.length position ≡ false
-        → carryingOf script number side position ≡ Refused OffTheMatch
+        → carrying_of script number side position ≡ Refused OffTheMatch
     carrying-off test = carrying-found e ∙ rw (← from_is, test)
 
-    pub carrying-to : {to : ℕ} → to ≡ onSide (other side) x.left_a x.left_b
+    pub carrying-to : {to : ℕ} → to ≡ on_side (other side) x.left_a x.left_b
         → spanned from x.length position ≡ true
-        → carryingOf script number side position ≡ To (carryOver x.reversed from to x.length position)
+        → carrying_of script number side position ≡ To (carry_over x.reversed from to x.length position)
     carrying-to to_is test = carrying-found e ∙ rw (← from_is, ← to_is, test)
 
   -- the match of the theory's list that has the number is the one that is carried over
   carrying-listed : {g : Given} {m : Match} → Admitted script g → m ∈ g.matches → m.number ≡ number
-      → carryingOf script number side position ≡ carryingOver m side position
+      → carrying_of script number side position ≡ carrying_over m side position
   carrying-listed a i e =
       let found = listed_found number a i e in
-      carrying-found found.1 ∙ ap (λ (z : Match). carryingOver z side position) found.2
+      carrying-found found.1 ∙ ap (λ (z : Match). carrying_over z side position) found.2
 
   carrying-unlisted : {g : Given} → Admitted script g → (number ≡ 0) ⊎ (length g.matches < number)
-      → carryingOf script number side position ≡ Refused NoSuchMatch
+      → carrying_of script number side position ≡ Refused NoSuchMatch
   carrying-unlisted a h = carrying-refused (unlisted-none number a h)
 
   -- any outcome whose condition is met is what `carryingOf` replies
   outcome-carrying : {answer : Answer ℕ} → CarryingOutcome script number side position answer
-      → answer ≡ carriedAnswer (carryingOf script number side position)
-  outcome-carrying (CarryingOutcome.script-refused o) =
-      let f = outcome-refused o in rw (carrying-refused (ap (λ x. findingOf x number) f.read)) (cc)
-  outcome-carrying (CarryingOutcome.no-such-match a h) = rw (carrying-unlisted a h)
-  outcome-carrying (CarryingOutcome.off-the-match {m = m} a i e n) =
+      → answer ≡ carried_answer (carrying_of script number side position)
+  outcome-carrying (CarryingOutcome.script_refused o) =
+      let f = outcome-refused o in rw (carrying-refused (ap (λ x. finding_of x number) f.read)) (cc)
+  outcome-carrying (CarryingOutcome.no_such_match a h) = rw (carrying-unlisted a h)
+  outcome-carrying (CarryingOutcome.off_the_match {m = m} a i e n) =
       rw (carrying-listed a i e, over-off m side position n)
   outcome-carrying (CarryingOutcome.carried {m = m} a i e t) =
       rw (carrying-listed a i e, over-spanned m side position t)
 
-  carrying-stated : CarryingOutcome script number side position (carriedAnswer (carryingOf script number side position))
-  carrying-stated = by-reading (readScript script) refl
+  carrying-stated : CarryingOutcome script number side position (carried_answer (carrying_of script number side position))
+  carrying-stated = by-reading (read_script script) refl
     where
       by_span : {g : Given} {m : Match} → Admitted script g → m ∈ g.matches → m.number ≡ number
           → Dec (Spans m side position)
-          → CarryingOutcome script number side position (carriedAnswer (carryingOf script number side position))
+          → CarryingOutcome script number side position (carried_answer (carrying_of script number side position))
       by_span {m = m} a i e (yes t) =
           rw (carrying-listed a i e, over-spanned m side position t) (CarryingOutcome.carried a i e t)
       by_span {m = m} a i e (no n) =
-          rw (carrying-listed a i e, over-off m side position n) (CarryingOutcome.off-the-match a i e n)
+          rw (carrying-listed a i e, over-off m side position n) (CarryingOutcome.off_the_match a i e n)
 
       by-found : {g : Given} {f : Finding} → Admitted script g → Found g.matches number number f
-          → CarryingOutcome script number side position (carriedAnswer (carryingOf script number side position))
+          → CarryingOutcome script number side position (carried_answer (carrying_of script number side position))
       by-found a (some {x} i) = by_span a i refl (spans? (with_number number x) side position)
-      by-found a (none h) = rw (carrying-unlisted a h) (CarryingOutcome.no-such-match a h)
+      by-found a (none h) = rw (carrying-unlisted a h) (CarryingOutcome.no_such_match a h)
 
-      by-reading : (x : Reading) → readScript script ≡ x
-          → CarryingOutcome script number side position (carriedAnswer (carryingOf script number side position))
+      by-reading : (x : Reading) → read_script script ≡ x
+          → CarryingOutcome script number side position (carried_answer (carrying_of script number side position))
       by-reading (refused r) e =
-          rw (carrying-refused (ap (λ x. findingOf x number) e))
-          (CarryingOutcome.script-refused (read-outcome e))
+          rw (carrying-refused (ap (λ x. finding_of x number) e))
+          (CarryingOutcome.script_refused (read-outcome e))
       by-reading (admitted ls ms ks) e = let a = admitted_of e in by-found a (finding a number)
 
   -- ---- the law
 
-  pub carrying-demand : {reply : Carried} → reply ≡ carryingOf script number side position
-      → CarryingDemand script number side position (carriedAnswer reply)
+  pub carrying-demand : {reply : Carried} → reply ≡ carrying_of script number side position
+      → CarryingDemand script number side position (carried_answer reply)
   carrying-demand e = rw e (record { stated = carrying-stated; alone = λ _ o. outcome-carrying o })
 
 -- "Carrying from B to A is the inverse": what is carried to the other side is carried back to where it was
 pub carrying-back :
     (script : List ℕ) (number : ℕ) (side : Side) (position : ℕ) {x : ℕ}
-    → carryingOf script number side position ≡ To x → carryingOf script number (other side) x ≡ To position
-carrying-back script number side position {x} e = by-finding (findingOf (readScript script) number) refl
+    → carrying_of script number side position ≡ To x → carrying_of script number (other side) x ≡ To position
+carrying-back script number side position {x} e = by-finding (finding_of (read_script script) number) refl
   where
-    by_span : (m : Match) → Dec (Spans m side position) → carryingOver m side position ≡ To x
-        → carryingOver m (other side) x ≡ To position
+    by_span : (m : Match) → Dec (Spans m side position) → carrying_over m side position ≡ To x
+        → carrying_over m (other side) x ≡ To position
     by_span m (yes t) e' =
         let there : carry m side position ≡ x = cc (over-spanned m side position t) in
         rw (← there, over-spanned m (other side) (carry m side position) (carry-spans m side position t))
         (ap To (carry_back m side position t))
     by_span m (no n) e' = let z : ◌≡◌ {A = ℕ} 0 1 = cc (over-off m side position n) in absurd (omega arith)
 
-    by-finding : (f : Finding) → findingOf (readScript script) number ≡ f
-        → carryingOf script number (other side) x ≡ To position
+    by-finding : (f : Finding) → finding_of (read_script script) number ≡ f
+        → carrying_of script number (other side) x ≡ To position
     by-finding (Finding.Refused r) is =
         let z : ◌≡◌ {A = ℕ} 0 1 = cc (carrying-refused script number side position is) in absurd (omega arith)
     by-finding (Finding.Found y) is =
@@ -206,23 +206,23 @@ carrying-back script number side position {x} e = by-finding (findingOf (readScr
 
 -- ---- carrying over a match that is found never wraps
 
-found-∈ : (ms : List ScriptMatch) (number : ℕ) {x : ScriptMatch} → foundIn ms number ≡ Finding.Found x → x ∈ ms
+found-∈ : (ms : List ScriptMatch) (number : ℕ) {x : ScriptMatch} → found_in ms number ≡ Finding.Found x → x ∈ ms
 found-∈ [] number e = let z : ◌≡◌ {A = ℕ} 0 1 = cc in absurd (omega arith)
 found-∈ (m ∷ ms) zero e = let z : ◌≡◌ {A = ℕ} 0 1 = cc in absurd (omega arith)
 found-∈ (m ∷ ms) (suc zero) {x} e = let same : x ≡ m = cc in here same
 found-∈ (m ∷ ms) (suc (suc number)) e = there (found-∈ ms (suc number) e)
 
 pub found-fits :
-    (script : List ℕ) (number : ℕ) {x : ScriptMatch} → findingOf (readScript script) number ≡ Finding.Found x
+    (script : List ℕ) (number : ℕ) {x : ScriptMatch} → finding_of (read_script script) number ≡ Finding.Found x
     → (side : Side) → right (with_number number x) side < 2 ^ 32
-found-fits script number {x} e side = by-reading (readScript script) refl e
+found-fits script number {x} e side = by-reading (read_script script) refl e
   where
     by-outcome : {ls : List ℕ} {ms : List ScriptMatch} {ks : List Mark} → Outcome script (value (contents ls ms ks))
         → x ∈ ms → (side : Side) → right (with_number number x) side < 2 ^ 32
-    by-outcome (Outcome.is-admitted r b l) i A = omega (arith, reach-within r i, (reach-range r).0.few)
-    by-outcome (Outcome.is-admitted r b l) i B = omega (arith, reach-within r i, (reach-range r).1.few)
+    by-outcome (Outcome.is_admitted r b l) i A = omega (arith, reach-within r i, (reach-range r).0.few)
+    by-outcome (Outcome.is_admitted r b l) i B = omega (arith, reach-within r i, (reach-range r).1.few)
 
-    by-reading : (reading : Reading) → readScript script ≡ reading → findingOf reading number ≡ Finding.Found x
+    by-reading : (reading : Reading) → read_script script ≡ reading → finding_of reading number ≡ Finding.Found x
         → right (with_number number x) side < 2 ^ 32
     by-reading (refused r) is e' = let z : ◌≡◌ {A = ℕ} 0 1 = cc in absurd (omega arith)
     by-reading (admitted ls ms ks) is e' = by-outcome (read-outcome is) (found-∈ ms number e') side

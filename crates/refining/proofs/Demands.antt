@@ -16,14 +16,14 @@ use lib.Seq.{take_at, drop_at}
 use Rattle.script.specs.Answers.{Answer, value, refusal}
 use Rattle.script.specs.Outcomes.{Outcome}
 use Rattle.script.proofs.Outcome.{own-number, outcome-alone, outcome-refused}
-use Rattle.rows.specs.Rows.{rowWidth}
+use Rattle.rows.specs.Rows.{row_width}
 use Rattle.refinement.specs.Match.{Match}
 use Rattle.refinement.specs.Refinement.{Matches, ResolvedRefinement}
 use Rattle.refinement.proofs.Theorem.{table_resolved, table-in-order, table-least}
 use Rattle.refinement.proofs.Paper.{paper-holds}
-use Rattle.refining.specs.Rows.{pieceNumbers}
-use Rattle.refining.specs.Refining.{Given, leastOf, capacityOf, workNeeded, Refining}
-use Rattle.refining.specs.Refining.{refiningOfMatches, refiningOf}
+use Rattle.refining.specs.Rows.{piece_numbers}
+use Rattle.refining.specs.Refining.{Given, least_of, capacity_of, work_needed, Refining}
+use Rattle.refining.specs.Refining.{refining_of_matches, refining_of}
 use Rattle.refining.specs.Demands.{answer_of, Fits, MatchesOutcome, Leaves, Stand, MatchesDemand1, MatchesDemand2}
 use Rattle.refining.specs.Demands.{MatchesDemand3, Admitted, reads, RefiningOutcome, Demand1, Demand2, Demand3}
 use Rattle.refining.specs.declared.answers.Refined.{Refined}
@@ -51,23 +51,23 @@ refusal-value e = let z : ◌≡◌ {A = ℕ} 0 1 = cc in omega arith
 written-stand : (rs : List Match) (table : List ℕ) (n : ℕ) → value (length rs) ≡ value n → Stand rs n (written rs table)
 written-stand rs table n e =
     let count : n ≡ length rs = cc in
-    let rows = pieceNumbers rs in
+    let rows = piece_numbers rs in
     record {
       count = count;
-      numbers = take_at rows (drop (length rows) table) (rowWidth * n) (omega (arith, length-numbers rs));
+      numbers = take_at rows (drop (length rows) table) (row_width * n) (omega (arith, length-numbers rs));
     }
 
 -- a refusal that leaves all as it was
 pub kept : {table work : List ℕ} {number place : ℕ} → number ≢ 12 → Leaves table work (refusal number place) table work
 kept {number = number} other =
     record {
-      refused-table = λ _ _ _. refl;
-      refused-work = λ _ _ _ _. refl;
-      crowded-work = λ _ e. let n : number ≡ 12 = cc in absurd (other n);
-      success-work = λ _ e. absurd (refusal-value e);
-      past-rows = λ _ e. absurd (refusal-value e);
-      table-length = refl;
-      work-length = refl;
+      refused_table = λ _ _ _. refl;
+      refused_work = λ _ _ _ _. refl;
+      crowded_work = λ _ e. let n : number ≡ 12 = cc in absurd (other n);
+      success_work = λ _ e. absurd (refusal-value e);
+      past_rows = λ _ e. absurd (refusal-value e);
+      table_length = refl;
+      work_length = refl;
     }
 
 case-leaves : {g : Given} {table work : List ℕ} {reply : Refined} {table' work' : List ℕ}
@@ -75,61 +75,61 @@ case-leaves : {g : Given} {table work : List ℕ} {reply : Refined} {table' work
 case-leaves (short h) = kept (λ e. omega arith)
 case-leaves {work = work} (crowded enough exceeds) =
     record {
-      refused-table = λ _ _ _. refl;
-      refused-work = λ number _ e other. let n : number ≡ 12 = cc in absurd (other n);
-      crowded-work = λ _ _. refl;
-      success-work = λ _ e. absurd (refusal-value e);
-      past-rows = λ _ e. absurd (refusal-value e);
-      table-length = refl;
-      work-length = length-replicate (length work) 0;
+      refused_table = λ _ _ _. refl;
+      refused_work = λ number _ e other. let n : number ≡ 12 = cc in absurd (other n);
+      crowded_work = λ _ _. refl;
+      success_work = λ _ e. absurd (refusal-value e);
+      past_rows = λ _ e. absurd (refusal-value e);
+      table_length = refl;
+      work_length = length-replicate (length work) 0;
     }
 case-leaves {g} {table} {work} (writing enough room) =
-    let rows = pieceNumbers (leastOf g) in
-    let five = length-numbers (leastOf g) in
+    let rows = piece_numbers (least_of g) in
+    let five = length-numbers (least_of g) in
     record {
-      refused-table = λ _ _ e. absurd (refusal-value (sym e));
-      refused-work = λ _ _ e _. absurd (refusal-value (sym e));
-      crowded-work = λ _ e. absurd (refusal-value (sym e));
-      success-work = λ _ _. refl;
-      past-rows = λ n e.
-          let count : length (leastOf g) ≡ n = cc in
-          let here : length rows ≡ rowWidth * n = omega arith in
-          drop_at rows (drop (length rows) table) (rowWidth * n) here ∙ ap (λ (k : ℕ). drop k table) here;
-      table-length = simp (length-append, length-drop) (omega arith);
-      work-length = length-replicate (length work) 0;
+      refused_table = λ _ _ e. absurd (refusal-value (sym e));
+      refused_work = λ _ _ e _. absurd (refusal-value (sym e));
+      crowded_work = λ _ e. absurd (refusal-value (sym e));
+      success_work = λ _ _. refl;
+      past_rows = λ n e.
+          let count : length (least_of g) ≡ n = cc in
+          let here : length rows ≡ row_width * n = omega arith in
+          drop_at rows (drop (length rows) table) (row_width * n) here ∙ ap (λ (k : ℕ). drop k table) here;
+      table_length = simp (length-append, length-drop) (omega arith);
+      work_length = length-replicate (length work) 0;
     }
 
 module _ {g : Given} (M : Matches g.matches) where
-  resolved : ResolvedRefinement g.matches g.marks (leastOf g)
+  resolved : ResolvedRefinement g.matches g.marks (least_of g)
   resolved = table_resolved g.matches g.marks M
 
   module _ {table work : List ℕ} where
     -- any outcome whose condition is met is what `refiningOfMatches` replies
     outcome-matches : {a : Answer ℕ} → MatchesOutcome g table work a
-        → a ≡ answer_of (refiningOfMatches g table work).reply
-    outcome-matches (MatchesOutcome.work-too-short h) = rw (matches-short g table work h)
-    outcome-matches (MatchesOutcome.too-many-pieces enough exceeds) =
+        → a ≡ answer_of (refining_of_matches g table work).reply
+    outcome-matches (MatchesOutcome.work_too_short h) = rw (matches-short g table work h)
+    outcome-matches (MatchesOutcome.too_many_pieces enough exceeds) =
         rw (matches-crowded g table work enough (exceeds-many M exceeds))
-    outcome-matches (MatchesOutcome.least-rows {rs} enough R L room) =
+    outcome-matches (MatchesOutcome.least_rows {rs} enough R L room) =
         let most = (table-least g.matches g.marks M).fewest rs R in
-        let least = L.fewest (leastOf g) resolved in
-        let same : length rs ≡ length (leastOf g) = omega arith in
+        let least = L.fewest (least_of g) resolved in
+        let same : length rs ≡ length (least_of g) = omega arith in
         rw (matches-written g table work enough (omega arith), same)
 
     case-stated : {reply : Refined} {table' work' : List ℕ} → MatchesCase g table work reply table' work'
         → MatchesOutcome g table work (answer_of reply)
-    case-stated (short h) = MatchesOutcome.work-too-short h
-    case-stated (crowded enough exceeds) = MatchesOutcome.too-many-pieces enough exceeds
+    case-stated (short h) = MatchesOutcome.work_too_short h
+    case-stated (crowded enough exceeds) = MatchesOutcome.too_many_pieces enough exceeds
     case-stated (writing enough room) =
-        MatchesOutcome.least-rows enough resolved (table-least g.matches g.marks M) room
+        MatchesOutcome.least_rows enough resolved (table-least g.matches g.marks M) room
 
     -- a refusal, where no resolved refinement fits
-    no_value : {number place : ℕ} {table' : List ℕ} → (workNeeded table ≤ length work → Fits g (capacityOf table) → ⊥)
+    no_value : {number place : ℕ} {table' : List ℕ} → (work_needed table ≤ length work → Fits g (capacity_of table) → ⊥)
         → MatchesDemand2 g table work (refusal number place) table'
     no_value none =
         record {
           gets = λ enough fits. absurd (none enough fits);
-          no-less-work = λ _ e. absurd (refusal-value e);
+          no_less_work = λ _ e. absurd (refusal-value e);
           pieces = λ _ e. absurd (refusal-value e);
         }
 
@@ -140,15 +140,15 @@ module _ {g : Given} (M : Matches g.matches) where
     case-demand2 (writing enough _) =
         let paper = paper-holds M resolved in
         record {
-          gets = λ _ _. (length (leastOf g), refl);
-          no-less-work = λ _ _. enough;
+          gets = λ _ _. (length (least_of g), refl);
+          no_less_work = λ _ _. enough;
           pieces = λ n e. record {
-            rows = leastOf g;
-            stand = written-stand (leastOf g) table n e;
+            rows = least_of g;
+            stand = written-stand (least_of g) table n e;
             in_order = table-in-order g.matches g.marks M;
             resolved = resolved;
-            refines-paper = paper.0;
-            resolved-paper = paper.1;
+            refines_paper = paper.0;
+            resolved_paper = paper.1;
           };
         }
 
@@ -156,29 +156,29 @@ module _ {g : Given} (M : Matches g.matches) where
         → MatchesDemand3 g table work (answer_of reply) table'
     case-demand3 (short h) =
         record {
-          some = (leastOf g, resolved);
+          some = (least_of g, resolved);
           refuses = λ enough. absurd (omega arith);
-          or-value = λ enough _. absurd (omega arith);
+          or_value = λ enough _. absurd (omega arith);
           otherwise = λ _ e. absurd (refusal-value e);
         }
     case-demand3 (crowded _ exceeds) =
         record {
-          some = (leastOf g, resolved);
+          some = (least_of g, resolved);
           refuses = λ _. (λ _. exceeds, λ _. refl);
-          or-value = λ _ other. absurd (other refl);
+          or_value = λ _ other. absurd (other refl);
           otherwise = λ _ e. absurd (refusal-value e);
         }
     case-demand3 (writing _ room) =
         record {
-          some = (leastOf g, resolved);
+          some = (least_of g, resolved);
           refuses = λ _. (
             λ e. absurd (refusal-value (sym e)),
             λ exceeds. absurd (omega (arith, exceeds-many M exceeds)),
           );
-          or-value = λ _ _. (length (leastOf g), refl);
+          or_value = λ _ _. (length (least_of g), refl);
           otherwise = λ n e. record {
-            rows = leastOf g;
-            stand = written-stand (leastOf g) table n e;
+            rows = least_of g;
+            stand = written-stand (least_of g) table n e;
             resolved = resolved;
             least = table-least g.matches g.marks M;
           };
@@ -188,46 +188,46 @@ module _ {g : Given} (M : Matches g.matches) where
 
 module _ {script table work : List ℕ} where
   outcome-script :
-      {a : Answer ℕ} → RefiningOutcome script table work a → a ≡ answer_of (refiningOf script table work).reply
-  outcome-script (RefiningOutcome.script-refused o) =
+      {a : Answer ℕ} → RefiningOutcome script table work a → a ≡ answer_of (refining_of script table work).reply
+  outcome-script (RefiningOutcome.script_refused o) =
       let f = outcome-refused o in rw (refining-refused script table work f.read) (cc)
-  outcome-script (RefiningOutcome.of-matches a o) =
+  outcome-script (RefiningOutcome.of_matches a o) =
       rw (refining-admitted script table work a) (outcome-matches (admitted-matches a) o)
 
   script-demand1 : {reply : Refined} {table' work' : List ℕ} → Case script table work reply table' work'
       → ((a : Answer ℕ) → RefiningOutcome script table work a → a ≡ answer_of reply)
       → Demand1 script table work (answer_of reply) table' work'
   script-demand1 (refusing o) alone =
-      record { stated = RefiningOutcome.script-refused o; alone = alone; leaves = kept (script-twelve o) }
+      record { stated = RefiningOutcome.script_refused o; alone = alone; leaves = kept (script-twelve o) }
   script-demand1 (matched a c) alone =
-      let stated = RefiningOutcome.of-matches a (case-stated (admitted-matches a) c) in
+      let stated = RefiningOutcome.of_matches a (case-stated (admitted-matches a) c) in
       record { stated = stated; alone = alone; leaves = case-leaves c }
 
   script-demand2 : {reply : Refined} {table' work' : List ℕ} → Case script table work reply table' work'
       → Demand2 script table work (answer_of reply) table'
   script-demand2 (refusing o) =
       record {
-        of-matches = λ _ a. absurd (refused-admitted o a);
-        no-other-script = λ _ e. absurd (refusal-value e);
+        of_matches = λ _ a. absurd (refused-admitted o a);
+        no_other_script = λ _ e. absurd (refusal-value e);
       }
   script-demand2 (matched {g} a c) =
       record {
-        of-matches = λ _ a'. rw (admitted-unique a' a) (case-demand2 (admitted-matches a) c);
-        no-other-script = λ _ _. (g, a);
+        of_matches = λ _ a'. rw (admitted-unique a' a) (case-demand2 (admitted-matches a) c);
+        no_other_script = λ _ _. (g, a);
       }
 
   script-demand3 : {reply : Refined} {table' work' : List ℕ} → Case script table work reply table' work'
       → Demand3 script table work (answer_of reply) table'
-  script-demand3 (refusing o) = record { of-matches = λ _ a. absurd (refused-admitted o a) }
+  script-demand3 (refusing o) = record { of_matches = λ _ a. absurd (refused-admitted o a) }
   script-demand3 (matched a c) =
-      record { of-matches = λ _ a'. rw (admitted-unique a' a) (case-demand3 (admitted-matches a) c) }
+      record { of_matches = λ _ a'. rw (admitted-unique a' a) (case-demand3 (admitted-matches a) c) }
 
 -- ---- the laws
 
 module _ {g : Given} (M : Matches g.matches) (table work : List ℕ) {reply : Refined} {table' : List ℕ}
-    (replied : reply ≡ (refiningOfMatches g table work).reply)
-    (tabled : table' ≡ (refiningOfMatches g table work).table) where
-  pub matches-demand1 : {work' : List ℕ} → work' ≡ (refiningOfMatches g table work).work
+    (replied : reply ≡ (refining_of_matches g table work).reply)
+    (tabled : table' ≡ (refining_of_matches g table work).table) where
+  pub matches-demand1 : {work' : List ℕ} → work' ≡ (refining_of_matches g table work).work
       → MatchesDemand1 g table work (answer_of reply) table' work'
   matches-demand1 worked =
       let c = matches-case M table work in
@@ -241,9 +241,9 @@ module _ {g : Given} (M : Matches g.matches) (table work : List ℕ) {reply : Re
   matches-demand3 = rw (replied, tabled) (case-demand3 M (matches-case M table work))
 
 module _ (script table work : List ℕ) {reply : Refined} {table' : List ℕ}
-    (replied : reply ≡ (refiningOf script table work).reply)
-    (tabled : table' ≡ (refiningOf script table work).table) where
-  pub demand1 : {work' : List ℕ} → work' ≡ (refiningOf script table work).work
+    (replied : reply ≡ (refining_of script table work).reply)
+    (tabled : table' ≡ (refining_of script table work).table) where
+  pub demand1 : {work' : List ℕ} → work' ≡ (refining_of script table work).work
       → Demand1 script table work (answer_of reply) table' work'
   demand1 worked = rw (replied, tabled, worked) (script-demand1 (case script table work) (λ _ o. outcome-script o))
 
@@ -254,11 +254,11 @@ module _ (script table work : List ℕ) {reply : Refined} {table' : List ℕ}
   demand3 = rw (replied, tabled) (script-demand3 (case script table work))
 
 -- the clauses of the call's contract in their order, where it is known what `refiningOf` is
-module _ (script table work : List ℕ) {x : Refining} (is : refiningOf script table work ≡ x) where
+module _ (script table work : List ℕ) {x : Refining} (is : refining_of script table work ≡ x) where
   pub refining-contract :
-      (x.reply ≡ (refiningOf script table work).reply)
-      × ((x.table ≡ (refiningOf script table work).table)
-      × ((x.work ≡ (refiningOf script table work).work)
+      (x.reply ≡ (refining_of script table work).reply)
+      × ((x.table ≡ (refining_of script table work).table)
+      × ((x.work ≡ (refining_of script table work).work)
       × (Demand1 script table work (answer_of x.reply) x.table x.work
       × (Demand2 script table work (answer_of x.reply) x.table
       × Demand3 script table work (answer_of x.reply) x.table))))

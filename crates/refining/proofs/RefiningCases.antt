@@ -19,7 +19,7 @@ use borrow.Author.Tests.{lt-ltb, le-ltb}
 use lib.ListN.{length, drop}
 use lib.Seq.{sets, sets-eq}
 use Rattle.script.specs.Refusals.{number_of, place_of}
-use Rattle.script.specs.Reading.{Reading, admitted, refused, readScript}
+use Rattle.script.specs.Reading.{Reading, admitted, refused, read_script}
 use Rattle.script.specs.Answers.{refusal}
 use Rattle.script.specs.Outcomes.{Outcome}
 use Rattle.script.specs.declared.refusal.Refusal.{Refusal}
@@ -28,9 +28,9 @@ use Rattle.script.proofs.Outcome.{read-outcome, outcome-admitted}
 use Rattle.refinement.specs.Match.{Match}
 use Rattle.refinement.specs.Refinement.{Matches}
 use Rattle.refinement.proofs.Theorem.{table_resolved, table-least}
-use Rattle.refining.specs.Rows.{pieceNumbers}
-use Rattle.refining.specs.Refining.{Given, leastOf, capacityOf, workNeeded, zeroed}
-use Rattle.refining.specs.Refining.{Refining, refiningOfMatches, refiningOf}
+use Rattle.refining.specs.Rows.{piece_numbers}
+use Rattle.refining.specs.Refining.{Given, least_of, capacity_of, work_needed, zeroed}
+use Rattle.refining.specs.Refining.{Refining, refining_of_matches, refining_of}
 use Rattle.refining.specs.Demands.{Admitted, reads, Fits, EveryExceeds}
 use Rattle.refining.specs.declared.answers.Refined.{Refined}
 use Rattle.refining.specs.declared.answers.Refined.TheVariants.{Rows, Refused}
@@ -40,16 +40,16 @@ use Rattle.refining.proofs.Numbered.{admitted_of, admitted-matches}
 -- ---- room for some resolved refinement, or for none
 
 module _ {g : Given} (M : Matches g.matches) where
-  pub exceeds-many : {capacity : ℕ} → EveryExceeds g capacity → capacity < length (leastOf g)
-  exceeds-many exceeds = exceeds (leastOf g) (table_resolved g.matches g.marks M)
+  pub exceeds-many : {capacity : ℕ} → EveryExceeds g capacity → capacity < length (least_of g)
+  exceeds-many exceeds = exceeds (least_of g) (table_resolved g.matches g.marks M)
 
   pub fits-or-exceeds : (capacity : ℕ) → Fits g capacity ⊎ EveryExceeds g capacity
-  fits-or-exceeds capacity = go (dec_lt capacity (length (leastOf g)))
+  fits-or-exceeds capacity = go (dec_lt capacity (length (least_of g)))
     where
-      go : Dec (capacity < length (leastOf g)) → Fits g capacity ⊎ EveryExceeds g capacity
+      go : Dec (capacity < length (least_of g)) → Fits g capacity ⊎ EveryExceeds g capacity
       go (yes many) = inr (λ rs R. omega (arith, (table-least g.matches g.marks M).fewest rs R))
       go (no few) =
-          inl (record { rows = leastOf g; resolved = table_resolved g.matches g.marks M; room = omega arith })
+          inl (record { rows = least_of g; resolved = table_resolved g.matches g.marks M; room = omega arith })
 
 pub fits-exceeds : {g : Given} {capacity : ℕ} → Fits g capacity → EveryExceeds g capacity → ⊥
 fits-exceeds f exceeds = omega (arith, exceeds f.rows f.resolved)
@@ -58,84 +58,84 @@ fits-exceeds f exceeds = omega (arith, exceeds f.rows f.resolved)
 
 -- the numbers of rows over the start of a table
 abbrev pub written : List Match → List ℕ → List ℕ
-written rs table = pieceNumbers rs ++ drop (length (pieceNumbers rs)) table
+written rs table = piece_numbers rs ++ drop (length (piece_numbers rs)) table
 
 pub written-sets :
-    (rs : List Match) (table : List ℕ) → length rs ≤ capacityOf table
-    → sets table 0 (pieceNumbers rs) ≡ written rs table
+    (rs : List Match) (table : List ℕ) → length rs ≤ capacity_of table
+    → sets table 0 (piece_numbers rs) ≡ written rs table
 written-sets rs table room =
-    sets-eq (pieceNumbers rs) table 0 (omega (arith, length-numbers rs))
-    ∙ ap (λ (k : ℕ). pieceNumbers rs ++ drop k table) (zero-add (length (pieceNumbers rs)))
+    sets-eq (piece_numbers rs) table 0 (omega (arith, length-numbers rs))
+    ∙ ap (λ (k : ℕ). piece_numbers rs ++ drop k table) (zero-add (length (piece_numbers rs)))
 
 module _ (g : Given) (table work : List ℕ) where
-  pub matches-short : length work < workNeeded table
-      → refiningOfMatches g table work ≡ record { reply = Refused WorkTooShort; table = table; work = work }
-  unfolding refiningOfMatches
-  matches-short short = rw (lt-ltb (length work) (workNeeded table) short)
+  pub matches-short : length work < work_needed table
+      → refining_of_matches g table work ≡ record { reply = Refused WorkTooShort; table = table; work = work }
+  unfolding refining_of_matches
+  matches-short short = rw (lt-ltb (length work) (work_needed table) short)
 
-  pub matches-crowded : workNeeded table ≤ length work → capacityOf table < length (leastOf g)
-      → refiningOfMatches g table work ≡ record { reply = Refused TooManyPieces; table = table; work = zeroed work }
-  unfolding refiningOfMatches
+  pub matches-crowded : work_needed table ≤ length work → capacity_of table < length (least_of g)
+      → refining_of_matches g table work ≡ record { reply = Refused TooManyPieces; table = table; work = zeroed work }
+  unfolding refining_of_matches
   matches-crowded enough many =
       rw (
-        le-ltb (length work) (workNeeded table) enough,
-        lt-ltb (capacityOf table) (length (leastOf g)) many,
+        le-ltb (length work) (work_needed table) enough,
+        lt-ltb (capacity_of table) (length (least_of g)) many,
       )
 
-  pub matches-written : workNeeded table ≤ length work → length (leastOf g) ≤ capacityOf table
-      → refiningOfMatches g table work ≡ record {
-        reply = Rows (length (leastOf g));
-        table = written (leastOf g) table;
+  pub matches-written : work_needed table ≤ length work → length (least_of g) ≤ capacity_of table
+      → refining_of_matches g table work ≡ record {
+        reply = Rows (length (least_of g));
+        table = written (least_of g) table;
         work = zeroed work;
       }
-  unfolding refiningOfMatches
+  unfolding refining_of_matches
   matches-written enough room =
       rw (
-        le-ltb (length work) (workNeeded table) enough,
-        le-ltb (capacityOf table) (length (leastOf g)) room,
+        le-ltb (length work) (work_needed table) enough,
+        le-ltb (capacity_of table) (length (least_of g)) room,
       )
 
 -- the reply and the buffers after the call, with the case that they are of
 pub data MatchesCase (g : Given) (table work : List ℕ) : Refined → List ℕ → List ℕ → Type 0 where
-  short : length work < workNeeded table → MatchesCase g table work (Refused WorkTooShort) table work
+  short : length work < work_needed table → MatchesCase g table work (Refused WorkTooShort) table work
   crowded :
-      workNeeded table ≤ length work → EveryExceeds g (capacityOf table)
+      work_needed table ≤ length work → EveryExceeds g (capacity_of table)
       → MatchesCase g table work (Refused TooManyPieces) table (zeroed work)
   writing :
-      workNeeded table ≤ length work → length (leastOf g) ≤ capacityOf table
-      → MatchesCase g table work (Rows (length (leastOf g))) (written (leastOf g) table) (zeroed work)
+      work_needed table ≤ length work → length (least_of g) ≤ capacity_of table
+      → MatchesCase g table work (Rows (length (least_of g))) (written (least_of g) table) (zeroed work)
 
 abbrev MatchesCaseOf : Given → List ℕ → List ℕ → Refining → Type 0
 MatchesCaseOf g table work x = MatchesCase g table work x.reply x.table x.work
 
 module _ {g : Given} (M : Matches g.matches) (table work : List ℕ) where
-  pub matches-case : MatchesCaseOf g table work (refiningOfMatches g table work)
-  matches-case = by-work (dec_lt (length work) (workNeeded table))
+  pub matches-case : MatchesCaseOf g table work (refining_of_matches g table work)
+  matches-case = by-work (dec_lt (length work) (work_needed table))
     where
-      by-room : workNeeded table ≤ length work → Fits g (capacityOf table) ⊎ EveryExceeds g (capacityOf table)
-          → MatchesCaseOf g table work (refiningOfMatches g table work)
+      by-room : work_needed table ≤ length work → Fits g (capacity_of table) ⊎ EveryExceeds g (capacity_of table)
+          → MatchesCaseOf g table work (refining_of_matches g table work)
       by-room enough (inl f) =
           let fewest = (table-least g.matches g.marks M).fewest f.rows f.resolved in
-          let room : length (leastOf g) ≤ capacityOf table = omega (arith, f.room) in
+          let room : length (least_of g) ≤ capacity_of table = omega (arith, f.room) in
           rw (matches-written g table work enough room) (writing enough room)
       by-room enough (inr exceeds) =
           rw (matches-crowded g table work enough (exceeds-many M exceeds)) (crowded enough exceeds)
 
-      by-work : Dec (length work < workNeeded table) → MatchesCaseOf g table work (refiningOfMatches g table work)
+      by-work : Dec (length work < work_needed table) → MatchesCaseOf g table work (refining_of_matches g table work)
       by-work (yes h) = rw (matches-short g table work h) (short h)
-      by-work (no h) = by-room (omega arith) (fits-or-exceeds M (capacityOf table))
+      by-work (no h) = by-room (omega arith) (fits-or-exceeds M (capacity_of table))
 
 -- ---- scripts
 
 module _ (script table work : List ℕ) where
-  pub refining-refused : {r : Refusal} → readScript script ≡ refused r
-      → refiningOf script table work ≡ record { reply = Refused r; table = table; work = work }
-  unfolding refiningOf
+  pub refining-refused : {r : Refusal} → read_script script ≡ refused r
+      → refining_of script table work ≡ record { reply = Refused r; table = table; work = work }
+  unfolding refining_of
   refining-refused e = rw e
 
   pub refining-admitted :
-      {g : Given} → Admitted script g → refiningOf script table work ≡ refiningOfMatches g table work
-  unfolding refiningOf
+      {g : Given} → Admitted script g → refining_of script table work ≡ refining_of_matches g table work
+  unfolding refining_of
   refining-admitted (reads o) = rw (outcome-admitted o)
 
 pub data Case (script table work : List ℕ) : Refined → List ℕ → List ℕ → Type 0 where
@@ -148,10 +148,10 @@ pub data Case (script table work : List ℕ) : Refined → List ℕ → List ℕ
 abbrev CaseOf : List ℕ → List ℕ → List ℕ → Refining → Type 0
 CaseOf script table work x = Case script table work x.reply x.table x.work
 
-pub case : (script table work : List ℕ) → CaseOf script table work (refiningOf script table work)
-case script table work = by-reading (readScript script) refl
+pub case : (script table work : List ℕ) → CaseOf script table work (refining_of script table work)
+case script table work = by-reading (read_script script) refl
   where
-    by-reading : (x : Reading) → readScript script ≡ x → CaseOf script table work (refiningOf script table work)
+    by-reading : (x : Reading) → read_script script ≡ x → CaseOf script table work (refining_of script table work)
     by-reading (refused r) e =
         rw (refining-refused script table work e) (refusing (read-outcome e))
     by-reading (admitted ls ms ks) e =

@@ -1,16 +1,16 @@
 -- What the carrying call does, on every script, number, side and position. TO READ: contracts mean what stands here.
---     carryingOf script number side position   the reply: the carried position, or the refusal
---     carriedAnswer                            the reply in 01's words
+--     carrying_of script number side position   the reply: the carried position, or the refusal
+--     carried_answer                            the reply in 01's words
 --     CarryingOutcome                          what may come of a call, by its condition: 01's table, and a value
 --     CarryingDemand                           exactly one outcome's condition is met, and it is the answer
 -- 01, "Positions and carrying" and "Refused scripts and calls". `proofs/CarryingOutcome` shows that `carryingOf` meets
 -- the demand. Assumes nothing.
 use Rattle.std.specs.Prelude.{ℕ, ◌<◌, ◌≡◌, ◌⊎◌, cond, List, length}
 use Rattle.script.specs.Refusals.{number_of, place_of}
-use Rattle.script.specs.Reading.{readScript}
+use Rattle.script.specs.Reading.{read_script}
 use Rattle.script.specs.Answers.{Answer, value, refusal}
 use Rattle.script.specs.Outcomes.{Outcome}
-use Rattle.script.specs.Finding.{findingOf}
+use Rattle.script.specs.Finding.{finding_of}
 use Rattle.script.specs.declared.refusal.Refusal.TheVariants.{OffTheMatch}
 use Rattle.script.specs.declared.Finding.{Finding}
 use Rattle.refinement.specs.declared.Side.{Side}
@@ -22,34 +22,34 @@ use Rattle.refining.specs.declared.answers.Carried.{Carried}
 use Rattle.refining.specs.declared.answers.Carried.TheVariants.{To, Refused}
 
 -- SCOPE, "Spans": over one match, carried if it spans the position on the side named, its two ends too, and else 14
-abbrev pub carryingOver : Match → Side → ℕ → Carried
-carryingOver m side position =
+abbrev pub carrying_over : Match → Side → ℕ → Carried
+carrying_over m side position =
     cond (spanned (left m side) m.length position) (To (carry m side position)) (Refused OffTheMatch)
 
 -- SCOPE, "Order of carrying": the script's refusals and 13 are the finding's, and 14 comes last
-abbrev pub carryingOfFinding : Finding → ℕ → Side → ℕ → Carried
-carryingOfFinding (Finding.Refused r) number side position = Refused r
-carryingOfFinding (Finding.Found m) number side position = carryingOver (with_number number m) side position
+abbrev pub carrying_of_finding : Finding → ℕ → Side → ℕ → Carried
+carrying_of_finding (Finding.Refused r) number side position = Refused r
+carrying_of_finding (Finding.Found m) number side position = carrying_over (with_number number m) side position
 
-unfoldable pub carryingOf : List ℕ → ℕ → Side → ℕ → Carried
-carryingOf script number side position = carryingOfFinding (findingOf (readScript script) number) number side position
+unfoldable pub carrying_of : List ℕ → ℕ → Side → ℕ → Carried
+carrying_of script number side position = carrying_of_finding (finding_of (read_script script) number) number side position
 
-abbrev pub carriedAnswer : Carried → Answer ℕ
-carriedAnswer (Carried.To position) = value position
-carriedAnswer (Carried.Refused r) = refusal (number_of r) (place_of r)
+abbrev pub carried_answer : Carried → Answer ℕ
+carried_answer (Carried.To position) = value position
+carried_answer (Carried.Refused r) = refusal (number_of r) (place_of r)
 
 -- ---- what may come of a call
 
 pub data CarryingOutcome (script : List ℕ) (number : ℕ) (side : Side) (position : ℕ) : Answer ℕ → Type 0 where
   -- 1 to 10, 19 to 21: the script's own refusal
-  script-refused :
+  script_refused :
       {n place : ℕ} → Outcome script (refusal n place) → CarryingOutcome script number side position (refusal n place)
   -- 13: number 0 or above the count
-  no-such-match :
+  no_such_match :
       {g : Given} → Admitted script g → (number ≡ 0) ⊎ (length g.matches < number)
       → CarryingOutcome script number side position (refusal 13 0)
   -- 14: position outside its span on the side named
-  off-the-match :
+  off_the_match :
       {g : Given} {m : Match} → Admitted script g → m ∈ g.matches → m.number ≡ number → ¬ Spans m side position
       → CarryingOutcome script number side position (refusal 14 0)
   -- no refusal: what the match of that number carries the position to

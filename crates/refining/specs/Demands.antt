@@ -25,13 +25,13 @@ use Rattle.script.specs.Answers.{contents}
 use Rattle.script.specs.Outcomes.{Outcome}
 use Rattle.script.specs.declared.command.Match.{Match as ScriptMatch}
 use Rattle.script.specs.declared.command.Mark.{Mark}
-use Rattle.rows.specs.Rows.{rowWidth}
+use Rattle.rows.specs.Rows.{row_width}
 use Rattle.refinement.specs.Order.{Rising}
 use Rattle.refinement.specs.Match.{Match}
 use Rattle.refinement.specs.Refinement.{ResolvedRefinement, Before, Least}
 use Rattle.refinement.specs.Paper.{Definition1, Definition2}
-use Rattle.refining.specs.Rows.{pieceNumbers}
-use Rattle.refining.specs.Refining.{Given, givenBy, capacityOf, workNeeded, zeroed}
+use Rattle.refining.specs.Rows.{piece_numbers}
+use Rattle.refining.specs.Refining.{Given, given_by, capacity_of, work_needed, zeroed}
 use Rattle.refining.specs.declared.answers.Refined.{Refined}
 
 -- SCOPE, "Success" and "Place": the count of rows, or a number and a place
@@ -56,28 +56,28 @@ EveryExceeds g capacity = (rs : List Match) → ResolvedRefinement g.matches g.m
 -- what may come of refining matches: 11, 12, in this order
 pub data MatchesOutcome (g : Given) (table work : List ℕ) : Answer ℕ → Type 0 where
   -- 11: under four numbers per row of capacity
-  work-too-short : length work < workNeeded table → MatchesOutcome g table work (refusal 11 0)
+  work_too_short : length work < work_needed table → MatchesOutcome g table work (refusal 11 0)
   -- 12: every resolved refinement exceeds the capacity
-  too-many-pieces :
-      workNeeded table ≤ length work → EveryExceeds g (capacityOf table) → MatchesOutcome g table work (refusal 12 0)
+  too_many_pieces :
+      work_needed table ≤ length work → EveryExceeds g (capacity_of table) → MatchesOutcome g table work (refusal 12 0)
   -- no refusal: the count of rows of a least resolved refinement, for which there is room
-  least-rows :
-      {rs : List Match} → workNeeded table ≤ length work → ResolvedRefinement g.matches g.marks rs
-      → Least g.matches g.marks rs → length rs ≤ capacityOf table
+  least_rows :
+      {rs : List Match} → work_needed table ≤ length work → ResolvedRefinement g.matches g.marks rs
+      → Least g.matches g.marks rs → length rs ≤ capacity_of table
       → MatchesOutcome g table work (value (length rs))
 
 pub record Leaves (table work : List ℕ) (answer : Answer ℕ) (table' work' : List ℕ) : Type 0 where
   -- SCOPE, "Kept when refused": a refused call alters nothing but the work buffer, and that under 12 alone
-  pub refused-table : (number place : ℕ) → answer ≡ refusal number place → table' ≡ table
-  pub refused-work : (number place : ℕ) → answer ≡ refusal number place → number ≢ 12 → work' ≡ work
+  pub refused_table : (number place : ℕ) → answer ≡ refusal number place → table' ≡ table
+  pub refused_work : (number place : ℕ) → answer ≡ refusal number place → number ≢ 12 → work' ≡ work
   -- SCOPE, "Work after": zero after success and after 12
-  pub crowded-work : (place : ℕ) → answer ≡ refusal 12 place → work' ≡ zeroed work
-  pub success-work : (n : ℕ) → answer ≡ value n → work' ≡ zeroed work
+  pub crowded_work : (place : ℕ) → answer ≡ refusal 12 place → work' ≡ zeroed work
+  pub success_work : (n : ℕ) → answer ≡ value n → work' ≡ zeroed work
   -- SCOPE, "Past the rows": the numbers behind the rows stay
-  pub past-rows : (n : ℕ) → answer ≡ value n → drop (rowWidth * n) table' ≡ drop (rowWidth * n) table
+  pub past_rows : (n : ℕ) → answer ≡ value n → drop (row_width * n) table' ≡ drop (row_width * n) table
   -- a lent buffer stays as long as it was
-  pub table-length : length table' ≡ length table
-  pub work-length : length work' ≡ length work
+  pub table_length : length table' ≡ length table
+  pub work_length : length work' ≡ length work
 
 pub record MatchesDemand1 (g : Given) (table work : List ℕ) (answer : Answer ℕ)
     (table' work' : List ℕ) : Type 0 where
@@ -92,7 +92,7 @@ pub record MatchesDemand1 (g : Given) (table work : List ℕ) (answer : Answer �
 -- SCOPE, "Success": the rows stand from the start of the lent table on
 pub record Stand (rs : List Match) (n : ℕ) (table : List ℕ) : Type 0 where
   pub count : n ≡ length rs
-  pub numbers : take (rowWidth * n) table ≡ pieceNumbers rs
+  pub numbers : take (row_width * n) table ≡ piece_numbers rs
 
 -- the first n rows of the table are a resolved refinement, in the table's order
 pub record Pieces (g : Given) (n : ℕ) (table : List ℕ) : Type 0 where
@@ -102,14 +102,14 @@ pub record Pieces (g : Given) (n : ℕ) (table : List ℕ) : Type 0 where
   pub in_order : Rising Before rows
   -- by 01's words, and by the source's Definitions 1 and 2
   pub resolved : ResolvedRefinement g.matches g.marks rows
-  pub refines-paper : Definition1 g.matches rows
-  pub resolved-paper : Definition2 rows
+  pub refines_paper : Definition1 g.matches rows
+  pub resolved_paper : Definition2 rows
 
 pub record MatchesDemand2 (g : Given) (table work : List ℕ) (answer : Answer ℕ) (table' : List ℕ) : Type 0 where
   -- matches with enough work, of which some resolved refinement fits, get a value
-  pub gets : workNeeded table ≤ length work → Fits g (capacityOf table) → (n : ℕ) × (answer ≡ value n)
+  pub gets : work_needed table ≤ length work → Fits g (capacity_of table) → (n : ℕ) × (answer ≡ value n)
   -- none do with less work
-  pub no-less-work : (n : ℕ) → answer ≡ value n → workNeeded table ≤ length work
+  pub no_less_work : (n : ℕ) → answer ≡ value n → work_needed table ≤ length work
   -- after a value, the table's first rows are a resolved refinement of the matches
   pub pieces : (n : ℕ) → answer ≡ value n → Pieces g n table'
 
@@ -127,9 +127,9 @@ pub record MatchesDemand3 (g : Given) (table work : List ℕ) (answer : Answer �
   -- there is a resolved refinement
   pub some : (rs : List Match) × ResolvedRefinement g.matches g.marks rs
   -- past 11: the answer is 12 if and only if every resolved refinement has more rows than the capacity
-  pub refuses : workNeeded table ≤ length work → (answer ≡ refusal 12 0) ↔ EveryExceeds g (capacityOf table)
+  pub refuses : work_needed table ≤ length work → (answer ≡ refusal 12 0) ↔ EveryExceeds g (capacity_of table)
   -- if it is not 12, it is a value: of the two things one is done
-  pub or-value : workNeeded table ≤ length work → answer ≢ refusal 12 0 → (count : ℕ) × (answer ≡ value count)
+  pub or_value : work_needed table ≤ length work → answer ≢ refusal 12 0 → (count : ℕ) × (answer ≡ value count)
   -- and then the table holds the least one
   pub otherwise : (n : ℕ) → answer ≡ value n → LeastPieces g n table'
 
@@ -140,16 +140,16 @@ pub record MatchesDemand3 (g : Given) (table work : List ℕ) (answer : Answer �
 pub data Admitted (script : List ℕ) : Given → Type 0 where
   reads :
       {ls : List ℕ} {ms : List ScriptMatch} {ks : List Mark} → Outcome script (value (contents ls ms ks))
-      → Admitted script (givenBy ms ks)
+      → Admitted script (given_by ms ks)
 
 -- what may come of a call. SCOPE, "Order of refining": the script's refusals, 11, 12
 pub data RefiningOutcome (script table work : List ℕ) : Answer ℕ → Type 0 where
   -- 1 to 10, 19 to 21: the script's own refusal
-  script-refused :
+  script_refused :
       {number place : ℕ} → Outcome script (refusal number place)
       → RefiningOutcome script table work (refusal number place)
   -- 11, 12 and a value: what may come of the matches of an admitted script
-  of-matches :
+  of_matches :
       {g : Given} {answer : Answer ℕ} → Admitted script g → MatchesOutcome g table work answer
       → RefiningOutcome script table work answer
 
@@ -162,10 +162,10 @@ pub record Demand1 (script table work : List ℕ) (answer : Answer ℕ) (table' 
 
 pub record Demand2 (script table work : List ℕ) (answer : Answer ℕ) (table' : List ℕ) : Type 0 where
   -- of the matches of an admitted script
-  pub of-matches : (g : Given) → Admitted script g → MatchesDemand2 g table work answer table'
+  pub of_matches : (g : Given) → Admitted script g → MatchesDemand2 g table work answer table'
   -- no other script gets a value
-  pub no-other-script : (n : ℕ) → answer ≡ value n → (g : Given) × Admitted script g
+  pub no_other_script : (n : ℕ) → answer ≡ value n → (g : Given) × Admitted script g
 
 pub record Demand3 (script table work : List ℕ) (answer : Answer ℕ) (table' : List ℕ) : Type 0 where
   -- of the matches of an admitted script
-  pub of-matches : (g : Given) → Admitted script g → MatchesDemand3 g table work answer table'
+  pub of_matches : (g : Given) → Admitted script g → MatchesDemand3 g table work answer table'

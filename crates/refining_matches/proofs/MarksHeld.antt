@@ -1,5 +1,5 @@
 -- The marks of a script as two columns of their fields hold them.
---     marks-held     columns of the sides and of the positions of marks hold their places
+--     marks_held     columns of the sides and of the positions of marks hold their places
 -- Assumes nothing.
 use Prim.Native.Nat.{ℕ, suc, ◌+◌, ◌<◌}
 use mathlib.Core.Path.{◌≡◌, refl, ap, ap₂, ◌∙◌}
@@ -9,8 +9,8 @@ use lib.ListN.{length, get_or, length-map, get_or-map}
 use Rattle.script.specs.declared.command.Mark.{Mark}
 use Rattle.refinement.specs.Match.{Place}
 use Rattle.refining.specs.Columns.{up_from}
-use Rattle.refining.specs.Refining.{markPlace}
-use Rattle.tracks.specs.Tracks.{markAt, marksOf}
+use Rattle.refining.specs.Refining.{mark_place}
+use Rattle.tracks.specs.Tracks.{mark_at, marks_of}
 
 blank : Mark
 blank = record { side = 0; position = 0 }
@@ -18,8 +18,8 @@ blank = record { side = 0; position = 0 }
 -- if f yields the places one by one, it yields them all
 places-map :
     (f : ℕ → Place) (n : ℕ) (ks : List Mark)
-    → ((k i : ℕ) → i ≡ n + k → k < length ks → f i ≡ markPlace (get_or ks k blank))
-    → map f (up_from n (length ks)) ≡ map markPlace ks
+    → ((k i : ℕ) → i ≡ n + k → k < length ks → f i ≡ mark_place (get_or ks k blank))
+    → map f (up_from n (length ks)) ≡ map mark_place ks
 unfolding up_from
 places-map f n [] h = refl
 places-map f n (k ∷ ks) h =
@@ -32,11 +32,11 @@ module _ {sides positions : List ℕ} (ks : List Mark) (side : sides ≡ map (λ
       → get_or column k (field blank) ≡ field (get_or ks k blank)
   field_at field e k = ap (λ l. get_or l k (field blank)) e ∙ get_or-map field ks k blank
 
-  pub marks-held : marksOf sides positions ≡ map markPlace ks
-  unfolding marksOf blank
-  marks-held =
+  pub marks_held : marks_of sides positions ≡ map mark_place ks
+  unfolding marks_of blank
+  marks_held =
       let count : length sides ≡ length ks = ap length side ∙ length-map ks (λ k. k.side) in
-      ap (λ (n : ℕ). map (markAt sides positions) (up_from 0 n)) count
-      ∙ places-map (markAt sides positions) 0 ks (λ k i e below.
+      ap (λ (n : ℕ). map (mark_at sides positions) (up_from 0 n)) count
+      ∙ places-map (mark_at sides positions) 0 ks (λ k i e below.
       let here : i ≡ k = omega arith in
       rw (here, field_at (λ m. m.side) side k, field_at (λ m. m.position) position k))

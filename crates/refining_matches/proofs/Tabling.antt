@@ -27,12 +27,12 @@ use Rattle.cut_set.specs.Store.{Good, Joined}
 use Rattle.cut_set.specs.declared.CutSet.{CutSet}
 use Rattle.reading_cuts.specs.Reading.{AllPlaces}
 use Rattle.reading_cuts.specs.declared.Places.{Places}
-use Rattle.refining.specs.Columns.{Columns, columnsOf, columnsRead, count_of, fromAt, fromRightAt}
+use Rattle.refining.specs.Columns.{Columns, columns_of, columns_read, count_of, from_at, from_right_at}
 use Rattle.refining.specs.Columns.{FitRead, RightEnds, Fit}
-use Rattle.refining.proofs.RightEnds.{rights-alone, read-fit, right-at}
+use Rattle.refining.proofs.RightEnds.{rights-alone, read-fit, right_at}
 use Rattle.closing_two.specs.FirstEdition.{CutOn, AllCutsOfA, Closure}
-use Rattle.refining.specs.Rows.{piecesCut, pieceNumbers}
-use Rattle.refining.specs.Refining.{Given, heldIn, leastOf, capacityOf, workNeeded, zeroed}
+use Rattle.refining.specs.Rows.{pieces_cut, piece_numbers}
+use Rattle.refining.specs.Refining.{Given, held_in, least_of, capacity_of, work_needed, zeroed}
 use Rattle.writing_rows.specs.Writing.{Writable, Written}
 use Rattle.refining_matches.specs.Tabling.{Tabled, MatchesRefined}
 use Rattle.closing_two.specs.declared.ClosedTwo.{ClosedTwo}
@@ -55,22 +55,22 @@ told-good g cap ys e h = (told_cuts h e).good
 
 pub crowded-tabled :
     (g : Given) (table ys : List ℕ) {answer : ClosedTwo} → answer ≡ ClosedTwo.TooMany
-    → Closure g (capacityOf table) ys answer → Tabled g table table (Refined.Refused TooManyPieces)
-crowded-tabled g table ys e h = (refl, subst (Closure g (capacityOf table) ys) e h, refl)
+    → Closure g (capacity_of table) ys answer → Tabled g table table (Refined.Refused TooManyPieces)
+crowded-tabled g table ys e h = (refl, subst (Closure g (capacity_of table) ys) e h, refl)
 
 module _ {columns : Columns} (fit : Fit columns) (marks : List Place) (table : List ℕ) {xs ys : List ℕ}
     {s t : CutSet} {run : Places} {answer : ClosedTwo} (told : answer ≡ ClosedTwo.CutsOfA s)
     (joined : Joined xs s ys t) (places : AllPlaces ys t run)
-    (closed : Closure (heldIn columns marks) (capacityOf table) xs answer) where
-  cuts : AllCutsOfA (heldIn columns marks) (capacityOf table) xs s
+    (closed : Closure (held_in columns marks) (capacity_of table) xs answer) where
+  cuts : AllCutsOfA (held_in columns marks) (capacity_of table) xs s
   cuts = told_cuts closed told
 
   -- a cut of A stands in the run
-  cut_in : (x : ℕ) → CutOn (heldIn columns marks) Side.A x → In ys run.start run.end x
+  cut_in : (x : ℕ) → CutOn (held_in columns marks) Side.A x → In ys run.start run.end x
   cut_in x c = (places.all x).1 ((joined.kept.members x).1 ((cuts.cuts x).1 c))
 
   -- the numbers of the run are the cuts of A
-  run-cuts : (x : ℕ) → (x ∈ slice run.start run.end ys) ↔ CutOn (heldIn columns marks) Side.A x
+  run-cuts : (x : ℕ) → (x ∈ slice run.start run.end ys) ↔ CutOn (held_in columns marks) Side.A x
   run-cuts x =
       let inside = places.run.within in
       let ordered = places.run.order in (
@@ -78,7 +78,7 @@ module _ {columns : Columns} (fit : Fit columns) (marks : List Place) (table : L
         λ c. in-slice ys inside ordered (cut_in x c),
       )
 
-  rows_are : piecesCut columns (slice run.start run.end ys) (count_of columns) ≡ leastOf (heldIn columns marks)
+  rows_are : pieces_cut columns (slice run.start run.end ys) (count_of columns) ≡ least_of (held_in columns marks)
   rows_are = let rises = slice-rising ys places.run.within places.run.order ◌<◌ places.run.rising in
       rows-least fit marks rises run-cuts
 
@@ -86,55 +86,55 @@ module _ {columns : Columns} (fit : Fit columns) (marks : List Place) (table : L
   cuts-writable few =
       record {
         run = places.run;
-        left_in = λ k h. cut_in (fromAt columns k) (end (∈-matches columns h) (left_end Side.A));
-        right-in = λ k h.
+        left_in = λ k h. cut_in (from_at columns k) (end (∈-matches columns h) (left_end Side.A));
+        right_in = λ k h.
             let i = ∈-matches columns h in
-            cut_in (fromRightAt columns k)
-            (subst (CutOn (heldIn columns marks) Side.A) (sym (right-at fit Side.A h)) (end i (right_end Side.A)));
+            cut_in (from_right_at columns k)
+            (subst (CutOn (held_in columns marks) Side.A) (sym (right_at fit Side.A h)) (end i (right_end Side.A)));
         few = few;
         room = omega (arith, ap length rows_are, cuts.fits);
       }
 
   pub rows-tabled : {after : List ℕ} {n : ℕ} → Written columns (slice run.start run.end ys) table after n
-      → Tabled (heldIn columns marks) table after (Refined.Rows n)
+      → Tabled (held_in columns marks) table after (Refined.Rows n)
   rows-tabled w = (
     w.count ∙ ap length rows_are,
     cuts.fits,
-    w.table ∙ ap (λ (rs : List Match). sets table 0 (pieceNumbers rs)) rows_are,
+    w.table ∙ ap (λ (rs : List Match). sets table 0 (piece_numbers rs)) rows_are,
   )
 
 tabled-refined :
-    (g : Given) → Matches g.matches → (table table' work : List ℕ) (r : Refined) → workNeeded table ≤ length work
+    (g : Given) → Matches g.matches → (table table' work : List ℕ) (r : Refined) → work_needed table ≤ length work
     → Tabled g table table' r
     → MatchesRefined g table work r table' (zeroed work)
 tabled-refined g M table table' work (Refined.Rows n) room t =
-    rw (t.0, t.2 ∙ written-sets (leastOf g) table t.1) (sym (matches-written g table work room t.1))
+    rw (t.0, t.2 ∙ written-sets (least_of g) table t.1) (sym (matches-written g table work room t.1))
 tabled-refined g M table table' work (Refined.Refused f) room t =
     rw (t.0, t.2) (sym (matches-crowded g table work room (exceeds-many M t.1)))
 
 pub cleared-refined :
     {columns : Columns} → Fit columns → (marks : List Place) (table table' work work' : List ℕ)
     {ended : List ℕ} {r : Refined}
-    → workNeeded table ≤ length work
-    → Tabled (heldIn columns marks) table table' r
+    → work_needed table ≤ length work
+    → Tabled (held_in columns marks) table table' r
     → length work' ≡ length work
     → ended ≡ zeroed work'
-    → MatchesRefined (heldIn columns marks) table work r table' ended
+    → MatchesRefined (held_in columns marks) table work r table' ended
 cleared-refined {columns} fit marks table table' work work' {r = r} room tabled same cleared =
     rw (cleared ∙ ap (λ (n : ℕ). replicate n 0) same)
-    (tabled-refined (heldIn columns marks) (matches-good columns fit) table table' work r room tabled)
+    (tabled-refined (held_in columns marks) (matches-good columns fit) table table' work r room tabled)
 
 -- the matches as they are read, once their right ends are worked out
-module _ (f t d : List ℕ) (r : List Bool) {g u : List ℕ} (read : FitRead f t d r) (right-a : RightEnds f d g)
-    (right-b : RightEnds t d u) where
-  worked-columns : columnsOf f g t u r ≡ columnsRead f t d r
-  worked-columns = rw (rights-alone read.on-a.same_length right-a, rights-alone read.on-b.same_length right-b)
+module _ (f t d : List ℕ) (r : List Bool) {g u : List ℕ} (read : FitRead f t d r) (right_a : RightEnds f d g)
+    (right_b : RightEnds t d u) where
+  worked-columns : columns_of f g t u r ≡ columns_read f t d r
+  worked-columns = rw (rights-alone read.on_a.same_length right_a, rights-alone read.on_b.same_length right_b)
 
-  pub worked_fit : Fit (columnsOf f g t u r)
+  pub worked_fit : Fit (columns_of f g t u r)
   worked_fit = rw worked-columns (read-fit read)
 
   pub worked-refined :
       (marks : List Place) (table work : List ℕ) {reply : Refined} {table' work' : List ℕ}
-      → MatchesRefined (heldIn (columnsOf f g t u r) marks) table work reply table' work'
-      → MatchesRefined (heldIn (columnsRead f t d r) marks) table work reply table' work'
+      → MatchesRefined (held_in (columns_of f g t u r) marks) table work reply table' work'
+      → MatchesRefined (held_in (columns_read f t d r) marks) table work reply table' work'
   worked-refined marks table work refined = rw worked-columns at refined

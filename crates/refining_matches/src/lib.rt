@@ -1,8 +1,9 @@
 // Refining the matches and marks of a script that was read: their cuts, and from these the rows of the table.
+#![tactic(auto)]
 ghost use Rattle.std.specs.Prelude.{◌≡◌, ◌≤◌, ◌<◌, false, length, replicate, take};
-ghost use Rattle.refining.specs.Columns.{FitRead, RightEnds, columnsOf, columnsRead, Fit};
-ghost use Rattle.refining.specs.Refining.{heldIn, workNeeded};
-ghost use Rattle.tracks.specs.Tracks.{marksOf};
+ghost use Rattle.refining.specs.Columns.{FitRead, RightEnds, columns_of, columns_read, Fit};
+ghost use Rattle.refining.specs.Refining.{held_in, work_needed};
+ghost use Rattle.tracks.specs.Tracks.{marks_of};
 ghost use Rattle.refining_matches.specs.Tabling.{Tabled, MatchesRefined};
 
 use clearing::clear;
@@ -28,16 +29,16 @@ fn cut_and_write(
     table: &mut [u32],
     work: &mut [u32],
 ) -> Refined
-    requires fit { Fit (columnsOf left_a.now right_a.now left_b.now right_b.now reversed.now) }
-    requires table_in_bounds { workNeeded table.old ≤ length work.old }
+    requires fit { Fit (columns_of left_a.now right_a.now left_b.now right_b.now reversed.now) }
+    requires table_in_bounds { work_needed table.old ≤ length work.old }
     requires reversed_len_bound { length reversed.now < 4294967296 }
     requires straight_value { straight.now ≡ replicate (length reversed.now) false }
     requires mark_sides_len { length mark_sides.now ≡ length mark_positions.now }
     ensures { Tabled
-        (heldIn
-        (columnsOf left_a.now right_a.now left_b.now right_b.now
+        (held_in
+        (columns_of left_a.now right_a.now left_b.now right_b.now
         reversed.now)
-        (marksOf mark_sides.now mark_positions.now))
+        (marks_of mark_sides.now mark_positions.now))
         table.old table.new result }
 {
     match close_two(
@@ -80,15 +81,15 @@ fn refine_matches(
     table: &mut [u32],
     work: &mut [u32],
 ) -> Refined
-    requires fit { Fit (columnsOf left_a.now right_a.now left_b.now right_b.now reversed.now) }
+    requires fit { Fit (columns_of left_a.now right_a.now left_b.now right_b.now reversed.now) }
     requires reversed_len_bound { length reversed.now < 4294967296 }
     requires straight_value { straight.now ≡ replicate (length reversed.now) false }
     requires mark_sides_len { length mark_sides.now ≡ length mark_positions.now }
     ensures { MatchesRefined
-        (heldIn
-        (columnsOf left_a.now right_a.now left_b.now right_b.now
+        (held_in
+        (columns_of left_a.now right_a.now left_b.now right_b.now
         reversed.now)
-        (marksOf mark_sides.now mark_positions.now))
+        (marks_of mark_sides.now mark_positions.now))
         table.old work.old result table.new work.new }
 {
     if work.len() < 4 * (table.len() / ROW_WIDTH) {
@@ -135,10 +136,10 @@ pub fn refine_read(
     requires left_a_in_bounds { length left_a.now ≤ length right_a.old }
     requires left_a_in_bounds_2 { length left_a.now ≤ length right_b.old }
     ensures refined { MatchesRefined
-        (heldIn
-        (columnsRead left_a.now left_b.now
+        (held_in
+        (columns_read left_a.now left_b.now
         (take (length left_a.now) right_b.old) reversed.now)
-        (marksOf mark_sides.now mark_positions.now))
+        (marks_of mark_sides.now mark_positions.now))
         table.old work.old result table.new work.new }
     ensures ends_a { RightEnds left_a.now (take (length left_a.now) right_b.old)
         (take (length left_a.now) right_a.new) }

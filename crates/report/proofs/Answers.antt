@@ -9,13 +9,13 @@ use Prim.Native.Nat.{ℕ, ◌≤◌}
 use mathlib.Core.Path.{◌≡◌, refl, sym, ap, ap₂, subst, ◌∙◌}
 use mathlib.Core.List.{List}
 use Rattle.script.proofs.Admitted.{holds-admitted}
-use Rattle.refining.specs.Refining.{Refining, refiningOf}
+use Rattle.refining.specs.Refining.{Refining, refining_of}
 use Rattle.refining.specs.declared.answers.Refined.{Refined}
 use Rattle.refine.specs.Calls.{ScriptRefined}
 use Rattle.refine.proofs.Calls.{refining-met}
 use Rattle.brief_report.proofs.Trying.{rows-room}
-use Rattle.reporting.specs.Reporting.{lentRows, lentTable, lentWork, reportOf, reportOfReply, reportOfRefining}
-use Rattle.reporting.specs.Reporting.{Reporting, reportingOfText, reportingOf, ReadAs, Briefly}
+use Rattle.reporting.specs.Reporting.{lent_rows, lent_table, lent_work, report_of, report_of_reply, report_of_refining}
+use Rattle.reporting.specs.Reporting.{Reporting, reporting_of_text, reporting_of, ReadAs, Briefly}
 use Rattle.reporting.specs.LineTwo.{LineTwoPrinted}
 use Rattle.reporting.specs.declared.Reported.{Reported}
 use Rattle.reporting.proofs.Own.{line-two-printed}
@@ -23,38 +23,38 @@ use Rattle.reporting.specs.declared.Brief.{Brief}
 
 report-admits :
     (script : List ℕ) {p q count : ℕ} → ReadAs script p q count
-    → reportOf script ≡ reportOfRefining p q count (refiningOf script lentTable lentWork)
-unfolding reportOf refiningOf
+    → report_of script ≡ report_of_refining p q count (refining_of script lent_table lent_work)
+unfolding report_of refining_of
 report-admits script v =
     let held = holds-admitted script refl v.told in
     rw (held.read, held.counted)
 
 pub lent-room :
     (script table work : List ℕ) {reply : Refined} {table' work' : List ℕ} {n : ℕ}
-    → ScriptRefined script table work reply table' work' → table ≡ lentTable → reply ≡ Refined.Rows n → n ≤ lentRows
-lent-room script table work refined t e = rows-room lentRows t (refining-met refined).1.1.1.0.stated e
+    → ScriptRefined script table work reply table' work' → table ≡ lent_table → reply ≡ Refined.Rows n → n ≤ lent_rows
+lent-room script table work refined t e = rows-room lent_rows t (refining-met refined).1.1.1.0.stated e
 
 pub report-refined :
     (script text : List ℕ) (p q count : ℕ) {table work table' work' : List ℕ} {reply told : Refined}
     {answer : Reporting}
     → ReadAs script p q count
-    → table ≡ lentTable
-    → work ≡ lentWork
+    → table ≡ lent_table
+    → work ≡ lent_work
     → ScriptRefined script table work reply table' work'
     → reply ≡ told
-    → reportingOfText (reportOfReply p q count table' told) text ≡ answer
-    → reportingOf script text ≡ answer
+    → reporting_of_text (report_of_reply p q count table' told) text ≡ answer
+    → reporting_of script text ≡ answer
 report-refined script text p q count admits t w refined e printed =
     let replied = ap (λ (y : Refining). y.reply) refined in
     let wrote = ap (λ (y : Refining). y.table) refined in
-    let lent = ap₂ (λ (t w : List ℕ). reportOfRefining p q count (refiningOf script t w)) t w in
-    let told = ap₂ (reportOfReply p q count) wrote (sym e ∙ replied) in
-    ap (λ (b : List ℕ). reportingOfText b text) (report-admits script admits ∙ sym (told ∙ lent)) ∙ printed
+    let lent = ap₂ (λ (t w : List ℕ). report_of_refining p q count (refining_of script t w)) t w in
+    let told = ap₂ (report_of_reply p q count) wrote (sym e ∙ replied) in
+    ap (λ (b : List ℕ). reporting_of_text b text) (report-admits script admits ∙ sym (told ∙ lent)) ∙ printed
 
 -- the reply and the text, by what they are together, and what line two then says
 reported : (script text : List ℕ) {r : Reported} {text' : List ℕ}
-    → reportingOf script text ≡ record { reply = r; text = text' }
-    → (r ≡ (reportingOf script text).reply) × ((text' ≡ (reportingOf script text).text) × LineTwoPrinted script r text')
+    → reporting_of script text ≡ record { reply = r; text = text' }
+    → (r ≡ (reporting_of script text).reply) × ((text' ≡ (reporting_of script text).text) × LineTwoPrinted script r text')
 reported script text e =
     let replied = ap (λ (y : Reporting). y.reply) e in
     let wrote = ap (λ (y : Reporting). y.text) e in
@@ -63,7 +63,7 @@ reported script text e =
 pub brief-reported :
     (script text text' : List ℕ) {answer : Brief} {r : Reported} → answer ≡ Brief.Answered r
     → Briefly script text text' answer
-    → (r ≡ (reportingOf script text).reply) × ((text' ≡ (reportingOf script text).text) × LineTwoPrinted script r text')
+    → (r ≡ (reporting_of script text).reply) × ((text' ≡ (reporting_of script text).text) × LineTwoPrinted script r text')
 brief-reported script text text' e tried = reported script text (subst (Briefly script text text') e tried)
 
 pub brief-admits :
@@ -76,8 +76,8 @@ pub large-reported :
     (script text text' : List ℕ) {answer : Brief} {p q count : ℕ} {r : Reported} {text'' : List ℕ}
     → answer ≡ Brief.Larger p q count
     → Briefly script text text' answer
-    → reportingOf script text' ≡ record { reply = r; text = text'' }
-    → (r ≡ (reportingOf script text).reply) × ((text'' ≡ (reportingOf script text).text) × LineTwoPrinted script r text'')
+    → reporting_of script text' ≡ record { reply = r; text = text'' }
+    → (r ≡ (reporting_of script text).reply) × ((text'' ≡ (reporting_of script text).text) × LineTwoPrinted script r text'')
 large-reported script text text' e tried printed =
     let kept = (subst (Briefly script text text') e tried).1 in
-    reported script text (ap (reportingOf script) (sym kept) ∙ printed)
+    reported script text (ap (reporting_of script) (sym kept) ∙ printed)

@@ -1,7 +1,8 @@
 // The program's text, made in a lent buffer: what is printed is proved, and the program only reads, calls and writes.
+#![tactic(auto)]
 ghost use Rattle.std.specs.Prelude.{◌≡◌};
 ghost use Rattle.reporting.specs.LineTwo.{LineTwoPrinted};
-ghost use Rattle.reporting.specs.Reporting.{lentTable, lentWork, reportingOf, ReadAs};
+ghost use Rattle.reporting.specs.Reporting.{lent_table, lent_work, reporting_of, ReadAs};
 
 use brief_report::report_brief;
 use printing::{print_refusal, print_table};
@@ -16,13 +17,13 @@ pub const ROWS: usize = 3000;
 pub const LONGEST_TEXT: usize = 262_144;
 
 fn lent_table() -> [u32; ROW_WIDTH * ROWS]
-    ensures { result ≡ lentTable }
+    ensures { result ≡ lent_table }
 {
     [0; ROW_WIDTH * ROWS]
 }
 
 fn lent_work() -> [u32; 4 * ROWS]
-    ensures { result ≡ lentWork }
+    ensures { result ≡ lent_work }
 {
     [0; 4 * ROWS]
 }
@@ -30,7 +31,7 @@ fn lent_work() -> [u32; 4 * ROWS]
 // An admitted script: its table, or the refusal of refining.
 fn report_admitted(script: &[u8], p: u32, q: u32, count: usize, text: &mut [u8]) -> Reported
     requires { ReadAs script.now p q count }
-    ensures { reportingOf script.now text.old ≡ record { reply = result; text = text.new } }
+    ensures { reporting_of script.now text.old ≡ record { reply = result; text = text.new } }
 {
     let mut table = lent_table();
     let mut work = lent_work();
@@ -42,8 +43,8 @@ fn report_admitted(script: &[u8], p: u32, q: u32, count: usize, text: &mut [u8])
 
 // Makes the text that the program prints for a script.
 pub fn report(script: &[u8], text: &mut [u8]) -> Reported
-    ensures reply { result ≡ (reportingOf script.now text.old).reply }
-    ensures text { text.new ≡ (reportingOf script.now text.old).text }
+    ensures reply { result ≡ (reporting_of script.now text.old).reply }
+    ensures text { text.new ≡ (reporting_of script.now text.old).text }
     ensures line_two { LineTwoPrinted script.now result text.new }
 {
     match report_brief(script, text) {

@@ -14,22 +14,22 @@ use lib.Dec.{eqb}
 use lib.ListN.{length, get_or, length-append}
 use Rattle.script.specs.declared.refusal.Refusal.{Refusal}
 use Rattle.script.specs.Refusals.{number_of, place_of}
-use Rattle.table.specs.Summing.{classCount, summaryOfRows}
+use Rattle.table.specs.Summing.{class_count, summary_of_rows}
 use Rattle.rows.specs.declared.Row.{Row}
 use Rattle.table.specs.declared.summing.Summary.{Summary}
 use Rattle.table.proofs.Sums.{classes-length}
 use Rattle.text.specs.Decimal.{decimal}
 use Rattle.text.proofs.Digits.{decimal-short}
-use Rattle.reporting.specs.Lines.{class, line, refusalText, lengthsLine, summaryLine, row_line, row_lines, classLine}
-use Rattle.reporting.specs.Lines.{classLines, tableText}
+use Rattle.reporting.specs.Lines.{class, line, refusal_text, lengths_line, summary_line, row_line, row_lines, class_line}
+use Rattle.reporting.specs.Lines.{class_lines, table_text}
 
-pub refusal-text-short : (r : Refusal) → length (refusalText r) ≤ 50
+pub refusal-text-short : (r : Refusal) → length (refusal_text r) ≤ 50
 refusal-text-short r = simp length-append (omega (arith, decimal-short (number_of r), decimal-short (place_of r)))
 
-pub lengths-line-short : (p q : ℕ) → length (lengthsLine p q) ≤ 50
+pub lengths-line-short : (p q : ℕ) → length (lengths_line p q) ≤ 50
 lengths-line-short p q = simp length-append (omega (arith, decimal-short p, decimal-short q))
 
-pub summary-line-short : (count : ℕ) (s : Summary) → length (summaryLine count s) ≤ 136
+pub summary-line-short : (count : ℕ) (s : Summary) → length (summary_line count s) ≤ 136
 summary-line-short count s =
     simp length-append
     (omega (
@@ -58,15 +58,15 @@ row-lines-short [] = omega arith
 row-lines-short (r ∷ rs) =
     omega (arith, length-append (row_line r) (row_lines rs), row-line-short r, row-lines-short rs)
 
-pub class-line-short : (c n : ℕ) → length (classLine c n) ≤ 48
+pub class-line-short : (c n : ℕ) → length (class_line c n) ≤ 48
 class-line-short c n = go (eqb n 0)
   where
     go : (b : Bool) → length (cond b [] (line (class ∷ decimal c ∷ decimal n ∷ []))) ≤ 48
     go true = omega arith
     go false = simp length-append (omega (arith, decimal-short c, decimal-short n))
 
-pub class-lines-short : (c : ℕ) (ns : List ℕ) → length (classLines c ns) ≤ 48 * length ns
-unfolding classLines
+pub class-lines-short : (c : ℕ) (ns : List ℕ) → length (class_lines c ns) ≤ 48 * length ns
+unfolding class_lines
 class-lines-short c [] = omega arith
 class-lines-short c (n ∷ ns) =
     simp length-append (omega (arith, class-line-short c n, class-lines-short (suc c) ns))
@@ -74,15 +74,15 @@ class-lines-short c (n ∷ ns) =
 length-parts : (a b c d : List ℕ) → length (a ++ b ++ c ++ d) ≡ length a + length b + length c + length d
 length-parts a b c d = simp length-append
 
-pub table-text-short : (p q count : ℕ) (rs : List Row) → length (tableText p q count rs) ≤ 1626 + 86 * length rs
+pub table-text-short : (p q count : ℕ) (rs : List Row) → length (table_text p q count rs) ≤ 1626 + 86 * length rs
 table-text-short p q count rs =
-    let s = summaryOfRows rs in
+    let s = summary_of_rows rs in
     omega (
       arith,
-      length-parts (lengthsLine p q) (summaryLine count s) (row_lines rs) (classLines 0 s.classes),
+      length-parts (lengths_line p q) (summary_line count s) (row_lines rs) (class_lines 0 s.classes),
       lengths-line-short p q,
       summary-line-short count s,
       row-lines-short rs,
       class-lines-short 0 s.classes,
-      classes-length classCount 0 rs,
+      classes-length class_count 0 rs,
     )

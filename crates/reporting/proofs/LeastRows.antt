@@ -1,5 +1,5 @@
 -- What refining leaves in the table, as rows: those of the least table's pieces.
---     LeastRows, least-rows   after a success, the rows counted are those of the least table
+--     LeastRows, least_rows   after a success, the rows counted are those of the least table
 --     report-crowded          the text of matches whose least table has no room ..
 --     report-rows             .. and of those whose least table has
 -- Assumes nothing.
@@ -12,10 +12,10 @@ use lib.Seq.{take_at}
 use Rattle.script.specs.declared.refusal.Refusal.{Refusal}
 use Rattle.script.specs.declared.refusal.Refusal.TheVariants.{TooManyPieces}
 use Rattle.refinement.specs.Match.{Match}
-use Rattle.rows.specs.Rows.{rowWidth, rows_of}
+use Rattle.rows.specs.Rows.{row_width, rows_of}
 use Rattle.rows.proofs.Numbers.{rows_whole}
-use Rattle.refining.specs.Rows.{rowOfPiece, pieceNumbers}
-use Rattle.refining.specs.Refining.{Given, leastOf, capacityOf, workNeeded, refiningOfMatches, refiningOf}
+use Rattle.refining.specs.Rows.{row_of_piece, piece_numbers}
+use Rattle.refining.specs.Refining.{Given, least_of, capacity_of, work_needed, refining_of_matches, refining_of}
 use Rattle.refining.specs.Demands.{Admitted}
 use Rattle.refining.specs.declared.answers.Refined.{Refined}
 use Rattle.refining.specs.declared.answers.Refined.TheVariants.{Rows, Refused}
@@ -23,27 +23,27 @@ use Rattle.refining.proofs.Standing.{length-numbers}
 use Rattle.refining.proofs.Numbered.{admitted-unique}
 use Rattle.refining.proofs.RefiningCases.{written, matches-crowded, matches-written, short, crowded, writing}
 use Rattle.refining.proofs.RefiningCases.{Case, refusing, matched, case}
-use Rattle.reporting.specs.Lines.{refusalText, tableText}
-use Rattle.reporting.specs.Reporting.{reportOfRefining}
+use Rattle.reporting.specs.Lines.{refusal_text, table_text}
+use Rattle.reporting.specs.Reporting.{report_of_refining}
 
 rows_written : (rs : List Match) (table : List ℕ)
-    → rows_of (take (rowWidth * length rs) (written rs table)) ≡ map rowOfPiece rs
+    → rows_of (take (row_width * length rs) (written rs table)) ≡ map row_of_piece rs
 rows_written rs table =
-    let rows = pieceNumbers rs in
-    ap rows_of (take_at rows (drop (length rows) table) (rowWidth * length rs) (length-numbers rs))
-    ∙ rows_whole (map rowOfPiece rs)
+    let rows = piece_numbers rs in
+    ap rows_of (take_at rows (drop (length rows) table) (row_width * length rs) (length-numbers rs))
+    ∙ rows_whole (map row_of_piece rs)
 
 -- the first n rows of the table are the least table's, and all of them
 pub record LeastRows (g : Given) (n : ℕ) (table : List ℕ) : Type 0 where
-  pub count : n ≡ length (leastOf g)
-  pub rows : rows_of (take (rowWidth * n) table) ≡ map rowOfPiece (leastOf g)
+  pub count : n ≡ length (least_of g)
+  pub rows : rows_of (take (row_width * n) table) ≡ map row_of_piece (least_of g)
 
 refused-rows : {r : Refusal} {n : ℕ} → Refused r ≡ Rows n → ⊥
 refused-rows e = let z : ◌≡◌ {A = ℕ} 0 1 = cc in omega arith
 
-pub least-rows : (script table work : List ℕ) {n : ℕ} {g : Given} → Admitted script g
-    → (refiningOf script table work).reply ≡ Rows n → LeastRows g n (refiningOf script table work).table
-least-rows script table work {n} {g} a e = go (case script table work) e
+pub least_rows : (script table work : List ℕ) {n : ℕ} {g : Given} → Admitted script g
+    → (refining_of script table work).reply ≡ Rows n → LeastRows g n (refining_of script table work).table
+least_rows script table work {n} {g} a e = go (case script table work) e
   where
     go : {reply : Refined} {table' work' : List ℕ} → Case script table work reply table' work' → reply ≡ Rows n
         → LeastRows g n table'
@@ -51,19 +51,19 @@ least-rows script table work {n} {g} a e = go (case script table work) e
     go (matched _ (short _)) e = absurd (refused-rows e)
     go (matched _ (crowded _ _)) e = absurd (refused-rows e)
     go (matched {g = g'} a' (writing _ _)) e =
-        let count : n ≡ length (leastOf g') = cc in
+        let count : n ≡ length (least_of g') = cc in
         rw (admitted-unique a a', count)
-        (record { count = refl; rows = rows_written (leastOf g') table })
+        (record { count = refl; rows = rows_written (least_of g') table })
 
 -- matches and enough work: the text is 12's refusal or the table's
-module _ (p q count : ℕ) (g : Given) (table work : List ℕ) (enough : workNeeded table ≤ length work) where
-  pub report-crowded : capacityOf table < length (leastOf g)
-      → reportOfRefining p q count (refiningOfMatches g table work) ≡ refusalText TooManyPieces
-  report-crowded many = ap (reportOfRefining p q count) (matches-crowded g table work enough many)
+module _ (p q count : ℕ) (g : Given) (table work : List ℕ) (enough : work_needed table ≤ length work) where
+  pub report-crowded : capacity_of table < length (least_of g)
+      → report_of_refining p q count (refining_of_matches g table work) ≡ refusal_text TooManyPieces
+  report-crowded many = ap (report_of_refining p q count) (matches-crowded g table work enough many)
 
-  pub report-rows : length (leastOf g) ≤ capacityOf table
-      → reportOfRefining p q count (refiningOfMatches g table work)
-      ≡ tableText p q count (map rowOfPiece (leastOf g))
+  pub report-rows : length (least_of g) ≤ capacity_of table
+      → report_of_refining p q count (refining_of_matches g table work)
+      ≡ table_text p q count (map row_of_piece (least_of g))
   report-rows room =
-      ap (reportOfRefining p q count) (matches-written g table work enough room)
-      ∙ ap (tableText p q count) (rows_written (leastOf g) table)
+      ap (report_of_refining p q count) (matches-written g table work enough room)
+      ∙ ap (table_text p q count) (rows_written (least_of g) table)

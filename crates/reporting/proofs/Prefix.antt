@@ -7,8 +7,8 @@ use mathlib.Core.Path.{◌≡◌}
 use mathlib.Core.List.{List}
 use lib.ListN.{take}
 use Rattle.script.proofs.Prefix.{prefix-decides}
-use Rattle.reporting.specs.Reporting.{reportOf}
+use Rattle.reporting.specs.Reporting.{report_of}
 
-pub report-decided : (s : List ℕ) → reportOf (take 29707 s) ≡ reportOf s
-unfolding reportOf
+pub report-decided : (s : List ℕ) → report_of (take 29707 s) ≡ report_of s
+unfolding report_of
 report-decided s = rw (prefix-decides s)

@@ -17,19 +17,19 @@ use borrow.Author.Tests.{ne_eqb}
 use lib.Dec.{eqb}
 use lib.ListN.{get_or, take, drop}
 use Rattle.refinement.specs.Order.{◌∈◌}
-use Rattle.table.specs.Summing.{summaryOfRows}
+use Rattle.table.specs.Summing.{summary_of_rows}
 use Rattle.rows.specs.declared.Row.{Row}
 use Rattle.text.specs.Decimal.{decimal}
 use Rattle.text.proofs.Reading.{decimal-inj, decimal-cut, decimal-start}
-use Rattle.reporting.specs.Lines.{class, refused, sign, line, row_line, row_lines, classLines, tableText}
+use Rattle.reporting.specs.Lines.{class, refused, sign, line, row_line, row_lines, class_lines, table_text}
 
 -- a row as tables hold them: the numbers have 64 bits, and the direction is one of the two
 pub record Printable (r : Row) : Type 0 where
   pub number_fits : r.number < 2 ^ 64
-  pub left-a-fits : r.left_a < 2 ^ 64
-  pub left-b-fits : r.left_b < 2 ^ 64
-  pub length-fits : r.length < 2 ^ 64
-  pub a-direction : r.direction < 2
+  pub left_a_fits : r.left_a < 2 ^ 64
+  pub left_b_fits : r.left_b < 2 ^ 64
+  pub length_fits : r.length < 2 ^ 64
+  pub a_direction : r.direction < 2
 
 -- every row of a table is
 abbrev pub AllPrintable : List Row → Type 0
@@ -56,14 +56,14 @@ row_cut r r' {s} {t} h h' e =
     let c = decimal-cut r.left_b r'.left_b (omega arith) b.1 in
     let d = decimal-cut r.length r'.length (omega arith) c.1 in
     let number = decimal-inj h.number_fits h'.number_fits a.0 in
-    let leftA = decimal-inj h.left-a-fits h'.left-a-fits b.0 in
-    let leftB = decimal-inj h.left-b-fits h'.left-b-fits c.0 in
-    let letters = decimal-inj h.length-fits h'.length-fits d.0 in
-    let direction = sign-inj r.direction r'.direction h.a-direction h'.a-direction (ap (take 1) d.1) in (
+    let left_a = decimal-inj h.left_a_fits h'.left_a_fits b.0 in
+    let left_b = decimal-inj h.left_b_fits h'.left_b_fits c.0 in
+    let letters = decimal-inj h.length_fits h'.length_fits d.0 in
+    let direction = sign-inj r.direction r'.direction h.a_direction h'.a_direction (ap (take 1) d.1) in (
       λ i. record {
         number = number i;
-        left_a = leftA i;
-        left_b = leftB i;
+        left_a = left_a i;
+        left_b = left_b i;
         length = letters i;
         direction = direction i;
       },
@@ -76,13 +76,13 @@ row_cut r r' {s} {t} h h' e =
 abbrev first : List ℕ → ℕ
 first text = get_or text 0 99
 
-classes-first : (c : ℕ) (ns : List ℕ) → first (classLines c ns) ≡ 99
-unfolding classLines
+classes-first : (c : ℕ) (ns : List ℕ) → first (class_lines c ns) ≡ 99
+unfolding class_lines
 classes-first c [] = refl
 classes-first c (n ∷ ns) = go (eqb n 0) (classes-first (suc c) ns)
   where
-    go : (empty : Bool) → first (classLines (suc c) ns) ≡ 99
-        → first (cond empty [] (line (class ∷ decimal c ∷ decimal n ∷ [])) ++ classLines (suc c) ns) ≡ 99
+    go : (empty : Bool) → first (class_lines (suc c) ns) ≡ 99
+        → first (cond empty [] (line (class ∷ decimal c ∷ decimal n ∷ [])) ++ class_lines (suc c) ns) ≡ 99
     go true h = h
     go false h = refl
 
@@ -106,14 +106,14 @@ rows_cut (r ∷ rs) (r' ∷ rs') s t h h' c c' e =
 
 -- the lines behind the first two
 abbrev lower : List Row → List ℕ
-lower rs = row_lines rs ++ classLines 0 (summaryOfRows rs).classes
+lower rs = row_lines rs ++ class_lines 0 (summary_of_rows rs).classes
 
 table-cut :
-    (p q count p' q' count' : ℕ) (rs rs' : List Row) → tableText p q count rs ≡ tableText p' q' count' rs'
+    (p q count p' q' count' : ℕ) (rs rs' : List Row) → table_text p q count rs ≡ table_text p' q' count' rs'
     → (decimal p ≡ decimal p') × (decimal q ≡ decimal q') × (decimal count ≡ decimal count') × (lower rs ≡ lower rs')
 table-cut p q count p' q' count' rs rs' e =
-    let s = summaryOfRows rs in
-    let s' = summaryOfRows rs' in
+    let s = summary_of_rows rs in
+    let s' = summary_of_rows rs' in
     let a = decimal-cut p p' (omega arith) (ap (drop 8) (simp append_assoc at e)) in
     let b = decimal-cut q q' (omega arith) a.1 in
     let c = decimal-cut count count' (omega arith) (ap (drop 8) b.1) in
@@ -125,11 +125,11 @@ table-cut p q count p' q' count' rs rs' e =
 
 pub rows-read-back :
     (p q count p' q' count' : ℕ) (rs rs' : List Row) → AllPrintable rs → AllPrintable rs'
-    → tableText p q count rs ≡ tableText p' q' count' rs' → rs ≡ rs'
+    → table_text p q count rs ≡ table_text p' q' count' rs' → rs ≡ rs'
 rows-read-back p q count p' q' count' rs rs' h h' e =
-    let classes = (summaryOfRows rs).classes in
-    let classes' = (summaryOfRows rs').classes in
-    rows_cut rs rs' (classLines 0 classes) (classLines 0 classes') h h' (classes-first 0 classes)
+    let classes = (summary_of_rows rs).classes in
+    let classes' = (summary_of_rows rs').classes in
+    rows_cut rs rs' (class_lines 0 classes) (class_lines 0 classes') h h' (classes-first 0 classes)
     (classes-first 0 classes') (table-cut p q count p' q' count' rs rs' e).3
 
 -- ---- what a text says
@@ -140,7 +140,7 @@ pub data Said : Type 0 where
   refusal : (number place : ℕ) → Said
 
 abbrev pub text_of : Said → List ℕ
-text_of (table p q count rs) = tableText p q count rs
+text_of (table p q count rs) = table_text p q count rs
 text_of (refusal number place) = line (refused ∷ decimal number ∷ decimal place ∷ [])
 
 abbrev pub Sayable : Said → Type 0

@@ -7,11 +7,11 @@ use Prim.Native.Nat.{ℕ}
 use mathlib.Core.Path.{◌≡◌, refl, sym, subst}
 use mathlib.Core.List.{List}
 use lib.ListN.{take}
-use Rattle.reporting.specs.Reporting.{inputRoom, reportOf}
+use Rattle.reporting.specs.Reporting.{input_room, report_of}
 use Rattle.reporting.proofs.Prefix.{report-decided}
 
-pub room-exact : inputRoom ≡ 29707
+pub room-exact : input_room ≡ 29707
 room-exact = refl
 
-pub room-decides : (s : List ℕ) → reportOf (take inputRoom s) ≡ reportOf s
-room-decides s = subst (λ (n : ℕ). reportOf (take n s) ≡ reportOf s) (sym room-exact) (report-decided s)
+pub room-decides : (s : List ℕ) → report_of (take input_room s) ≡ report_of s
+room-decides s = subst (λ (n : ℕ). report_of (take n s) ≡ report_of s) (sym room-exact) (report-decided s)

@@ -1,5 +1,5 @@
 -- Inputs that the program prints alike have the same answer.
---     rowsIn              the rows that a success of the refining call counts
+--     rows_in              the rows that a success of the refining call counts
 --     Says                what there is to say of an input: the call's refusal, or its rows with p, q and the count
 --     says-something      of every input there is something to say ..
 --     says-printed        .. and it is what is printed
@@ -17,7 +17,7 @@ use native.Mathlib.Omega.{arith}
 use lib.ListN.{length, take}
 use Rattle.script.specs.Commands.{bit_of}
 use Rattle.script.specs.Refusals.{number_of, place_of}
-use Rattle.script.specs.Reading.{Reading, admitted, refused, readScript, letters}
+use Rattle.script.specs.Reading.{Reading, admitted, refused, read_script, letters}
 use Rattle.script.specs.Answers.{value, refusal, contents}
 use Rattle.script.specs.Outcomes.{Within, Short, Outcome}
 use Rattle.script.specs.declared.refusal.Refusal.{Refusal}
@@ -31,36 +31,36 @@ use Rattle.refinement.specs.Order.{◌∈◌}
 use Rattle.refinement.specs.Match.{Match}
 use Rattle.refinement.specs.Refinement.{Piece}
 use Rattle.refinement.proofs.Theorem.{table_resolved}
-use Rattle.rows.specs.Rows.{rowWidth, rows_of}
+use Rattle.rows.specs.Rows.{row_width, rows_of}
 use Rattle.rows.specs.declared.Row.{Row}
-use Rattle.refining.specs.Rows.{rowOfPiece}
-use Rattle.refining.specs.Refining.{numbered, givenBy, leastOf, Refining, refiningOfMatches}
-use Rattle.refining.specs.Refining.{refiningOfReading, refiningOf}
+use Rattle.refining.specs.Rows.{row_of_piece}
+use Rattle.refining.specs.Refining.{numbered, given_by, least_of, Refining, refining_of_matches}
+use Rattle.refining.specs.Refining.{refining_of_reading, refining_of}
 use Rattle.refining.specs.declared.answers.Refined.{Refined}
 use Rattle.refining.specs.declared.answers.Refined.TheVariants.{Rows, Refused}
 use Rattle.refining.proofs.Numbered.{admitted_of, admitted-matches}
 use Rattle.refining.proofs.RefiningCases.{refining-refused, short, crowded, writing, Case, refusing, matched, case}
-use Rattle.reporting.specs.Lines.{refusalText}
-use Rattle.reporting.specs.Reporting.{lentTable, lentWork, reportOfReply, reportOfReading, reportOf}
-use Rattle.reporting.proofs.LeastRows.{least-rows}
+use Rattle.reporting.specs.Lines.{refusal_text}
+use Rattle.reporting.specs.Reporting.{lent_table, lent_work, report_of_reply, report_of_reading, report_of}
+use Rattle.reporting.proofs.LeastRows.{least_rows}
 use Rattle.reporting.proofs.ReadBack.{Printable, Said, text_of, Sayable, text-read-back}
 
 -- the rows that a success counts
-abbrev pub rowsIn : Refining → ℕ → List Row
-rowsIn x n = rows_of (take (rowWidth * n) x.table)
+abbrev pub rows_in : Refining → ℕ → List Row
+rows_in x n = rows_of (take (row_width * n) x.table)
 
 -- what the program's call of refining answers and leaves
 abbrev pub refined : List ℕ → Refining
-refined script = refiningOf script lentTable lentWork
+refined script = refining_of script lent_table lent_work
 
 pub data Says (script : List ℕ) : Said → Type 0 where
   -- the refusal's number and place
   refuses : {r : Refusal} → (refined script).reply ≡ Refused r → Says script (Said.refusal (number_of r) (place_of r))
   -- p and q, the count of matches, and the rows
   lists :
-      {p q n : ℕ} {ms : List ScriptMatch} {ks : List Mark} → readScript script ≡ admitted (p ∷ q ∷ []) ms ks
+      {p q n : ℕ} {ms : List ScriptMatch} {ks : List Mark} → read_script script ≡ admitted (p ∷ q ∷ []) ms ks
       → (refined script).reply ≡ Rows n
-      → Says script (Said.table p q (length ms) (rowsIn (refined script) n))
+      → Says script (Said.table p q (length ms) (rows_in (refined script) n))
 
 -- ---- the numbers of refusals
 
@@ -73,20 +73,20 @@ short-place (Short.ran_out r _) = omega (arith, reach-place r)
 outcome-sayable : {s : List ℕ} {number place : ℕ} → Outcome s (refusal number place)
     → Sayable (Said.refusal number place)
 outcome-sayable (Outcome.headless _) = omega arith
-outcome-sayable (Outcome.unknown-command r _ _ _ _ _ _) = omega (arith, reach-place r)
+outcome-sayable (Outcome.unknown_command r _ _ _ _ _ _) = omega (arith, reach-place r)
 outcome-sayable (Outcome.cut_short h) = omega (arith, short-place h)
-outcome-sayable (Outcome.second-lengths r _) = omega (arith, reach-place r)
-outcome-sayable (Outcome.length-out-of-range _ _) = omega arith
-outcome-sayable (Outcome.too-many-matches r _ _) = omega (arith, reach-place r)
-outcome-sayable (Outcome.empty-match r _ _ _) = omega (arith, reach-place r)
-outcome-sayable (Outcome.beyond-a r _ _ _ _) = omega (arith, reach-place r)
-outcome-sayable (Outcome.beyond-b r _ _ _ _ _) = omega (arith, reach-place r)
+outcome-sayable (Outcome.second_lengths r _) = omega (arith, reach-place r)
+outcome-sayable (Outcome.length_out_of_range _ _) = omega arith
+outcome-sayable (Outcome.too_many_matches r _ _) = omega (arith, reach-place r)
+outcome-sayable (Outcome.empty_match r _ _ _) = omega (arith, reach-place r)
+outcome-sayable (Outcome.beyond_a r _ _ _ _) = omega (arith, reach-place r)
+outcome-sayable (Outcome.beyond_b r _ _ _ _ _) = omega (arith, reach-place r)
 outcome-sayable (Outcome.tail r _ _) = omega (arith, reach-place r)
-outcome-sayable (Outcome.too-many-marks r _ _) = omega (arith, reach-place r)
-outcome-sayable (Outcome.no-such-side r _ _ _) = omega (arith, reach-place r)
-outcome-sayable (Outcome.mark-beyond r _ _ _) = omega (arith, reach-place r)
+outcome-sayable (Outcome.too_many_marks r _ _) = omega (arith, reach-place r)
+outcome-sayable (Outcome.no_such_side r _ _ _) = omega (arith, reach-place r)
+outcome-sayable (Outcome.mark_beyond r _ _ _) = omega (arith, reach-place r)
 
-refusal-sayable : (script table work : List ℕ) {r : Refusal} → (refiningOf script table work).reply ≡ Refused r
+refusal-sayable : (script table work : List ℕ) {r : Refusal} → (refining_of script table work).reply ≡ Refused r
     → Sayable (Said.refusal (number_of r) (place_of r))
 refusal-sayable script table work {r} e = go (case script table work) e
   where
@@ -102,11 +102,11 @@ refusal-sayable script table work {r} e = go (case script table work) e
 numbered-fits :
     {p q : ℕ} {m : Match} (n : ℕ) (ms : List ScriptMatch) → ((x : ScriptMatch) → x ∈ ms → Within p q x)
     → m ∈ numbered n ms
-    → (m.number < n + length ms) × (m.leftA + m.length ≤ p) × (m.leftB + m.length ≤ q)
+    → (m.number < n + length ms) × (m.left_a + m.length ≤ p) × (m.left_b + m.length ≤ q)
 numbered-fits n [] h i = absurd (Memᴰ.not-nil i)
 numbered-fits n (x ∷ ms) h i =
     ⊎_elim
-    (λ e. rw e (omega (arith, (h x (here refl)).in-a, (h x (here refl)).in_b)))
+    (λ e. rw e (omega (arith, (h x (here refl)).in_a, (h x (here refl)).in_b)))
     (λ j. omega (arith, numbered-fits (suc n) ms (λ y k. h y (there k)) j))
     (Memᴰ.cases_cons i)
 
@@ -115,32 +115,32 @@ direction-few false = omega arith
 direction-few true = omega arith
 
 piece-printable :
-    {m r : Match} → Piece m r → m.number < 2 ^ 64 → m.leftA + m.length < 2 ^ 64 → m.leftB + m.length < 2 ^ 64
-    → Printable (rowOfPiece r)
-piece-printable {r = r} piece number on-a on-b = record {
+    {m r : Match} → Piece m r → m.number < 2 ^ 64 → m.left_a + m.length < 2 ^ 64 → m.left_b + m.length < 2 ^ 64
+    → Printable (row_of_piece r)
+piece-printable {r = r} piece number on_a on_b = record {
   number_fits = omega (arith, piece.same_number);
-  left-a-fits = omega (arith, piece.ends-within A);
-  left-b-fits = omega (arith, piece.ends-within B);
-  length-fits = omega (arith, piece.ends-within A);
-  a-direction = direction-few r.reversed;
+  left_a_fits = omega (arith, piece.ends_within A);
+  left_b_fits = omega (arith, piece.ends_within B);
+  length_fits = omega (arith, piece.ends_within A);
+  a_direction = direction-few r.reversed;
 }
 
 table-sayable :
     (script table work : List ℕ) {p q n : ℕ} {ms : List ScriptMatch} {ks : List Mark}
-    → readScript script ≡ admitted (p ∷ q ∷ []) ms ks
-    → (refiningOf script table work).reply ≡ Rows n
-    → Sayable (Said.table p q (length ms) (rowsIn (refiningOf script table work) n))
+    → read_script script ≡ admitted (p ∷ q ∷ []) ms ks
+    → (refining_of script table work).reply ≡ Rows n
+    → Sayable (Said.table p q (length ms) (rows_in (refining_of script table work) n))
 table-sayable script table work {p} {q} {n} {ms} {ks} read e = go (read-outcome read)
   where
     go : Outcome script (value (contents (p ∷ q ∷ []) ms ks))
-        → Sayable (Said.table p q (length ms) (rowsIn (refiningOf script table work) n))
-    go (Outcome.is-admitted r _ _) = (
+        → Sayable (Said.table p q (length ms) (rows_in (refining_of script table work) n))
+    go (Outcome.is_admitted r _ _) = (
       omega (arith, (reach-range r).0.few),
       omega (arith, (reach-range r).1.few),
       omega (arith, reach-place r),
-      rw (least-rows script table work (admitted_of read) e).rows (λ x i.
-          let resolved = table_resolved (numbered 1 ms) (givenBy ms ks).marks (admitted-matches (admitted_of read)) in
-          let f = Memᴰ.of_map rowOfPiece (leastOf (givenBy ms ks)) i in
+      rw (least_rows script table work (admitted_of read) e).rows (λ x i.
+          let resolved = table_resolved (numbered 1 ms) (given_by ms ks).marks (admitted-matches (admitted_of read)) in
+          let f = Memᴰ.of_map row_of_piece (least_of (given_by ms ks)) i in
           let o = resolved.refines.pieces f.0 f.1 in
           let m = numbered-fits 1 ms (λ y k. reach-within r k) o.1 in
           subst Printable f.2
@@ -150,41 +150,41 @@ table-sayable script table work {p} {q} {n} {ms} {ks} read e = go (read-outcome 
 
 -- ---- the laws
 
-refused-no-rows : (script table work : List ℕ) {r : Refusal} {n : ℕ} → readScript script ≡ refused r
-    → (refiningOf script table work).reply ≡ Rows n → ⊥
+refused-no-rows : (script table work : List ℕ) {r : Refusal} {n : ℕ} → read_script script ≡ refused r
+    → (refining_of script table work).reply ≡ Rows n → ⊥
 refused-no-rows script table work read e =
     let replied = refining-refused script table work read in
     let z : ◌≡◌ {A = ℕ} 0 1 = cc in
     omega arith
 
 pub says-something : (script : List ℕ) → (a : Said) × Says script a
-says-something script = go (readScript script) refl (refined script).reply refl
+says-something script = go (read_script script) refl (refined script).reply refl
   where
-    go : (x : Reading) → readScript script ≡ x → (y : Refined) → (refined script).reply ≡ y
+    go : (x : Reading) → read_script script ≡ x → (y : Refined) → (refined script).reply ≡ y
         → (a : Said) × Says script a
     go x read (Refined.Refused r) e = (Said.refusal (number_of r) (place_of r), refuses e)
     go (admitted ls ms ks) read (Refined.Rows n) e =
         (_, lists (read ∙ ap (λ l. admitted l ms ks) (admitted-ended read).lengths) e)
-    go (refused r) read (Refined.Rows n) e = absurd (refused-no-rows script lentTable lentWork read e)
+    go (refused r) read (Refined.Rows n) e = absurd (refused-no-rows script lent_table lent_work read e)
 
-pub says-printed : {script : List ℕ} {a : Said} → Says script a → reportOf script ≡ text_of a
-unfolding reportOf refiningOf
-says-printed {script} (refuses {r} e) = go (readScript script) e
+pub says-printed : {script : List ℕ} {a : Said} → Says script a → report_of script ≡ text_of a
+unfolding report_of refining_of
+says-printed {script} (refuses {r} e) = go (read_script script) e
   where
-    go : (x : Reading) → (refiningOfReading x lentTable lentWork).reply ≡ Refused r → reportOfReading x ≡ refusalText r
-    go (refused r') e = let same : r' ≡ r = cc in ap refusalText same
+    go : (x : Reading) → (refining_of_reading x lent_table lent_work).reply ≡ Refused r → report_of_reading x ≡ refusal_text r
+    go (refused r') e = let same : r' ≡ r = cc in ap refusal_text same
     go (admitted ls ms ks) e =
-        let x = refiningOfMatches (givenBy ms ks) lentTable lentWork in
-        ap (reportOfReply (letters ls 0) (letters ls 1) (length ms) x.table) e
+        let x = refining_of_matches (given_by ms ks) lent_table lent_work in
+        ap (report_of_reply (letters ls 0) (letters ls 1) (length ms) x.table) e
 says-printed (lists {p} {q} {ms = ms} {ks = ks} read e) =
     rw read
-    (ap (reportOfReply p q (length ms) (refiningOfMatches (givenBy ms ks) lentTable lentWork).table) (rw read at e))
+    (ap (report_of_reply p q (length ms) (refining_of_matches (given_by ms ks) lent_table lent_work).table) (rw read at e))
 
 says-sayable : {script : List ℕ} {a : Said} → Says script a → Sayable a
-says-sayable {script} (refuses e) = refusal-sayable script lentTable lentWork e
-says-sayable {script} (lists read e) = table-sayable script lentTable lentWork read e
+says-sayable {script} (refuses e) = refusal-sayable script lent_table lent_work e
+says-sayable {script} (lists read e) = table-sayable script lent_table lent_work read e
 
 pub reports-read-back : {script script' : List ℕ} {a b : Said} → Says script a → Says script' b
-    → reportOf script ≡ reportOf script' → a ≡ b
+    → report_of script ≡ report_of script' → a ≡ b
 reports-read-back {a = a} {b = b} s s' e =
     text-read-back a b (says-sayable s) (says-sayable s') (sym (says-printed s) ∙ e ∙ says-printed s')

@@ -1,14 +1,14 @@
 -- The lines of the printed text. TO READ: contracts mean what stands here.
 --     line ws          the words ws apart by blanks, and a newline behind
---     refusalText r    the one line of a refusal
+--     refusal_text r    the one line of a refusal
 --     row_line r        the line of a row
---     classLines c ns  the lines of the classes from c on, whose counts are ns
---     tableText        the whole text of a table
+--     class_lines c ns  the lines of the classes from c on, whose counts are ns
+--     table_text        the whole text of a table
 -- 01, "One run, complete". Numbers are in decimal, without leading zeros. Assumes nothing.
 use Rattle.std.specs.Prelude.{ℕ, suc, cond, List, [], ◌∷◌, ◌++◌, get_or, eqb}
 use Rattle.script.specs.Refusals.{number_of, place_of}
 use Rattle.script.specs.declared.refusal.Refusal.{Refusal}
-use Rattle.table.specs.Summing.{summaryOfRows}
+use Rattle.table.specs.Summing.{summary_of_rows}
 use Rattle.rows.specs.declared.Row.{Row}
 use Rattle.table.specs.declared.summing.Summary.{Summary}
 use Rattle.text.specs.Decimal.{decimal}
@@ -56,20 +56,20 @@ line (w ∷ []) = w ++ 10 ∷ []
 line (w ∷ v ∷ ws) = w ++ 32 ∷ line (v ∷ ws)
 
 -- SCOPE, "Refusal line": the word, the number and the place
-abbrev pub refusalText : Refusal → List ℕ
-refusalText r = line (refused ∷ decimal (number_of r) ∷ decimal (place_of r) ∷ [])
+abbrev pub refusal_text : Refusal → List ℕ
+refusal_text r = line (refused ∷ decimal (number_of r) ∷ decimal (place_of r) ∷ [])
 
 -- SCOPE, "Text": line one, with p and q
-abbrev pub lengthsLine : ℕ → ℕ → List ℕ
-lengthsLine p q = line (lengths ∷ decimal p ∷ decimal q ∷ [])
+abbrev pub lengths_line : ℕ → ℕ → List ℕ
+lengths_line p q = line (lengths ∷ decimal p ∷ decimal q ∷ [])
 
 -- SCOPE, "Text": what line two ends in; of the covers ns the first is for A and the second for B
-abbrev pub coversWords : List ℕ → List (List ℕ)
-coversWords ns = covers ∷ decimal (get_or ns 0 0) ∷ decimal (get_or ns 1 0) ∷ []
+abbrev pub covers_words : List ℕ → List (List ℕ)
+covers_words ns = covers ∷ decimal (get_or ns 0 0) ∷ decimal (get_or ns 1 0) ∷ []
 
 -- SCOPE, "Text": line two, with the count of matches and the numbers of the summary
-abbrev pub summaryLine : ℕ → Summary → List ℕ
-summaryLine count s =
+abbrev pub summary_line : ℕ → Summary → List ℕ
+summary_line count s =
     line
     (matches
     ∷ decimal count
@@ -77,7 +77,7 @@ summaryLine count s =
     ∷ decimal s.pieces
     ∷ distinct
     ∷ decimal s.distinct
-    ∷ coversWords s.covers)
+    ∷ covers_words s.covers)
 
 -- SCOPE, "Text": the line of a row
 abbrev pub row_line : Row → List ℕ
@@ -95,15 +95,15 @@ row_lines [] = []
 row_lines (r ∷ rs) = row_line r ++ row_lines rs
 
 -- a class that has pieces has a line
-abbrev pub classLine : ℕ → ℕ → List ℕ
-classLine c n = cond (eqb n 0) [] (line (class ∷ decimal c ∷ decimal n ∷ []))
+abbrev pub class_line : ℕ → ℕ → List ℕ
+class_line c n = cond (eqb n 0) [] (line (class ∷ decimal c ∷ decimal n ∷ []))
 
 -- SCOPE, "Text": the lines of the classes, rising, without the empty ones
-unfoldable pub classLines : ℕ → List ℕ → List ℕ
-classLines c [] = []
-classLines c (n ∷ ns) = classLine c n ++ classLines (suc c) ns
+unfoldable pub class_lines : ℕ → List ℕ → List ℕ
+class_lines c [] = []
+class_lines c (n ∷ ns) = class_line c n ++ class_lines (suc c) ns
 
-abbrev pub tableText : ℕ → ℕ → ℕ → List Row → List ℕ
-tableText p q count rows =
-    let s = summaryOfRows rows in
-    lengthsLine p q ++ summaryLine count s ++ row_lines rows ++ classLines 0 s.classes
+abbrev pub table_text : ℕ → ℕ → ℕ → List Row → List ℕ
+table_text p q count rows =
+    let s = summary_of_rows rows in
+    lengths_line p q ++ summary_line count s ++ row_lines rows ++ class_lines 0 s.classes

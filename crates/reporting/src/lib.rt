@@ -1,5 +1,6 @@
 // What is printed: the answer of the call that makes the text. specs/ has the text of every input and what the call
 // does, proofs/ the laws of it. There is no function here: the call is `report`'s.
+#![tactic(auto)]
 
 // The length of the text; or the length that it needs, and then nothing is written.
 #[derive(Drop)]

@@ -22,12 +22,12 @@ use lib.Seq.{take_all}
 use Rattle.refinement.specs.declared.Side.{Side}
 use Rattle.rows.specs.Rows.{row_at}
 use Rattle.rows.specs.declared.Row.{Row}
-use Rattle.table.specs.Tally.{within, isCovered}
+use Rattle.table.specs.Tally.{within, is_covered}
 use Rattle.table.proofs.Pieces.{and_left, and_right}
 use Rattle.table.proofs.Covers.{covered_more}
 use Rattle.table.proofs.Tally.{within-true, within-before, within-behind}
-use Rattle.stretches.specs.Stores.{Rooms, underStore, Added}
-use Rattle.row_stretches.specs.Passes.{end, StretchOf, store_of, run_of, underPass, Running, TakenIn, Passed}
+use Rattle.stretches.specs.Stores.{Rooms, under_store, Added}
+use Rattle.row_stretches.specs.Passes.{end, StretchOf, store_of, run_of, under_pass, Running, TakenIn, Passed}
 use Rattle.row_stretches.specs.Passes.{Gathered}
 use Rattle.stretches.specs.declared.Stretch.{Stretch}
 use Rattle.stretches.specs.declared.Store.{Store}
@@ -96,7 +96,7 @@ module _ {from : ℕ} {lows highs : List ℕ} {p : Pass} (run : Running from low
             let none : within x.low x.high h ≡ false =
             ⊎_elim (λ t. within-behind x.low x.high h (omega arith))
             (λ t. within-before x.low x.high h (omega arith)) out in
-            rw none (sym (or-false (underPass lows highs p h)));
+            rw none (sym (or-false (under_pass lows highs p h)));
       }
 
   pub taken-joined : {low high : ℕ} → low ≡ min p.low x.low → high ≡ max p.high x.high
@@ -113,7 +113,7 @@ module _ {from : ℕ} {lows highs : List ℕ} {p : Pass} (run : Running from low
         more = λ h l l'.
             rw (at_low, at_high, joined p.low p.high x.low x.high h run.order forward touch touch')
             (or-aside (within p.low p.high h) (within x.low x.high h)
-            (underStore lows highs (store_of p) h));
+            (under_store lows highs (store_of p) h));
       }
 
   pub taken-put : {lows' highs' : List ℕ} {store : Store}
@@ -125,7 +125,7 @@ module _ {from : ℕ} {lows highs : List ℕ} {p : Pass} (run : Running from low
         running = record { held = a.held; order = forward };
         shorter = a.shorter;
         more = λ h l l'.
-            rw (a.more h l l') (or_comm (within x.low x.high h) (underPass lows highs p h));
+            rw (a.more h l l') (or_comm (within x.low x.high h) (under_pass lows highs p h));
       }
 
 -- ---- all rows
@@ -149,11 +149,11 @@ pub record Passing (s : Side) (rs : List Row) (from : ℕ) (lows highs : List �
   pub rows : k ≤ length rs
   pub running : Running from lows highs p
   pub shorter : p.to ≤ end
-  pub all : (h : ℕ) → from ≤ h → h < p.to → underPass lows highs p h ≡ isCovered s (take k rs) h
+  pub all : (h : ℕ) → from ≤ h → h < p.to → under_pass lows highs p h ≡ is_covered s (take k rs) h
 
 pub passing-starts : (s : Side) (rs : List Row) {from to : ℕ} (lows highs : List ℕ) → length highs ≡ length lows
     → from < to → to ≤ end → Passing s rs from lows highs (record { used = 0; to = to; low = from; high = from }) 0
-unfolding isCovered
+unfolding is_covered
 passing-starts s rs {from} {to} lows highs as_many onward inside =
     record {
       rows = omega arith;

@@ -2,16 +2,16 @@
 --     end                            no stretch ends there or behind
 --     StretchOf s r x                x is the stretch that the row r has on the side s
 --     store_of p, run_of p             what a pass has stored, and its run of touching stretches
---     underPass lows highs p h       the letter behind h is under either
+--     under_pass lows highs p h       the letter behind h is under either
 --     Running from lows highs p      both are in order, for a window from `from` on
 --     TakenIn, Passed                both after one more stretch, and after those of all rows
 --     Gathered                       what is stored after all rows
 -- Assumes nothing.
 use Rattle.std.specs.Prelude.{ℕ, ◌^◌, ◌≤◌, ◌<◌, Bool, ◌||◌, ◌≡◌, List}
 use Rattle.refinement.specs.declared.Side.{Side}
-use Rattle.table.specs.Covering.{left_of, rightOf}
-use Rattle.table.specs.Tally.{within, isCovered}
-use Rattle.stretches.specs.Stores.{Held, underStore}
+use Rattle.table.specs.Covering.{left_of, right_of}
+use Rattle.table.specs.Tally.{within, is_covered}
+use Rattle.stretches.specs.Stores.{Held, under_store}
 use Rattle.stretches.specs.declared.Stretch.{Stretch}
 use Rattle.stretches.specs.declared.Store.{Store}
 use Rattle.rows.specs.declared.Row.{Row}
@@ -22,7 +22,7 @@ end = 2 ^ 33
 
 pub record StretchOf (s : Side) (r : Row) (x : Stretch) : Type 0 where
   pub left : x.low ≡ left_of s r
-  pub right : x.high ≡ rightOf s r
+  pub right : x.high ≡ right_of s r
 
 -- the store of a pass, and its run
 abbrev pub store_of : Pass → Store
@@ -32,8 +32,8 @@ abbrev pub run_of : Pass → Stretch
 run_of p = record { low = p.low; high = p.high }
 
 -- the letters under both
-abbrev pub underPass : List ℕ → List ℕ → Pass → ℕ → Bool
-underPass lows highs p h = within p.low p.high h || underStore lows highs (store_of p) h
+abbrev pub under_pass : List ℕ → List ℕ → Pass → ℕ → Bool
+under_pass lows highs p h = within p.low p.high h || under_store lows highs (store_of p) h
 
 pub record Running (from : ℕ) (lows highs : List ℕ) (p : Pass) : Type 0 where
   pub held : Held from lows highs (store_of p)
@@ -44,14 +44,14 @@ pub record TakenIn (from : ℕ) (x : Stretch) (L H : List ℕ) (before : Pass) (
   pub running : Running from lows highs p
   pub shorter : p.to ≤ before.to
   pub more : (h : ℕ) → from ≤ h → h < p.to
-      → underPass lows highs p h ≡ (underPass L H before h || within x.low x.high h)
+      → under_pass lows highs p h ≡ (under_pass L H before h || within x.low x.high h)
 
 pub record Passed (s : Side) (rs : List Row) (from : ℕ) (lows highs : List ℕ) (p : Pass) : Type 0 where
   pub running : Running from lows highs p
   pub shorter : p.to ≤ end
-  pub all : (h : ℕ) → from ≤ h → h < p.to → underPass lows highs p h ≡ isCovered s rs h
+  pub all : (h : ℕ) → from ≤ h → h < p.to → under_pass lows highs p h ≡ is_covered s rs h
 
 pub record Gathered (s : Side) (rs : List Row) (from : ℕ) (lows highs : List ℕ) (store : Store) : Type 0 where
   pub held : Held from lows highs store
   pub shorter : store.to ≤ end
-  pub all : (h : ℕ) → from ≤ h → h < store.to → underStore lows highs store h ≡ isCovered s rs h
+  pub all : (h : ℕ) → from ≤ h → h < store.to → under_store lows highs store h ≡ is_covered s rs h

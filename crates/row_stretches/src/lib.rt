@@ -1,6 +1,7 @@
 // The stretches that the rows of a table have on a side, gathered in a window of letters: a pass over the table joins a
 // row's stretch with the next ones while they touch, and stores what is joined. Where there is not room for all, the
 // store has cut the window short.
+#![tactic(auto)]
 ghost use Rattle.std.specs.Prelude.{◌≤◌, ◌<◌, ◌≡◌, ◌&&◌, length, leb};
 ghost use Rattle.rows.specs.Rows.{rows_of, row_at};
 ghost use Rattle.stretches.specs.Stores.{Rooms};

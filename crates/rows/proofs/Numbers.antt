@@ -10,31 +10,31 @@ use mathlib.Core.List.{List, [], ◌∷◌, ◌++◌, append-nil}
 use native.Mathlib.Omega.{arith}
 use lib.ListN.{length, length-append}
 use Rattle.rows.specs.declared.Row.{Row}
-use Rattle.rows.specs.Rows.{rowWidth, firstRows, rows_of, rowNumbers, numbersOf}
+use Rattle.rows.specs.Rows.{row_width, first_rows, rows_of, row_numbers, numbers_of}
 use Rattle.rows.proofs.TableRows.{rows-length}
 
-pub numbers-length : (rs : List Row) → length (numbersOf rs) ≡ rowWidth * length rs
-unfolding numbersOf
+pub numbers-length : (rs : List Row) → length (numbers_of rs) ≡ row_width * length rs
+unfolding numbers_of
 numbers-length [] = refl
 numbers-length (r ∷ rs) = omega (arith, numbers-length rs)
 
-pub numbers-append : (rs qs : List Row) → numbersOf (rs ++ qs) ≡ numbersOf rs ++ numbersOf qs
-unfolding numbersOf
+pub numbers-append : (rs qs : List Row) → numbers_of (rs ++ qs) ≡ numbers_of rs ++ numbers_of qs
+unfolding numbers_of
 numbers-append [] qs = refl
-numbers-append (r ∷ rs) qs = ap (λ ns. rowNumbers r ++ ns) (numbers-append rs qs)
+numbers-append (r ∷ rs) qs = ap (λ ns. row_numbers r ++ ns) (numbers-append rs qs)
 
-first-rows-back : (rs : List Row) (rest : List ℕ) → firstRows (length rs) (numbersOf rs ++ rest) ≡ rs
-unfolding numbersOf firstRows
+first-rows-back : (rs : List Row) (rest : List ℕ) → first_rows (length rs) (numbers_of rs ++ rest) ≡ rs
+unfolding numbers_of first_rows
 first-rows-back [] rest = refl
 first-rows-back (r ∷ rs) rest = ap (λ (qs : List Row). r ∷ qs) (first-rows-back rs rest)
 
-pub rows_back : (rs : List Row) (rest : List ℕ) → length rest < rowWidth → rows_of (numbersOf rs ++ rest) ≡ rs
+pub rows_back : (rs : List Row) (rest : List ℕ) → length rest < row_width → rows_of (numbers_of rs ++ rest) ≡ rs
 unfolding rows_of
 rows_back rs rest short =
-    let t = numbersOf rs ++ rest in
-    let long = length-append (numbersOf rs) rest in
+    let t = numbers_of rs ++ rest in
+    let long = length-append (numbers_of rs) rest in
     let counted : length (rows_of t) ≡ length rs = omega (arith, rows-length t, long, numbers-length rs) in
-    ap (λ (n : ℕ). firstRows n t) (sym (rows-length t) ∙ counted) ∙ first-rows-back rs rest
+    ap (λ (n : ℕ). first_rows n t) (sym (rows-length t) ∙ counted) ∙ first-rows-back rs rest
 
-pub rows_whole : (rs : List Row) → rows_of (numbersOf rs) ≡ rs
-rows_whole rs = ap rows_of (sym (append-nil (numbersOf rs))) ∙ rows_back rs [] (omega arith)
+pub rows_whole : (rs : List Row) → rows_of (numbers_of rs) ≡ rs
+rows_whole rs = ap rows_of (sym (append-nil (numbers_of rs))) ∙ rows_back rs [] (omega arith)

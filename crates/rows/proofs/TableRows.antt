@@ -14,40 +14,40 @@ use native.Mathlib.Nat.{le_of_suc-le-suc, not-suc-le-zero, add-zero}
 use lib.ListN.{length, get_or, take, drop}
 use lib.Seq.{take-suc, drop-drop, get_or-drop}
 use Rattle.rows.specs.declared.Row.{Row}
-use Rattle.rows.specs.Rows.{rowWidth, row_of, firstRows, rows_of, row_at}
+use Rattle.rows.specs.Rows.{row_width, row_of, first_rows, rows_of, row_at}
 
-first-rows-length : (n : ℕ) (t : List ℕ) → length (firstRows n t) ≡ n
-unfolding firstRows
+first-rows-length : (n : ℕ) (t : List ℕ) → length (first_rows n t) ≡ n
+unfolding first_rows
 first-rows-length zero t = refl
-first-rows-length (suc n) t = ap suc (first-rows-length n (drop rowWidth t))
+first-rows-length (suc n) t = ap suc (first-rows-length n (drop row_width t))
 
-pub rows-length : (t : List ℕ) → length (rows_of t) ≡ length t / rowWidth
+pub rows-length : (t : List ℕ) → length (rows_of t) ≡ length t / row_width
 unfolding rows_of
-rows-length t = first-rows-length (length t / rowWidth) t
+rows-length t = first-rows-length (length t / row_width) t
 
-pub row_inside : (t : List ℕ) (k : ℕ) → k < length (rows_of t) → k * rowWidth + rowWidth ≤ length t
+pub row_inside : (t : List ℕ) (k : ℕ) → k < length (rows_of t) → k * row_width + row_width ≤ length t
 row_inside t k h = omega (arith, rows-length t)
 
-first-rows-held : (n : ℕ) (t : List ℕ) (k : ℕ) → k < n → row_at (firstRows n t) k ≡ row_of (drop (k * rowWidth) t)
-unfolding firstRows
+first-rows-held : (n : ℕ) (t : List ℕ) (k : ℕ) → k < n → row_at (first_rows n t) k ≡ row_of (drop (k * row_width) t)
+unfolding first_rows
 first-rows-held zero t k h = absurd (not-suc-le-zero h)
 first-rows-held (suc n) t zero h = refl
 first-rows-held (suc n) t (suc k) h =
-    let further : rowWidth + k * rowWidth ≡ suc k * rowWidth = omega arith in
-    first-rows-held n (drop rowWidth t) k (le_of_suc-le-suc h)
-    ∙ ap row_of (drop-drop (k * rowWidth) rowWidth t ∙ ap (λ (i : ℕ). drop i t) further)
+    let further : row_width + k * row_width ≡ suc k * row_width = omega arith in
+    first-rows-held n (drop row_width t) k (le_of_suc-le-suc h)
+    ∙ ap row_of (drop-drop (k * row_width) row_width t ∙ ap (λ (i : ℕ). drop i t) further)
 
-pub row-held : (t : List ℕ) (k : ℕ) → k < length (rows_of t) → row_at (rows_of t) k ≡ row_of (drop (k * rowWidth) t)
+pub row-held : (t : List ℕ) (k : ℕ) → k < length (rows_of t) → row_at (rows_of t) k ≡ row_of (drop (k * row_width) t)
 unfolding rows_of
-row-held t k h = first-rows-held (length t / rowWidth) t k (omega (arith, rows-length t))
+row-held t k h = first-rows-held (length t / row_width) t k (omega (arith, rows-length t))
 
 pub row_read : (t : List ℕ) (k : ℕ) → k < length (rows_of t)
     → record {
-      number = get_or t (k * rowWidth) 0;
-      left_a = get_or t (k * rowWidth + 1) 0;
-      left_b = get_or t (k * rowWidth + 2) 0;
-      length = get_or t (k * rowWidth + 3) 0;
-      direction = get_or t (k * rowWidth + 4) 0;
+      number = get_or t (k * row_width) 0;
+      left_a = get_or t (k * row_width + 1) 0;
+      left_b = get_or t (k * row_width + 2) 0;
+      length = get_or t (k * row_width + 3) 0;
+      direction = get_or t (k * row_width + 4) 0;
     }
     ≡ row_at (rows_of t) k
 row_read t k h = rw (row-held t k h) (simp (get_or-drop, add-zero))

@@ -12,10 +12,10 @@ use mathlib.Core.Path.{◌≡◌, refl, sym, ap, ◌∙◌}
 use mathlib.Core.List.{List, [], ◌∷◌, Memᴰ}
 use native.Mathlib.Omega.{arith}
 use lib.ListN.{length}
-use Rattle.script.specs.Limits.{mostMatches, mostMarks, longestScript}
-use Rattle.script.specs.Commands.{matchWidth, markWidth}
-use Rattle.script.specs.Reading.{Reading, admitted, refused, readScript, verdictOf}
-use Rattle.script.specs.Columns.{matchesRead, marksRead}
+use Rattle.script.specs.Limits.{most_matches, most_marks, longest_script}
+use Rattle.script.specs.Commands.{match_width, mark_width}
+use Rattle.script.specs.Reading.{Reading, admitted, refused, read_script, verdict_of}
+use Rattle.script.specs.Columns.{matches_read, marks_read}
 use Rattle.script.specs.Answers.{value, contents}
 use Rattle.script.specs.Outcomes.{InRange, Within, OnSequence, Reach, Outcome}
 use Rattle.script.specs.declared.refusal.Refusal.{Refusal}
@@ -34,53 +34,53 @@ pub record Ended (s ls : List ℕ) (ms : List Match) (ks : List Mark) : Type 0 w
   pub end : at + 1 ≡ length s
 
 ended : {s ls : List ℕ} {ms : List Match} {ks : List Mark} → Outcome s (value (contents ls ms ks)) → Ended s ls ms ks
-ended (Outcome.is-admitted {p} {q} {at} r b e) =
+ended (Outcome.is_admitted {p} {q} {at} r b e) =
     record { p = p; q = q; lengths = refl; at = at; reach = r; end = e }
 
-pub admitted-ended : {s ls : List ℕ} {ms : List Match} {ks : List Mark} → readScript s ≡ admitted ls ms ks
+pub admitted-ended : {s ls : List ℕ} {ms : List Match} {ks : List Mark} → read_script s ≡ admitted ls ms ks
     → Ended s ls ms ks
 admitted-ended e = ended (read-outcome e)
 
-pub admitted-short : (s : List ℕ) {ls : List ℕ} {ms : List Match} {ks : List Mark} → readScript s ≡ admitted ls ms ks
-    → length s ≤ longestScript
+pub admitted-short : (s : List ℕ) {ls : List ℕ} {ms : List Match} {ks : List Mark} → read_script s ≡ admitted ls ms ks
+    → length s ≤ longest_script
 admitted-short s e = let x = admitted-ended e in omega (arith, reach-place x.reach, x.end)
 
 -- each match takes its bytes behind the lengths
 pub matches-few : (s : List ℕ)
-    → (matchWidth * length (matchesRead (readScript s)) ≤ length s)
-    × (length (matchesRead (readScript s)) ≤ mostMatches)
-matches-few s = go (readScript s) refl
+    → (match_width * length (matches_read (read_script s)) ≤ length s)
+    × (length (matches_read (read_script s)) ≤ most_matches)
+matches-few s = go (read_script s) refl
   where
-    go : (x : Reading) → readScript s ≡ x
-        → (matchWidth * length (matchesRead x) ≤ length s) × (length (matchesRead x) ≤ mostMatches)
+    go : (x : Reading) → read_script s ≡ x
+        → (match_width * length (matches_read x) ≤ length s) × (length (matches_read x) ≤ most_matches)
     go (refused f) e = omega arith
     go (admitted ls ms ks) e = let x = admitted-ended e in omega (arith, reach-place x.reach, x.end)
 
 -- and so does each mark
 pub marks-few : (s : List ℕ)
-    → (markWidth * length (marksRead (readScript s)) ≤ length s) × (length (marksRead (readScript s)) ≤ mostMarks)
-marks-few s = go (readScript s) refl
+    → (mark_width * length (marks_read (read_script s)) ≤ length s) × (length (marks_read (read_script s)) ≤ most_marks)
+marks-few s = go (read_script s) refl
   where
-    go : (x : Reading) → readScript s ≡ x
-        → (markWidth * length (marksRead x) ≤ length s) × (length (marksRead x) ≤ mostMarks)
+    go : (x : Reading) → read_script s ≡ x
+        → (mark_width * length (marks_read x) ≤ length s) × (length (marks_read x) ≤ most_marks)
     go (refused f) e = omega arith
     go (admitted ls ms ks) e = let x = admitted-ended e in omega (arith, reach-place x.reach, x.end)
 
 pub record Holds (s : List ℕ) (p q count marks : ℕ) : Type 0 where
   pub matches : List Match
   pub points : List Mark
-  pub read : readScript s ≡ admitted (p ∷ q ∷ []) matches points
+  pub read : read_script s ≡ admitted (p ∷ q ∷ []) matches points
   pub counted : length matches ≡ count
-  pub counted-marks : length points ≡ marks
-  pub few : count ≤ mostMatches
-  pub few-marks : marks ≤ mostMarks
-  pub p-range : InRange p
-  pub q-range : InRange q
+  pub counted_marks : length points ≡ marks
+  pub few : count ≤ most_matches
+  pub few_marks : marks ≤ most_marks
+  pub p_range : InRange p
+  pub q_range : InRange q
   pub tracks : {m : Match} → Memᴰ m matches → (m.track_a ≡ 0) × (m.track_b ≡ 1)
   pub within : {m : Match} → Memᴰ m matches → Within p q m
-  pub on-sequence : {k : Mark} → Memᴰ k points → OnSequence p q k
+  pub on_sequence : {k : Mark} → Memᴰ k points → OnSequence p q k
 
-holds : {s : List ℕ} {p q : ℕ} (ms : List Match) (ks : List Mark) → readScript s ≡ admitted (p ∷ q ∷ []) ms ks
+holds : {s : List ℕ} {p q : ℕ} (ms : List Match) (ks : List Mark) → read_script s ≡ admitted (p ∷ q ∷ []) ms ks
     → {at : ℕ} → Reach s p q at ms ks → Holds s p q (length ms) (length ks)
 holds ms ks e reach =
     record {
@@ -88,30 +88,30 @@ holds ms ks e reach =
       points = ks;
       read = e;
       counted = refl;
-      counted-marks = refl;
+      counted_marks = refl;
       few = (reach-place reach).1.0;
-      few-marks = (reach-place reach).1.1;
-      p-range = (reach-range reach).0;
-      q-range = (reach-range reach).1;
+      few_marks = (reach-place reach).1.1;
+      p_range = (reach-range reach).0;
+      q_range = (reach-range reach).1;
       tracks = λ x. reach-tracks reach x;
       within = λ x. reach-within reach x;
-      on-sequence = λ x. reach-on reach x;
+      on_sequence = λ x. reach-on reach x;
     }
 
-module _ (s : List ℕ) {told : Verdict} (reads : told ≡ verdictOf (readScript s)) where
+module _ (s : List ℕ) {told : Verdict} (reads : told ≡ verdict_of (read_script s)) where
   -- the verdict is the reading's own
-  verdict-of : {v : Verdict} {reading : Reading} → told ≡ v → readScript s ≡ reading → verdictOf reading ≡ v
-  verdict-of v x = sym (ap verdictOf x) ∙ sym reads ∙ v
+  verdict-of : {v : Verdict} {reading : Reading} → told ≡ v → read_script s ≡ reading → verdict_of reading ≡ v
+  verdict-of v x = sym (ap verdict_of x) ∙ sym reads ∙ v
 
   pub holds-admitted : {p q count marks : ℕ} → told ≡ Verdict.Admitted p q count marks → Holds s p q count marks
-  holds-admitted {p} {q} {count} {marks} v = go (readScript s) refl
+  holds-admitted {p} {q} {count} {marks} v = go (read_script s) refl
     where
-      go : (reading : Reading) → readScript s ≡ reading → Holds s p q count marks
+      go : (reading : Reading) → read_script s ≡ reading → Holds s p q count marks
       go (refused f) x = let d = verdict-of v x in let z : ◌≡◌ {A = ℕ} 0 1 = cc in absurd (omega arith)
       go (admitted ls ms ks) x =
           let end = admitted-ended x in
           let lengths = end.lengths in
-          let x' : readScript s ≡ admitted (end.p ∷ end.q ∷ []) ms ks = x ∙ ap (λ l. admitted l ms ks) lengths in
+          let x' : read_script s ≡ admitted (end.p ∷ end.q ∷ []) ms ks = x ∙ ap (λ l. admitted l ms ks) lengths in
           let d : Verdict.Admitted end.p end.q (length ms) (length ks) ≡ Verdict.Admitted p q count marks =
           verdict-of v x' in
           let ep : p ≡ end.p = cc in
@@ -120,9 +120,9 @@ module _ (s : List ℕ) {told : Verdict} (reads : told ≡ verdictOf (readScript
           let ek : marks ≡ length ks = cc in
           rw (ep, eq, ec, ek) (holds ms ks x' end.reach)
 
-  pub reading-refused : {f : Refusal} → told ≡ Verdict.Refused f → readScript s ≡ refused f
-  reading-refused {f} v = go (readScript s) refl
+  pub reading-refused : {f : Refusal} → told ≡ Verdict.Refused f → read_script s ≡ refused f
+  reading-refused {f} v = go (read_script s) refl
     where
-      go : (reading : Reading) → readScript s ≡ reading → readScript s ≡ refused f
+      go : (reading : Reading) → read_script s ≡ reading → read_script s ≡ refused f
       go (refused g) x = let d = verdict-of v x in let ef : g ≡ f = cc in x ∙ ap refused ef
       go (admitted ls ms ks) x = let d = verdict-of v x in let z : ◌≡◌ {A = ℕ} 0 1 = cc in absurd (omega arith)

@@ -12,27 +12,27 @@ use mathlib.Core.List.{List, [], ◌∷◌, ◌++◌, map, map-append}
 use native.Mathlib.Omega.{arith}
 use lib.ListN.{length, set, take, drop, length-map}
 use lib.Seq.{sets, sets-eq, length-sets, take_at}
-use Rattle.script.specs.Reading.{Reading, admitted, refused, readScript}
-use Rattle.script.specs.Columns.{matchesRead, marksRead, columnOf, ColumnsRead, MarksRead}
+use Rattle.script.specs.Reading.{Reading, admitted, refused, read_script}
+use Rattle.script.specs.Columns.{matches_read, marks_read, column_of, ColumnsRead, MarksRead}
 use Rattle.script.specs.Answers.{value, Contents, contents}
 use Rattle.script.specs.Outcomes.{Outcome}
-use Rattle.script.specs.Demands.{matchesIn, marksIn, ColumnDemand, ColumnsDemand, MarksDemand}
+use Rattle.script.specs.Demands.{matches_in, marks_in, ColumnDemand, ColumnsDemand, MarksDemand}
 use Rattle.script.proofs.Stores.{sets-append, sets_behind, sets-at}
 use Rattle.script.proofs.Outcome.{outcome-admitted, outcome-refused}
 
 -- what a reading gives of its contents
-abbrev itemsRead : {X : Type 0} → (Contents → List X) → Reading → List X
-itemsRead items (admitted ls ms ks) = items (contents ls ms ks)
-itemsRead items (refused r) = []
+abbrev items_read : {X : Type 0} → (Contents → List X) → Reading → List X
+items_read items (admitted ls ms ks) = items (contents ls ms ks)
+items_read items (refused r) = []
 
 module _ {X Y : Type 0} (s : List ℕ) (items : Contents → List X) (field : X → Y) (column : List Y) where
   -- an outcome's contents are what is read
-  contents-read : (c : Contents) → Outcome s (value c) → itemsRead items (readScript s) ≡ items c
+  contents-read : (c : Contents) → Outcome s (value c) → items_read items (read_script s) ≡ items c
   contents-read (contents ls ms ks) o = rw (outcome-admitted o)
 
-  pub column-demand : {after : List Y} → after ≡ columnOf (itemsRead items (readScript s)) field column
+  pub column-demand : {after : List Y} → after ≡ column_of (items_read items (read_script s)) field column
       → ColumnDemand s items field column after
-  unfolding columnOf
+  unfolding column_of
   column-demand is =
       rw is (record {
         as_long = simp length-sets;
@@ -47,50 +47,50 @@ module _ {X Y : Type 0} (s : List ℕ) (items : Contents → List X) (field : X 
       })
 
 module _ {X Y : Type 0} (xs : List X) (field : X → Y) (column : List Y) where
-  pub column-length : length (columnOf xs field column) ≡ length column
-  unfolding columnOf
+  pub column-length : length (column_of xs field column) ≡ length column
+  unfolding column_of
   column-length = simp length-sets
 
   pub column-next : (x : X)
-      → columnOf (xs ++ x ∷ []) field column ≡ set (columnOf xs field column) (length xs) (field x)
-  unfolding columnOf
+      → column_of (xs ++ x ∷ []) field column ≡ set (column_of xs field column) (length xs) (field x)
+  unfolding column_of
   column-next x =
       let behind : 0 + length (map field xs) ≡ length xs = omega (arith, length-map xs field) in
       rw (map-append)
       (sets-append (map field xs) (field x ∷ []) column 0
       ∙ ap (λ (n : ℕ). set (sets column 0 (map field xs)) n (field x)) behind)
 
-  pub column-filled : length xs ≤ length column → take (length xs) (columnOf xs field column) ≡ map field xs
-  unfolding columnOf
+  pub column-filled : length xs ≤ length column → take (length xs) (column_of xs field column) ≡ map field xs
+  unfolding column_of
   column-filled room =
       let rest : List Y = drop (0 + length (map field xs)) column in
       rw (sets-eq (map field xs) column 0 (omega (arith, length-map xs field)))
       (take_at (map field xs) rest (length xs) (length-map xs field))
 
-matches-items : (r : Reading) → matchesRead r ≡ itemsRead matchesIn r
+matches-items : (r : Reading) → matches_read r ≡ items_read matches_in r
 matches-items (admitted ls ms ks) = refl
 matches-items (refused r) = refl
 
-marks-items : (r : Reading) → marksRead r ≡ itemsRead marksIn r
+marks-items : (r : Reading) → marks_read r ≡ items_read marks_in r
 marks-items (admitted ls ms ks) = refl
 marks-items (refused r) = refl
 
 pub columns-demand : {s a b d a' b' d' : List ℕ} {r r' : List Bool} → ColumnsRead s a b d r a' b' d' r'
     → ColumnsDemand s a b d r a' b' d' r'
 columns-demand {s} {a} {b} {d} {r = r} h =
-    let same = matches-items (readScript s) in
+    let same = matches-items (read_script s) in
     record {
-      left-a = column-demand s matchesIn (λ m. m.left_a) a (rw same at h.left-a);
-      left-b = column-demand s matchesIn (λ m. m.left_b) b (rw same at h.left-b);
-      letters = column-demand s matchesIn (λ m. m.length) d (rw same at h.letters);
-      reversed = column-demand s matchesIn (λ m. m.reversed) r (rw same at h.reversed);
+      left_a = column-demand s matches_in (λ m. m.left_a) a (rw same at h.left_a);
+      left_b = column-demand s matches_in (λ m. m.left_b) b (rw same at h.left_b);
+      letters = column-demand s matches_in (λ m. m.length) d (rw same at h.letters);
+      reversed = column-demand s matches_in (λ m. m.reversed) r (rw same at h.reversed);
     }
 
 pub marks-demand : {s sides positions sides' positions' : List ℕ} → MarksRead s sides positions sides' positions'
     → MarksDemand s sides positions sides' positions'
 marks-demand {s} {sides} {positions} h =
-    let same = marks-items (readScript s) in
+    let same = marks-items (read_script s) in
     record {
-      side = column-demand s marksIn (λ k. k.side) sides (rw same at h.side);
-      position = column-demand s marksIn (λ k. k.position) positions (rw same at h.position);
+      side = column-demand s marks_in (λ k. k.side) sides (rw same at h.side);
+      position = column-demand s marks_in (λ k. k.position) positions (rw same at h.position);
     }

@@ -10,7 +10,7 @@ use mathlib.Core.Logic.{◌⊎◌, inl, inr}
 use mathlib.Core.List.{List, [], ◌∷◌, ◌++◌}
 use native.Mathlib.Omega.{arith}
 use lib.ListN.{length, get_or}
-use Rattle.script.specs.Finding.{foundIn}
+use Rattle.script.specs.Finding.{found_in}
 use Rattle.script.specs.declared.refusal.Refusal.TheVariants.{NoSuchMatch}
 use Rattle.script.specs.declared.command.Match.{Match}
 use Rattle.script.specs.declared.Finding.{Finding}
@@ -28,7 +28,7 @@ numbered-later m (none (inl e)) = absurd (omega arith)
 numbered-later m (none (inr h)) = none (inr (omega arith))
 numbered-later m (behind before after e n) = behind (m ∷ before) after (ap (λ (l : List Match). m ∷ l) e) (omega arith)
 
-pub numbered : (ms : List Match) (number : ℕ) → Numbered ms number (foundIn ms number)
+pub numbered : (ms : List Match) (number : ℕ) → Numbered ms number (found_in ms number)
 numbered [] zero = none (inl refl)
 numbered [] (suc number) = none (inr (omega arith))
 numbered (m ∷ ms) zero = none (inl refl)
@@ -36,22 +36,22 @@ numbered (m ∷ ms) (suc zero) = behind [] ms refl refl
 numbered (m ∷ ms) (suc (suc number)) = numbered-later m (numbered ms (suc number))
 
 pub found-behind : (before after : List Match) (m : Match)
-    → foundIn (before ++ m ∷ after) (suc (length before)) ≡ Finding.Found m
+    → found_in (before ++ m ∷ after) (suc (length before)) ≡ Finding.Found m
 found-behind [] after m = refl
 found-behind (x ∷ before) after m = found-behind before after m
 
-pub found-zero : (ms : List Match) → foundIn ms 0 ≡ Finding.Refused NoSuchMatch
+pub found-zero : (ms : List Match) → found_in ms 0 ≡ Finding.Refused NoSuchMatch
 found-zero [] = refl
 found-zero (m ∷ ms) = refl
 
-pub found-above : (ms : List Match) (number : ℕ) → length ms < number → foundIn ms number ≡ Finding.Refused NoSuchMatch
+pub found-above : (ms : List Match) (number : ℕ) → length ms < number → found_in ms number ≡ Finding.Refused NoSuchMatch
 found-above [] number h = refl
 found-above (m ∷ ms) zero h = absurd (omega arith)
 found-above (m ∷ ms) (suc zero) h = absurd (omega arith)
 found-above (m ∷ ms) (suc (suc number)) h = found-above ms (suc number) (omega arith)
 
 pub found_at : (ms : List Match) (index : ℕ) (blank : Match) → index < length ms
-    → foundIn ms (suc index) ≡ Finding.Found (get_or ms index blank)
+    → found_in ms (suc index) ≡ Finding.Found (get_or ms index blank)
 found_at [] index blank h = absurd (omega arith)
 found_at (m ∷ ms) zero blank h = refl
 found_at (m ∷ ms) (suc index) blank h = found_at ms index blank (omega arith)

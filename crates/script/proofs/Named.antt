@@ -9,7 +9,7 @@ use native.Mathlib.Omega.{arith}
 use lib.ListN.{get_or}
 use Rattle.script.specs.Refusals.{number_of, place_of}
 use Rattle.script.specs.Reading.{Reading, admitted, refused}
-use Rattle.script.specs.Answers.{readingAnswer}
+use Rattle.script.specs.Answers.{reading_answer}
 use Rattle.script.specs.declared.refusal.Refusal.{Refusal}
 use Rattle.script.specs.declared.refusal.Refusal.TheVariants.{Headless, UnknownCommand, CutShort, SecondLengths}
 use Rattle.script.specs.declared.refusal.Refusal.TheVariants.{LengthOutOfRange, TooManyMatches, EmptyMatch}
@@ -20,8 +20,8 @@ use Rattle.script.specs.declared.refusal.Refusal.TheVariants.{PriceTooHigh, Chai
 use Rattle.script.specs.declared.refusal.Refusal.TheVariants.{TooManyMarks, NoSuchSide, MarkBeyond, CountsDiffer}
 
 -- the rows of 01's table, in its order
-abbrev refusalOf : ℕ → ℕ → Refusal
-refusalOf number at =
+abbrev refusal_of : ℕ → ℕ → Refusal
+refusal_of number at =
     get_or
     (Headless ∷ UnknownCommand at ∷ CutShort at ∷ SecondLengths at ∷ LengthOutOfRange ∷ TooManyMatches at
     ∷ EmptyMatch at ∷ BeyondA at ∷ BeyondB at ∷ Tail at ∷ WorkTooShort ∷ TooManyPieces ∷ NoSuchMatch ∷ OffTheMatch
@@ -29,7 +29,7 @@ refusalOf number at =
     ∷ MarkBeyond at ∷ CountsDiffer ∷ [])
     (number - 1) Headless
 
-pub refusal-named : (r : Refusal) → refusalOf (number_of r) (place_of r) ≡ r
+pub refusal-named : (r : Refusal) → refusal_of (number_of r) (place_of r) ≡ r
 refusal-named Headless = refl
 refusal-named (UnknownCommand at) = refl
 refusal-named (CutShort at) = refl
@@ -53,12 +53,12 @@ refusal-named (NoSuchSide at) = refl
 refusal-named (MarkBeyond at) = refl
 refusal-named CountsDiffer = refl
 
-pub answer-inj : (x y : Reading) → readingAnswer x ≡ readingAnswer y → x ≡ y
+pub answer-inj : (x y : Reading) → reading_answer x ≡ reading_answer y → x ≡ y
 answer-inj (admitted ls ms ks) (admitted ls' ms' ks') e = cc
 answer-inj (admitted ls ms ks) (refused r) e = let z : ◌≡◌ {A = ℕ} 0 1 = cc in absurd (omega arith)
 answer-inj (refused r) (admitted ls ms ks) e = let z : ◌≡◌ {A = ℕ} 0 1 = cc in absurd (omega arith)
 answer-inj (refused r) (refused r') e =
     let number : number_of r ≡ number_of r' = cc in
     let place : place_of r ≡ place_of r' = cc in
-    let same : r ≡ r' = sym (refusal-named r) ∙ ap₂ refusalOf number place ∙ refusal-named r' in
+    let same : r ≡ r' = sym (refusal-named r) ∙ ap₂ refusal_of number place ∙ refusal-named r' in
     ap refused same

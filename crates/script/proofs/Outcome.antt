@@ -6,7 +6,7 @@
 --     reach-tracks        each match is between the tracks 0 and 1
 --     reach-within        and lies within p and q
 --     reach-on            each mark lies on A or B
---     behindLengths, behindCommand     what is read from there on
+--     behind_lengths, behind_command     what is read from there on
 --     reach-read          good commands passed, reading goes on behind them
 --     reach-ends          and comes to what the next command does
 --     outcome-alone       any outcome that applies is the computed reading, in 01's numbers and places
@@ -26,12 +26,12 @@ use native.Mathlib.Nat.{lt_of_not-le}
 use native.Mathlib.Numerals.{sub-one}
 use lib.ListN.{length, get_or, drop, length-append}
 use lib.Seq.{drop-drop}
-use Rattle.script.specs.Limits.{mostMatches, mostMarks}
-use Rattle.script.specs.Commands.{lengthsWidth, matchWidth, markWidth, number_at}
-use Rattle.script.specs.Steps.{openingOf, step_of}
+use Rattle.script.specs.Limits.{most_matches, most_marks}
+use Rattle.script.specs.Commands.{lengths_width, match_width, mark_width, number_at}
+use Rattle.script.specs.Steps.{opening_of, step_of}
 use Rattle.script.specs.Refusals.{number_of, place_of}
-use Rattle.script.specs.Reading.{Reading, admitted, refused, afterStep, afterOpening, readFrom, readScript}
-use Rattle.script.specs.Answers.{Answer, value, refusal, Contents, contents, readingAnswer}
+use Rattle.script.specs.Reading.{Reading, admitted, refused, after_step, after_opening, read_from, read_script}
+use Rattle.script.specs.Answers.{Answer, value, refusal, Contents, contents, reading_answer}
 use Rattle.script.specs.Outcomes.{Byte, MatchByte, MatchAt, MarkAt, LengthsAt, InRange, Within, OnSequence}
 use Rattle.script.specs.Outcomes.{Reach, opened, taken, marked, Short, Outcome}
 use Rattle.script.specs.declared.refusal.Refusal.{Refusal}
@@ -57,8 +57,8 @@ snoc-all P {xs} all one i =
 
 module _ {s : List ℕ} {p q : ℕ} where
   pub reach-place : {at : ℕ} {ms : List Match} {ks : List Mark} → Reach s p q at ms ks
-      → (at ≡ lengthsWidth + matchWidth * length ms + markWidth * length ks)
-      × ((length ms ≤ mostMatches) × (length ks ≤ mostMarks))
+      → (at ≡ lengths_width + match_width * length ms + mark_width * length ks)
+      × ((length ms ≤ most_matches) × (length ks ≤ most_marks))
   reach-place (opened _ _ _) = (refl, (omega arith, omega arith))
   reach-place (taken {ms} {m = m} r room _ _) = omega (arith, reach-place r, length-snoc ms m)
   reach-place (marked {ks = ks} {k = k} r room _ _) = omega (arith, reach-place r, length-snoc ks k)
@@ -77,7 +77,7 @@ module _ {s : List ℕ} {p q : ℕ} where
       → {m : Match} → Memᴰ m ms → (m.track_a ≡ 0) × (m.track_b ≡ 1)
   reach-tracks (opened _ _ _) x = absurd (Memᴰ.not-nil x)
   reach-tracks (taken r _ d _) x =
-      snoc-all (λ m. (m.track_a ≡ 0) × (m.track_b ≡ 1)) (λ y. reach-tracks r y) (d.on-a, d.on-b) x
+      snoc-all (λ m. (m.track_a ≡ 0) × (m.track_b ≡ 1)) (λ y. reach-tracks r y) (d.on_a, d.on_b) x
   reach-tracks (marked r _ _ _) x = reach-tracks r x
 
   pub reach-within : {at : ℕ} {ms : List Match} {ks : List Mark} → Reach s p q at ms ks
@@ -95,25 +95,25 @@ module _ {s : List ℕ} {p q : ℕ} where
 -- ---- one step of the reading
 
 -- what is read behind the lengths, and behind a command of so many bytes
-abbrev pub behindLengths : List ℕ → ℕ → ℕ → Reading
-behindLengths s p q = readFrom (length s) p q lengthsWidth [] [] (drop lengthsWidth s)
+abbrev pub behind_lengths : List ℕ → ℕ → ℕ → Reading
+behind_lengths s p q = read_from (length s) p q lengths_width [] [] (drop lengths_width s)
 
-abbrev pub behindCommand : List ℕ → ℕ → ℕ → ℕ → ℕ → ℕ → List Match → List Mark → Reading
-behindCommand s bytes p q at width ms ks = readFrom bytes p q (at + width) ms ks (drop (at + width) s)
+abbrev pub behind_command : List ℕ → ℕ → ℕ → ℕ → ℕ → ℕ → List Match → List Mark → Reading
+behind_command s bytes p q at width ms ks = read_from bytes p q (at + width) ms ks (drop (at + width) s)
 
 step-at : (s : List ℕ) (p q at bytes : ℕ) (ms : List Match) (ks : List Mark) {c : Command} {t : Step} → 0 < bytes
     → Seen s at c → step_of p q (length ms) (length ks) at c ≡ t
-    → readFrom bytes p q at ms ks (drop at s) ≡ afterStep p q ms ks t (behindCommand s (bytes - 1) p q at)
-unfolding readFrom
+    → read_from bytes p q at ms ks (drop at s) ≡ after_step p q ms ks t (behind_command s (bytes - 1) p q at)
+unfolding read_from
 step-at s p q at zero ms ks h k e = absurd (omega arith)
 step-at s p q at (suc bytes) ms ks {t = t} h k e =
     rw (seen-command s at k, e, sub-one)
-    (ap (afterStep p q ms ks t) (λ i width ms' ks'. readFrom bytes p q (at + width) ms' ks' (drop-drop width at s i)))
+    (ap (after_step p q ms ks t) (λ i width ms' ks'. read_from bytes p q (at + width) ms' ks' (drop-drop width at s i)))
 
 -- the first command of a script
-pub opening-at : (s : List ℕ) {c : Command} {o : Opening} → Seen s 0 c → openingOf c ≡ o
-    → readScript s ≡ afterOpening o (behindLengths s)
-unfolding readScript
+pub opening-at : (s : List ℕ) {c : Command} {o : Opening} → Seen s 0 c → opening_of c ≡ o
+    → read_script s ≡ after_opening o (behind_lengths s)
+unfolding read_script
 opening-at s k e = rw (seen-command s 0 k, e)
 
 lengths-seen : {s : List ℕ} {p q : ℕ} → LengthsAt s p q → Seen s 0 (Lengths p q)
@@ -127,107 +127,107 @@ left s ms ks = length s - (length ms + length ks)
 
 module _ {s : List ℕ} {p q : ℕ} where
   pub reach-read : {at : ℕ} {ms : List Match} {ks : List Mark} → Reach s p q at ms ks
-      → readScript s ≡ readFrom (left s ms ks) p q at ms ks (drop at s)
+      → read_script s ≡ read_from (left s ms ks) p q at ms ks (drop at s)
   reach-read (opened l a b) =
-      opening-at s (lengths-seen l) (opens-step (Opens.open-them a b))
-      ∙ ap (λ (n : ℕ). readFrom n p q lengthsWidth [] [] (drop lengthsWidth s)) (omega arith)
+      opening-at s (lengths-seen l) (opens-step (Opens.open_them a b))
+      ∙ ap (λ (n : ℕ). read_from n p q lengths_width [] [] (drop lengths_width s)) (omega arith)
   reach-read (taken {at} {ms} {ks} {m} r room d w) =
       reach-read r
       ∙ step-at s p q at (left s ms ks) ms ks (omega (arith, reach-place r, reach-inside r)) (Seen.pairing d)
       (judged-step (Judged.room room (Weighed.sound w)))
-      ∙ ap (λ (n : ℕ). behindCommand s n p q at matchWidth (ms ++ m ∷ []) ks) (omega (arith, length-snoc ms m))
+      ∙ ap (λ (n : ℕ). behind_command s n p q at match_width (ms ++ m ∷ []) ks) (omega (arith, length-snoc ms m))
   reach-read (marked {at} {ms} {ks} {k} r room d o) =
       reach-read r
       ∙ step-at s p q at (left s ms ks) ms ks (omega (arith, reach-place r, reach-inside r)) (Seen.marking d)
       (pointed-step (Pointed.room room (Measured.sound o)))
-      ∙ ap (λ (n : ℕ). behindCommand s n p q at markWidth ms (ks ++ k ∷ [])) (omega (arith, length-snoc ks k))
+      ∙ ap (λ (n : ℕ). behind_command s n p q at mark_width ms (ks ++ k ∷ [])) (omega (arith, length-snoc ks k))
 
   -- reading comes to what the next command does
   pub reach-ends : {at : ℕ} {ms : List Match} {ks : List Mark} {c : Command} {t : Step} → Reach s p q at ms ks
       → Seen s at c → step_of p q (length ms) (length ks) at c ≡ t
-      → readScript s ≡ afterStep p q ms ks t (behindCommand s (left s ms ks - 1) p q at)
+      → read_script s ≡ after_step p q ms ks t (behind_command s (left s ms ks - 1) p q at)
   reach-ends {at} {ms} {ks} r k e =
       reach-read r ∙ step-at s p q at (left s ms ks) ms ks (omega (arith, reach-place r, reach-inside r)) k e
 
   -- and the answer is in 01's words what that command does
   ends-answer : {at : ℕ} {ms : List Match} {ks : List Mark} {c : Command} {t : Step} → Reach s p q at ms ks
       → Seen s at c → step_of p q (length ms) (length ks) at c ≡ t
-      → readingAnswer (readScript s)
-      ≡ readingAnswer (afterStep p q ms ks t (behindCommand s (left s ms ks - 1) p q at))
-  ends-answer r k e = ap readingAnswer (reach-ends r k e)
+      → reading_answer (read_script s)
+      ≡ reading_answer (after_step p q ms ks t (behind_command s (left s ms ks - 1) p q at))
+  ends-answer r k e = ap reading_answer (reach-ends r k e)
 
-opening-answer : (s : List ℕ) {c : Command} {o : Opening} → Seen s 0 c → openingOf c ≡ o
-    → readingAnswer (readScript s)
-    ≡ readingAnswer (afterOpening o (behindLengths s))
-opening-answer s k e = ap readingAnswer (opening-at s k e)
+opening-answer : (s : List ℕ) {c : Command} {o : Opening} → Seen s 0 c → opening_of c ≡ o
+    → reading_answer (read_script s)
+    ≡ reading_answer (after_opening o (behind_lengths s))
+opening-answer s k e = ap reading_answer (opening-at s k e)
 
-not-lengths : {s : List ℕ} → (Byte s 0 0x4C → ⊥) → {c : Command} → Seen s 0 c → openingOf c ≡ Opening.Refuse Headless
+not-lengths : {s : List ℕ} → (Byte s 0 0x4C → ⊥) → {c : Command} → Seen s 0 c → opening_of c ≡ Opening.Refuse Headless
 not-lengths n (Seen.missing _) = refl
 not-lengths n (Seen.unknown _ _ _ _ _ _) = refl
 not-lengths n (Seen.lengths b _) = absurd (n b)
 not-lengths n (Seen.lengths_Short b _) = absurd (n b)
 not-lengths n (Seen.pairing _) = refl
-not-lengths n (Seen.pairing-short _ _) = refl
+not-lengths n (Seen.pairing_short _ _) = refl
 not-lengths n (Seen.marking _) = refl
-not-lengths n (Seen.marking-short _ _) = refl
+not-lengths n (Seen.marking_short _ _) = refl
 not-lengths n (Seen.end _ _) = refl
-not-lengths n (Seen.end-then-more _ _) = refl
+not-lengths n (Seen.end_then_more _ _) = refl
 
-short-alone : {s : List ℕ} {at : ℕ} → Short s at → readingAnswer (readScript s) ≡ refusal 3 at
+short-alone : {s : List ℕ} {at : ℕ} → Short s at → reading_answer (read_script s) ≡ refusal 3 at
 short-alone {s} (Short.lengths b h) = opening-answer s (Seen.lengths_Short b h) refl
-short-alone (Short.pairing r room b h) = ends-answer r (Seen.pairing-short b h) (roomy-step (Roomy.room room))
-short-alone (Short.marking r room b h) = ends-answer r (Seen.marking-short b h) (roomy-step (Roomy.room room))
+short-alone (Short.pairing r room b h) = ends-answer r (Seen.pairing_short b h) (roomy-step (Roomy.room room))
+short-alone (Short.marking r room b h) = ends-answer r (Seen.marking_short b h) (roomy-step (Roomy.room room))
 short-alone (Short.ran_out r e) = ends-answer r (Seen.missing (omega arith)) refl
 
 full-alone : {s : List ℕ} {p q at : ℕ} {ms : List Match} {ks : List Mark} {m : Match} → Reach s p q at ms ks
-    → mostMatches ≤ length ms → MatchAt s at m → readingAnswer (readScript s) ≡ refusal 6 at
+    → most_matches ≤ length ms → MatchAt s at m → reading_answer (read_script s) ≡ refusal 6 at
 full-alone {p} {q} {at} {m = m} r full d = ends-answer r (Seen.pairing d)
     (judged-step {p = p} {q = q} {m = m} (Judged.too_many full))
 
 full-marks-alone : {s : List ℕ} {p q at : ℕ} {ms : List Match} {ks : List Mark} {k : Mark} → Reach s p q at ms ks
-    → mostMarks ≤ length ks → MarkAt s at k → readingAnswer (readScript s) ≡ refusal 19 at
+    → most_marks ≤ length ks → MarkAt s at k → reading_answer (read_script s) ≡ refusal 19 at
 full-marks-alone {p} {q} {at} {k = k} r full d = ends-answer r (Seen.marking d)
     (pointed-step {p = p} {q = q} {k = k} (Pointed.too_many full))
 
-pub outcome-alone : {s : List ℕ} {a : Answer Contents} → Outcome s a → readingAnswer (readScript s) ≡ a
+pub outcome-alone : {s : List ℕ} {a : Answer Contents} → Outcome s a → reading_answer (read_script s) ≡ a
 outcome-alone {s} (Outcome.headless h) = opening-answer s (seen s 0) (not-lengths (none h) (seen s 0))
   where
     none : (length s ≡ 0) ⊎ (get_or s 0 0 ≢ 0x4C) → Byte s 0 0x4C → ⊥
     none (inl e) b = omega (arith, b.inside)
     none (inr n) b = n b.is
-outcome-alone (Outcome.unknown-command r h n1 n2 n3 n4 n5) = ends-answer r (Seen.unknown h n1 n2 n3 n4 n5) refl
+outcome-alone (Outcome.unknown_command r h n1 n2 n3 n4 n5) = ends-answer r (Seen.unknown h n1 n2 n3 n4 n5) refl
 outcome-alone (Outcome.cut_short h) = short-alone h
-outcome-alone {s} (Outcome.second-lengths {at} r b) =
-    elim (dec_le (at + lengthsWidth) (length s)) [
+outcome-alone {s} (Outcome.second_lengths {at} r b) =
+    elim (dec_le (at + lengths_width) (length s)) [
       | yes w ↦ ends-answer r (Seen.lengths b w) refl
       | no w ↦ ends-answer r (Seen.lengths_Short b (lt_of_not-le w)) refl
     ]
-outcome-alone {s} (Outcome.length-out-of-range l n) =
+outcome-alone {s} (Outcome.length_out_of_range l n) =
     opening-answer s (lengths-seen l) (opens-step (Opens.out_of_range n))
-outcome-alone {s} (Outcome.too-many-matches {at} {ms} r e b) =
-    let full : mostMatches ≤ length ms = omega arith in
-    elim (dec_le (at + matchWidth) (length s)) [
+outcome-alone {s} (Outcome.too_many_matches {at} {ms} r e b) =
+    let full : most_matches ≤ length ms = omega arith in
+    elim (dec_le (at + match_width) (length s)) [
       | yes w ↦ full-alone r full (whole-match b w)
-      | no w ↦ ends-answer r (Seen.pairing-short b (lt_of_not-le w)) (roomy-step (Roomy.too_many full))
+      | no w ↦ ends-answer r (Seen.pairing_short b (lt_of_not-le w)) (roomy-step (Roomy.too_many full))
     ]
-outcome-alone (Outcome.empty-match r room d e) =
+outcome-alone (Outcome.empty_match r room d e) =
     ends-answer r (Seen.pairing d) (judged-step (Judged.room room (Weighed.empty e)))
-outcome-alone (Outcome.beyond-a r room d k a) =
-    ends-answer r (Seen.pairing d) (judged-step (Judged.room room (Weighed.beyond-a k a)))
-outcome-alone (Outcome.beyond-b r room d k a b) =
-    ends-answer r (Seen.pairing d) (judged-step (Judged.room room (Weighed.beyond-b k a b)))
-outcome-alone {s} (Outcome.too-many-marks {at} {ks = ks} r e b) =
-    let full : mostMarks ≤ length ks = omega arith in
-    elim (dec_le (at + markWidth) (length s)) [
+outcome-alone (Outcome.beyond_a r room d k a) =
+    ends-answer r (Seen.pairing d) (judged-step (Judged.room room (Weighed.beyond_a k a)))
+outcome-alone (Outcome.beyond_b r room d k a b) =
+    ends-answer r (Seen.pairing d) (judged-step (Judged.room room (Weighed.beyond_b k a b)))
+outcome-alone {s} (Outcome.too_many_marks {at} {ks = ks} r e b) =
+    let full : most_marks ≤ length ks = omega arith in
+    elim (dec_le (at + mark_width) (length s)) [
       | yes w ↦ full-marks-alone r full (whole-mark b w)
-      | no w ↦ ends-answer r (Seen.marking-short b (lt_of_not-le w)) (roomy-step (Roomy.too_many full))
+      | no w ↦ ends-answer r (Seen.marking_short b (lt_of_not-le w)) (roomy-step (Roomy.too_many full))
     ]
-outcome-alone (Outcome.no-such-side r room d h) =
-    ends-answer r (Seen.marking d) (pointed-step (Pointed.room room (Measured.no-side h)))
-outcome-alone (Outcome.mark-beyond r room d h) =
+outcome-alone (Outcome.no_such_side r room d h) =
+    ends-answer r (Seen.marking d) (pointed-step (Pointed.room room (Measured.no_side h)))
+outcome-alone (Outcome.mark_beyond r room d h) =
     ends-answer r (Seen.marking d) (pointed-step (Pointed.room room (Measured.beyond h)))
-outcome-alone (Outcome.tail r b h) = ends-answer r (Seen.end-then-more b h) refl
-outcome-alone (Outcome.is-admitted r b h) = ends-answer r (Seen.end b h) refl
+outcome-alone (Outcome.tail r b h) = ends-answer r (Seen.end_then_more b h) refl
+outcome-alone (Outcome.is_admitted r b h) = ends-answer r (Seen.end b h) refl
 
 -- ---- the computed reading is an outcome that applies
 
@@ -235,60 +235,60 @@ outcome-alone (Outcome.is-admitted r b h) = ends-answer r (Seen.end b h) refl
 abbrev Onward : List ℕ → ℕ → ℕ → ℕ → (ℕ → List Match → List Mark → Reading) → Type 0
 Onward s p q at onward =
     (width : ℕ) (ms : List Match) (ks : List Mark) → Reach s p q (at + width) ms ks → 0 < width
-    → Outcome s (readingAnswer (onward width ms ks))
+    → Outcome s (reading_answer (onward width ms ks))
 
 -- a command that is cut short, by whether there is room for it
 short-stated : {s : List ℕ} (p q : ℕ) {at most count : ℕ} {full : Refusal} (ms : List Match) (ks : List Mark) {t : Step}
     → Roomy most count full (Step.Refuse (CutShort at)) t → (onward : ℕ → List Match → List Mark → Reading)
-    → (most ≤ count → Outcome s (readingAnswer (refused full))) → (count < most → Short s at)
-    → Outcome s (readingAnswer (afterStep p q ms ks t onward))
+    → (most ≤ count → Outcome s (reading_answer (refused full))) → (count < most → Short s at)
+    → Outcome s (reading_answer (after_step p q ms ks t onward))
 short-stated p q ms ks (Roomy.too_many h) onward crowded short = crowded h
 short-stated p q ms ks (Roomy.room h) onward crowded short = Outcome.cut_short (short h)
 
 match-stated : {s : List ℕ} {p q at : ℕ} {ms : List Match} {ks : List Mark} {m : Match} {t : Step}
     → Reach s p q at ms ks → MatchAt s at m → Judged p q (length ms) at m t
     → (onward : ℕ → List Match → List Mark → Reading) → Onward s p q at onward
-    → Outcome s (readingAnswer (afterStep p q ms ks t onward))
-match-stated r d (Judged.too_many f) onward next = Outcome.too-many-matches r (omega (arith, reach-place r)) d.code
-match-stated r d (Judged.room room (Weighed.empty e)) onward next = Outcome.empty-match r room d e
-match-stated r d (Judged.room room (Weighed.beyond-a k a)) onward next = Outcome.beyond-a r room d k a
-match-stated r d (Judged.room room (Weighed.beyond-b k a b)) onward next = Outcome.beyond-b r room d k a b
+    → Outcome s (reading_answer (after_step p q ms ks t onward))
+match-stated r d (Judged.too_many f) onward next = Outcome.too_many_matches r (omega (arith, reach-place r)) d.code
+match-stated r d (Judged.room room (Weighed.empty e)) onward next = Outcome.empty_match r room d e
+match-stated r d (Judged.room room (Weighed.beyond_a k a)) onward next = Outcome.beyond_a r room d k a
+match-stated r d (Judged.room room (Weighed.beyond_b k a b)) onward next = Outcome.beyond_b r room d k a b
 match-stated {ms} {ks} {m} r d (Judged.room room (Weighed.sound w)) onward next =
-    next matchWidth (ms ++ m ∷ []) ks (taken r room d w) (omega arith)
+    next match_width (ms ++ m ∷ []) ks (taken r room d w) (omega arith)
 
 mark-stated : {s : List ℕ} {p q at : ℕ} {ms : List Match} {ks : List Mark} {k : Mark} {t : Step}
     → Reach s p q at ms ks → MarkAt s at k → Pointed p q (length ks) at k t
     → (onward : ℕ → List Match → List Mark → Reading) → Onward s p q at onward
-    → Outcome s (readingAnswer (afterStep p q ms ks t onward))
-mark-stated r d (Pointed.too_many f) onward next = Outcome.too-many-marks r (omega (arith, reach-place r)) d.code
-mark-stated r d (Pointed.room room (Measured.no-side h)) onward next = Outcome.no-such-side r room d h
-mark-stated r d (Pointed.room room (Measured.beyond h)) onward next = Outcome.mark-beyond r room d h
+    → Outcome s (reading_answer (after_step p q ms ks t onward))
+mark-stated r d (Pointed.too_many f) onward next = Outcome.too_many_marks r (omega (arith, reach-place r)) d.code
+mark-stated r d (Pointed.room room (Measured.no_side h)) onward next = Outcome.no_such_side r room d h
+mark-stated r d (Pointed.room room (Measured.beyond h)) onward next = Outcome.mark_beyond r room d h
 mark-stated {ms} {ks} {k} r d (Pointed.room room (Measured.sound o)) onward next =
-    next markWidth ms (ks ++ k ∷ []) (marked r room d o) (omega arith)
+    next mark_width ms (ks ++ k ∷ []) (marked r room d o) (omega arith)
 
 step-stated : {s : List ℕ} {p q at : ℕ} {ms : List Match} {ks : List Mark} {c : Command} → Reach s p q at ms ks
     → Seen s at c → (onward : ℕ → List Match → List Mark → Reading) → Onward s p q at onward
-    → Outcome s (readingAnswer (afterStep p q ms ks (step_of p q (length ms) (length ks) at c) onward))
+    → Outcome s (reading_answer (after_step p q ms ks (step_of p q (length ms) (length ks) at c) onward))
 step-stated r (Seen.missing h) onward next = Outcome.cut_short (Short.ran_out r (omega (arith, reach-inside r)))
-step-stated r (Seen.unknown h n1 n2 n3 n4 n5) onward next = Outcome.unknown-command r h n1 n2 n3 n4 n5
-step-stated r (Seen.lengths b _) onward next = Outcome.second-lengths r b
-step-stated r (Seen.lengths_Short b _) onward next = Outcome.second-lengths r b
+step-stated r (Seen.unknown h n1 n2 n3 n4 n5) onward next = Outcome.unknown_command r h n1 n2 n3 n4 n5
+step-stated r (Seen.lengths b _) onward next = Outcome.second_lengths r b
+step-stated r (Seen.lengths_Short b _) onward next = Outcome.second_lengths r b
 step-stated {p} {q} {at} {ms} r (Seen.pairing {m} d) onward next =
     match-stated r d (judged p q (length ms) at m) onward next
-step-stated {p} {q} {at} {ms} {ks} r (Seen.pairing-short b h) onward next =
-    short-stated p q ms ks (roomy mostMatches (length ms) (TooManyMatches at) (Step.Refuse (CutShort at))) onward
-    (λ full. Outcome.too-many-matches r (omega (arith, reach-place r)) b) (λ room. Short.pairing r room b h)
+step-stated {p} {q} {at} {ms} {ks} r (Seen.pairing_short b h) onward next =
+    short-stated p q ms ks (roomy most_matches (length ms) (TooManyMatches at) (Step.Refuse (CutShort at))) onward
+    (λ full. Outcome.too_many_matches r (omega (arith, reach-place r)) b) (λ room. Short.pairing r room b h)
 step-stated {p} {q} {at} {ks = ks} r (Seen.marking {k} d) onward next =
     mark-stated r d (pointed p q (length ks) at k) onward next
-step-stated {p} {q} {at} {ms} {ks} r (Seen.marking-short b h) onward next =
-    short-stated p q ms ks (roomy mostMarks (length ks) (TooManyMarks at) (Step.Refuse (CutShort at))) onward
-    (λ full. Outcome.too-many-marks r (omega (arith, reach-place r)) b) (λ room. Short.marking r room b h)
-step-stated r (Seen.end b h) onward next = Outcome.is-admitted r b h
-step-stated r (Seen.end-then-more b h) onward next = Outcome.tail r b h
+step-stated {p} {q} {at} {ms} {ks} r (Seen.marking_short b h) onward next =
+    short-stated p q ms ks (roomy most_marks (length ks) (TooManyMarks at) (Step.Refuse (CutShort at))) onward
+    (λ full. Outcome.too_many_marks r (omega (arith, reach-place r)) b) (λ room. Short.marking r room b h)
+step-stated r (Seen.end b h) onward next = Outcome.is_admitted r b h
+step-stated r (Seen.end_then_more b h) onward next = Outcome.tail r b h
 
 from-stated : {s : List ℕ} {p q : ℕ} (bytes : ℕ) {at : ℕ} {ms : List Match} {ks : List Mark} → Reach s p q at ms ks
-    → length s < bytes + at → Outcome s (readingAnswer (readFrom bytes p q at ms ks (drop at s)))
-unfolding readFrom
+    → length s < bytes + at → Outcome s (reading_answer (read_from bytes p q at ms ks (drop at s)))
+unfolding read_from
 from-stated zero r h = absurd (omega (arith, reach-inside r))
 from-stated {s} (suc bytes) {at} r h =
     step-stated r (seen s at) _
@@ -303,26 +303,26 @@ match-byte (MatchByte.direct b) = other_byte (omega arith) b
 match-byte (MatchByte.backward b) = other_byte (omega arith) b
 
 lengths-stated : {s : List ℕ} {p q : ℕ} {o : Opening} → LengthsAt s p q → Opens p q o
-    → Outcome s (readingAnswer (afterOpening o (behindLengths s)))
-lengths-stated {s} l (Opens.open-them a b) = from-stated (length s) (opened l a b) (omega arith)
-lengths-stated l (Opens.out_of_range n) = Outcome.length-out-of-range l n
+    → Outcome s (reading_answer (after_opening o (behind_lengths s)))
+lengths-stated {s} l (Opens.open_them a b) = from-stated (length s) (opened l a b) (omega arith)
+lengths-stated l (Opens.out_of_range n) = Outcome.length_out_of_range l n
 
 opening-stated : {s : List ℕ} {c : Command} → Seen s 0 c
-    → Outcome s (readingAnswer (afterOpening (openingOf c) (behindLengths s)))
+    → Outcome s (reading_answer (after_opening (opening_of c) (behind_lengths s)))
 opening-stated (Seen.missing h) = Outcome.headless (inl (omega arith))
 opening-stated (Seen.unknown h n _ _ _ _) = Outcome.headless (inr n)
 opening-stated {s} (Seen.lengths b w) =
     lengths-stated (record { code = b; whole = w; first = refl; second = refl }) (opens (number_at s 1) (number_at s 5))
 opening-stated (Seen.lengths_Short b h) = Outcome.cut_short (Short.lengths b h)
 opening-stated (Seen.pairing d) = match-byte d.code
-opening-stated (Seen.pairing-short b _) = match-byte b
+opening-stated (Seen.pairing_short b _) = match-byte b
 opening-stated (Seen.marking d) = other_byte (omega arith) d.code
-opening-stated (Seen.marking-short b _) = other_byte (omega arith) b
+opening-stated (Seen.marking_short b _) = other_byte (omega arith) b
 opening-stated (Seen.end b _) = other_byte (omega arith) b
-opening-stated (Seen.end-then-more b _) = other_byte (omega arith) b
+opening-stated (Seen.end_then_more b _) = other_byte (omega arith) b
 
-pub outcome-stated : (s : List ℕ) → Outcome s (readingAnswer (readScript s))
-unfolding readScript
+pub outcome-stated : (s : List ℕ) → Outcome s (reading_answer (read_script s))
+unfolding read_script
 outcome-stated s = opening-stated (seen s 0)
 
 -- ---- the numbers
@@ -331,42 +331,42 @@ outcome-stated s = opening-stated (seen s 0)
 pub own-number : {s : List ℕ} {number place : ℕ} → Outcome s (refusal number place)
     → (number ≤ 10) ⊎ ((19 ≤ number) × (number ≤ 21))
 own-number (Outcome.headless _) = inl (omega arith)
-own-number (Outcome.unknown-command _ _ _ _ _ _ _) = inl (omega arith)
+own-number (Outcome.unknown_command _ _ _ _ _ _ _) = inl (omega arith)
 own-number (Outcome.cut_short _) = inl (omega arith)
-own-number (Outcome.second-lengths _ _) = inl (omega arith)
-own-number (Outcome.length-out-of-range _ _) = inl (omega arith)
-own-number (Outcome.too-many-matches _ _ _) = inl (omega arith)
-own-number (Outcome.empty-match _ _ _ _) = inl (omega arith)
-own-number (Outcome.beyond-a _ _ _ _ _) = inl (omega arith)
-own-number (Outcome.beyond-b _ _ _ _ _ _) = inl (omega arith)
+own-number (Outcome.second_lengths _ _) = inl (omega arith)
+own-number (Outcome.length_out_of_range _ _) = inl (omega arith)
+own-number (Outcome.too_many_matches _ _ _) = inl (omega arith)
+own-number (Outcome.empty_match _ _ _ _) = inl (omega arith)
+own-number (Outcome.beyond_a _ _ _ _ _) = inl (omega arith)
+own-number (Outcome.beyond_b _ _ _ _ _ _) = inl (omega arith)
 own-number (Outcome.tail _ _ _) = inl (omega arith)
-own-number (Outcome.too-many-marks _ _ _) = inr (omega arith, omega arith)
-own-number (Outcome.no-such-side _ _ _ _) = inr (omega arith, omega arith)
-own-number (Outcome.mark-beyond _ _ _ _) = inr (omega arith, omega arith)
+own-number (Outcome.too_many_marks _ _ _) = inr (omega arith, omega arith)
+own-number (Outcome.no_such_side _ _ _ _) = inr (omega arith, omega arith)
+own-number (Outcome.mark_beyond _ _ _ _) = inr (omega arith, omega arith)
 
 -- ---- from a reading to its outcome and back
 
-pub read-outcome : {s : List ℕ} {r : Reading} → readScript s ≡ r → Outcome s (readingAnswer r)
-read-outcome {s} e = subst (λ (r : Reading). Outcome s (readingAnswer r)) e (outcome-stated s)
+pub read-outcome : {s : List ℕ} {r : Reading} → read_script s ≡ r → Outcome s (reading_answer r)
+read-outcome {s} e = subst (λ (r : Reading). Outcome s (reading_answer r)) e (outcome-stated s)
 
 pub outcome-admitted : {s : List ℕ} {ls : List ℕ} {ms : List Match} {ks : List Mark}
-    → Outcome s (value (contents ls ms ks)) → readScript s ≡ admitted ls ms ks
-outcome-admitted {s} {ls} {ms} {ks} o = go (readScript s) (outcome-alone o)
+    → Outcome s (value (contents ls ms ks)) → read_script s ≡ admitted ls ms ks
+outcome-admitted {s} {ls} {ms} {ks} o = go (read_script s) (outcome-alone o)
   where
-    go : (r : Reading) → readingAnswer r ≡ value (contents ls ms ks) → r ≡ admitted ls ms ks
+    go : (r : Reading) → reading_answer r ≡ value (contents ls ms ks) → r ≡ admitted ls ms ks
     go (admitted ls' ms' ks') e = cc
     go (refused f) e = let z : ◌≡◌ {A = ℕ} 0 1 = cc in absurd (omega arith)
 
 pub record RefusedAs (s : List ℕ) (number place : ℕ) : Type 0 where
   pub refusal : Refusal
-  pub read : readScript s ≡ refused refusal
+  pub read : read_script s ≡ refused refusal
   pub number_is : number_of refusal ≡ number
   pub place_is : place_of refusal ≡ place
 
 pub outcome-refused : {s : List ℕ} {number place : ℕ} → Outcome s (refusal number place) → RefusedAs s number place
-outcome-refused {s} {number} {place} o = go (readScript s) refl (outcome-alone o)
+outcome-refused {s} {number} {place} o = go (read_script s) refl (outcome-alone o)
   where
-    go : (r : Reading) → readScript s ≡ r → readingAnswer (readScript s) ≡ refusal number place
+    go : (r : Reading) → read_script s ≡ r → reading_answer (read_script s) ≡ refusal number place
         → RefusedAs s number place
     go (admitted ls ms ks) is e = let z : ◌≡◌ {A = ℕ} 0 1 = cc (rw is at e) in absurd (omega arith)
     go (refused f) is e =

@@ -8,7 +8,7 @@ use native.Mathlib.Omega.{arith}
 use native.Mathlib.Decide.{dec_lt}
 use lib.ListN.{length, get_or, length-append, get_or-append}
 use lib.Seq.{get_or_at}
-use Rattle.script.specs.Reading.{admitted, readScript}
+use Rattle.script.specs.Reading.{admitted, read_script}
 use Rattle.script.specs.Outcomes.{MatchAt, Reach, opened, taken, marked}
 use Rattle.script.specs.declared.command.Match.{Match}
 use Rattle.script.specs.declared.command.Mark.{Mark}
@@ -28,6 +28,6 @@ reach-match {s} (taken {at} {ms} {m = m} r _ d _) none k h blank =
 reach-match (marked {ks = ks} {k = point} r _ _ _) none k h blank =
     absurd (omega (arith, length-append ks (point ∷ [])))
 
-pub match-placed : (s : List ℕ) {ls : List ℕ} {ms : List Match} {ks : List Mark} → readScript s ≡ admitted ls ms ks
+pub match-placed : (s : List ℕ) {ls : List ℕ} {ms : List Match} {ks : List Mark} → read_script s ≡ admitted ls ms ks
     → length ks ≡ 0 → (k : ℕ) → k < length ms → (blank : Match) → MatchAt s (9 + 13 * k) (get_or ms k blank)
 match-placed s e none k h blank = reach-match (admitted-ended e).reach none k h blank

@@ -13,9 +13,9 @@ use native.Mathlib.Decide.{dec_le}
 use native.Mathlib.Nat.{lt_of_not-le}
 use lib.ListN.{length, take, length-take}
 use lib.Seq.{get_or-take, take_all}
-use Rattle.script.specs.Limits.{mostMatches, mostMarks, longestScript}
-use Rattle.script.specs.Commands.{lengthsWidth, matchWidth, markWidth, number_at}
-use Rattle.script.specs.Reading.{readScript}
+use Rattle.script.specs.Limits.{most_matches, most_marks, longest_script}
+use Rattle.script.specs.Commands.{lengths_width, match_width, mark_width, number_at}
+use Rattle.script.specs.Reading.{read_script}
 use Rattle.script.specs.Answers.{Answer, Contents}
 use Rattle.script.specs.Outcomes.{Byte, MatchByte, MatchAt, MarkAt, LengthsAt, Reach, opened, taken, marked}
 use Rattle.script.specs.Outcomes.{Short, Outcome}
@@ -42,19 +42,19 @@ module _ {s : List ℕ} (n : ℕ) where
   match-byte-take h (MatchByte.direct b) = MatchByte.direct (byte-take h b)
   match-byte-take h (MatchByte.backward b) = MatchByte.backward (byte-take h b)
 
-  match-at-take : {at : ℕ} {m : Match} → at + matchWidth ≤ n → MatchAt s at m → MatchAt (take n s) at m
+  match-at-take : {at : ℕ} {m : Match} → at + match_width ≤ n → MatchAt s at m → MatchAt (take n s) at m
   match-at-take {at} h d =
       record {
         code = match-byte-take (omega arith) d.code;
         whole = omega (arith, length-take n s, d.whole);
-        on-a = d.on-a;
-        on-b = d.on-b;
-        left-a = d.left-a ∙ sym (number-take n s (at + 1) (omega arith));
-        left-b = d.left-b ∙ sym (number-take n s (at + 5) (omega arith));
+        on_a = d.on_a;
+        on_b = d.on_b;
+        left_a = d.left_a ∙ sym (number-take n s (at + 1) (omega arith));
+        left_b = d.left_b ∙ sym (number-take n s (at + 5) (omega arith));
         letters = d.letters ∙ sym (number-take n s (at + 9) (omega arith));
       }
 
-  mark-at-take : {at : ℕ} {k : Mark} → at + markWidth ≤ n → MarkAt s at k → MarkAt (take n s) at k
+  mark-at-take : {at : ℕ} {k : Mark} → at + mark_width ≤ n → MarkAt s at k → MarkAt (take n s) at k
   mark-at-take {at} h d =
       record {
         code = byte-take (omega arith) d.code;
@@ -63,7 +63,7 @@ module _ {s : List ℕ} (n : ℕ) where
         position = d.position ∙ sym (number-take n s (at + 2) (omega arith));
       }
 
-  lengths-take : {p q : ℕ} → lengthsWidth ≤ n → LengthsAt s p q → LengthsAt (take n s) p q
+  lengths-take : {p q : ℕ} → lengths_width ≤ n → LengthsAt s p q → LengthsAt (take n s) p q
   lengths-take h l =
       record {
         code = byte-take (omega arith) l.code;
@@ -79,7 +79,7 @@ module _ {s : List ℕ} (n : ℕ) where
   reach-take h (marked r room d o) = marked (reach-take (omega arith) r) room (mark-at-take h d) o
 
 -- of a script longer than n bytes, which are more than the longest admitted one has
-module _ {s : List ℕ} (n : ℕ) (long : n < length s) (enough : longestScript < n) where
+module _ {s : List ℕ} (n : ℕ) (long : n < length s) (enough : longest_script < n) where
   before-end : {p q at : ℕ} {ms : List Match} {ks : List Mark} → Reach s p q at ms ks → at + 1 < n
   before-end r = omega (arith, reach-place r)
 
@@ -87,11 +87,11 @@ module _ {s : List ℕ} (n : ℕ) (long : n < length s) (enough : longestScript 
   kept r = reach-take n (omega (arith, before-end r)) r
 
   match-kept : {p q at : ℕ} {ms : List Match} {ks : List Mark} {m : Match} → Reach s p q at ms ks
-      → length ms < mostMatches → MatchAt s at m → MatchAt (take n s) at m
+      → length ms < most_matches → MatchAt s at m → MatchAt (take n s) at m
   match-kept r room d = match-at-take n (omega (arith, reach-place r)) d
 
   mark-kept : {p q at : ℕ} {ms : List Match} {ks : List Mark} {k : Mark} → Reach s p q at ms ks
-      → length ks < mostMarks → MarkAt s at k → MarkAt (take n s) at k
+      → length ks < most_marks → MarkAt s at k → MarkAt (take n s) at k
   mark-kept r room d = mark-at-take n (omega (arith, reach-place r)) d
 
   short-take : {at : ℕ} → Short s at → Short (take n s) at
@@ -103,32 +103,32 @@ module _ {s : List ℕ} (n : ℕ) (long : n < length s) (enough : longestScript 
   outcome-take : {a : Answer Contents} → Outcome s a → Outcome (take n s) a
   outcome-take (Outcome.headless (inl e)) = absurd (omega arith)
   outcome-take (Outcome.headless (inr x)) = Outcome.headless (inr (λ e. x (sym (get_or-take n s 0 0 (omega arith)) ∙ e)))
-  outcome-take (Outcome.unknown-command {at} r h n1 n2 n3 n4 n5) =
+  outcome-take (Outcome.unknown_command {at} r h n1 n2 n3 n4 n5) =
       let same = sym (get_or-take n s at 0 (omega (arith, before-end r))) in
-      Outcome.unknown-command (kept r) (omega (arith, length-take n s, before-end r))
+      Outcome.unknown_command (kept r) (omega (arith, length-take n s, before-end r))
       (λ e. n1 (same ∙ e)) (λ e. n2 (same ∙ e)) (λ e. n3 (same ∙ e)) (λ e. n4 (same ∙ e))
       (λ e. n5 (same ∙ e))
   outcome-take (Outcome.cut_short h) = Outcome.cut_short (short-take h)
-  outcome-take (Outcome.second-lengths r b) = Outcome.second-lengths (kept r)
+  outcome-take (Outcome.second_lengths r b) = Outcome.second_lengths (kept r)
       (byte-take n (omega (arith, before-end r)) b)
-  outcome-take (Outcome.length-out-of-range l x) = Outcome.length-out-of-range (lengths-take n (omega arith) l) x
-  outcome-take (Outcome.too-many-matches r e b) =
-      Outcome.too-many-matches (kept r) e (match-byte-take n (omega (arith, before-end r)) b)
-  outcome-take (Outcome.empty-match r room d e) = Outcome.empty-match (kept r) room (match-kept r room d) e
-  outcome-take (Outcome.beyond-a r room d k a) = Outcome.beyond-a (kept r) room (match-kept r room d) k a
-  outcome-take (Outcome.beyond-b r room d k a b) = Outcome.beyond-b (kept r) room (match-kept r room d) k a b
-  outcome-take (Outcome.too-many-marks r e b) =
-      Outcome.too-many-marks (kept r) e (byte-take n (omega (arith, before-end r)) b)
-  outcome-take (Outcome.no-such-side r room d h) = Outcome.no-such-side (kept r) room (mark-kept r room d) h
-  outcome-take (Outcome.mark-beyond r room d h) = Outcome.mark-beyond (kept r) room (mark-kept r room d) h
+  outcome-take (Outcome.length_out_of_range l x) = Outcome.length_out_of_range (lengths-take n (omega arith) l) x
+  outcome-take (Outcome.too_many_matches r e b) =
+      Outcome.too_many_matches (kept r) e (match-byte-take n (omega (arith, before-end r)) b)
+  outcome-take (Outcome.empty_match r room d e) = Outcome.empty_match (kept r) room (match-kept r room d) e
+  outcome-take (Outcome.beyond_a r room d k a) = Outcome.beyond_a (kept r) room (match-kept r room d) k a
+  outcome-take (Outcome.beyond_b r room d k a b) = Outcome.beyond_b (kept r) room (match-kept r room d) k a b
+  outcome-take (Outcome.too_many_marks r e b) =
+      Outcome.too_many_marks (kept r) e (byte-take n (omega (arith, before-end r)) b)
+  outcome-take (Outcome.no_such_side r room d h) = Outcome.no_such_side (kept r) room (mark-kept r room d) h
+  outcome-take (Outcome.mark_beyond r room d h) = Outcome.mark_beyond (kept r) room (mark-kept r room d) h
   outcome-take (Outcome.tail r b h) =
       Outcome.tail (kept r) (byte-take n (omega (arith, before-end r)) b) (omega (arith, length-take n s, before-end r))
-  outcome-take (Outcome.is-admitted r b e) = absurd (omega (arith, before-end r))
+  outcome-take (Outcome.is_admitted r b e) = absurd (omega (arith, before-end r))
 
-pub prefix-decides : (s : List ℕ) → readScript (take (longestScript + 1) s) ≡ readScript s
+pub prefix-decides : (s : List ℕ) → read_script (take (longest_script + 1) s) ≡ read_script s
 prefix-decides s =
-    elim (dec_le (length s) (longestScript + 1)) [
-      | yes h ↦ rw (take_all (longestScript + 1) s h)
+    elim (dec_le (length s) (longest_script + 1)) [
+      | yes h ↦ rw (take_all (longest_script + 1) s h)
       | no h ↦ answer-inj _ _
-          (outcome-alone (outcome-take (longestScript + 1) (lt_of_not-le h) (omega arith) (outcome-stated s)))
+          (outcome-alone (outcome-take (longest_script + 1) (lt_of_not-le h) (omega arith) (outcome-stated s)))
     ]

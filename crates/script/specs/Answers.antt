@@ -1,7 +1,7 @@
 -- An answer in 01's words, the same for every call. TO READ: contracts mean what stands here.
 --     Answer X            a value of X, or a refusal's number and place
 --     Contents            what an admitted script holds: the lengths, its matches and its marks
---     readingAnswer r     a reading in these words
+--     reading_answer r     a reading in these words
 -- 01, "Refused scripts and calls" and "Which form goes where"; SCOPE, "Place" and "Enums". Assumes nothing.
 use Rattle.std.specs.Prelude.{ℕ, List}
 use Rattle.script.specs.Refusals.{number_of, place_of}
@@ -16,6 +16,6 @@ pub data Answer (X : Type 0) : Type 0 where
 pub data Contents : Type 0 where
   contents : (lengths : List ℕ) → List Match → (marks : List Mark) → Contents
 
-abbrev pub readingAnswer : Reading → Answer Contents
-readingAnswer (admitted ls ms ks) = value (contents ls ms ks)
-readingAnswer (refused r) = refusal (number_of r) (place_of r)
+abbrev pub reading_answer : Reading → Answer Contents
+reading_answer (admitted ls ms ks) = value (contents ls ms ks)
+reading_answer (refused r) = refusal (number_of r) (place_of r)

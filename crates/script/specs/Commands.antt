@@ -1,9 +1,9 @@
 -- What stands at the start of a remainder of the script. TO READ: contracts mean what stands here.
---     lengthsWidth, matchWidth, markWidth     the bytes of a command, its command byte among them
+--     lengths_width, match_width, mark_width     the bytes of a command, its command byte among them
 --     number_at s at                the number in the four bytes from the offset at
 --     fields_of reversed s          what a match command says, with its direction
 --     point_of s                    what a mark command says
---     commandOf s                  the command that s starts with
+--     command_of s                  the command that s starts with
 --     bit_of reversed               a direction as a number, where it is one: in a row, in a record, behind a pointer
 -- 01, "The script"; 02, #106. Assumes nothing.
 use Rattle.std.specs.Prelude.{ℕ, ◌+◌, ◌*◌, Bool, true, false, cond, List, length, get_or, ltb, eqb}
@@ -15,14 +15,14 @@ use Rattle.script.specs.declared.command.Command.TheVariants.{Pairing, MatchCutS
 use Rattle.script.specs.declared.command.Command.TheVariants.{End, EndThenMore}
 
 -- SCOPE, "Commands": two numbers behind the command byte, three, and a byte and a number
-abbrev pub lengthsWidth : ℕ
-lengthsWidth = 9
+abbrev pub lengths_width : ℕ
+lengths_width = 9
 
-abbrev pub matchWidth : ℕ
-matchWidth = 13
+abbrev pub match_width : ℕ
+match_width = 13
 
-abbrev pub markWidth : ℕ
-markWidth = 6
+abbrev pub mark_width : ℕ
+mark_width = 6
 
 -- SCOPE, "Numbers": unsigned, four bytes, the least first
 abbrev pub number_at : List ℕ → ℕ → ℕ
@@ -30,8 +30,8 @@ number_at s at =
     get_or s at 0 + 256 * get_or s (at + 1) 0 + 65536 * get_or s (at + 2) 0 + 16777216 * get_or s (at + 3) 0
 
 -- SCOPE, "Commands": the two lengths, first p
-abbrev pub lengthsOf : List ℕ → Command
-lengthsOf s = cond (ltb (length s) lengthsWidth) LengthsCutShort (Lengths (number_at s 1) (number_at s 5))
+abbrev pub lengths_of : List ℕ → Command
+lengths_of s = cond (ltb (length s) lengths_width) LengthsCutShort (Lengths (number_at s 1) (number_at s 5))
 
 -- SCOPE, "Commands": the left-A, the left-B and the length of a match, in this order; A is track 0, B track 1
 abbrev pub fields_of : Bool → List ℕ → Match
@@ -47,25 +47,25 @@ fields_of reversed s =
 
 -- SCOPE, "Commands": a match of either direction
 abbrev pub match_of : Bool → List ℕ → Command
-match_of reversed s = cond (ltb (length s) matchWidth) MatchCutShort (Pairing (fields_of reversed s))
+match_of reversed s = cond (ltb (length s) match_width) MatchCutShort (Pairing (fields_of reversed s))
 
 -- SCOPE, "Commands": the side of a mark, one byte, and its position
 abbrev pub point_of : List ℕ → Mark
 point_of s = record { side = get_or s 1 0; position = number_at s 2 }
 
 abbrev pub mark_of : List ℕ → Command
-mark_of s = cond (ltb (length s) markWidth) MarkCutShort (Marking (point_of s))
+mark_of s = cond (ltb (length s) mark_width) MarkCutShort (Marking (point_of s))
 
 -- SCOPE, "End": it has no operand, and nothing stands behind it
 abbrev pub end_of : List ℕ → Command
 end_of s = cond (ltb 1 (length s)) EndThenMore End
 
 -- SCOPE, "Commands": the byte tells which it is: 4C lengths, 44 direct match, 52 reversed match, 4D mark, 45 end
-abbrev pub commandOf : List ℕ → Command
-commandOf s =
+abbrev pub command_of : List ℕ → Command
+command_of s =
     let code = get_or s 0 0 in
     cond (eqb (length s) 0) Missing
-    (cond (eqb code 0x4C) (lengthsOf s)
+    (cond (eqb code 0x4C) (lengths_of s)
     (cond (eqb code 0x44) (match_of false s)
     (cond (eqb code 0x52) (match_of true s)
     (cond (eqb code 0x4D) (mark_of s) (cond (eqb code 0x45) (end_of s) Unknown)))))

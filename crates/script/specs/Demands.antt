@@ -1,12 +1,12 @@
 -- What the replies of reading and finding are in 01's numbers and places. TO READ: contracts mean what stands here.
 --     Counted              what the verdict tells of an admitted script: p, q and how many matches and marks there are
---     verdictAnswer v      the reader's reply in 01's words
+--     verdict_answer v      the reader's reply in 01's words
 --     ReadingOutcome       what may come of reading, by its condition
 --     ReadingDemand        exactly one outcome's condition is met, and it is the answer
 --     ColumnDemand         what one lent column holds afterwards, element by element, by the outcome that is met
 --     ColumnsDemand        the four columns of the matches
 --     MarksDemand          the two of the marks
---     findingAnswer f      the finder's reply in 01's words
+--     finding_answer f      the finder's reply in 01's words
 --     FindingOutcome       what may come of asking for the match of a number, by its condition
 --     FindingDemand        exactly one outcome's condition is met, and it is the answer
 -- 01, "The script" and "Refused scripts and calls"; 02, #106. `proofs/Demands` shows that `verdictOf` and `findingOf`
@@ -25,15 +25,15 @@ use Rattle.script.specs.declared.Verdict.{Verdict}
 pub data Counted : Type 0 where
   counted : (p q count marks : ℕ) → Counted
 
-abbrev pub verdictAnswer : Verdict → Answer Counted
-verdictAnswer (Verdict.Admitted p q count marks) = value (counted p q count marks)
-verdictAnswer (Verdict.Refused f) = refusal (number_of f) (place_of f)
+abbrev pub verdict_answer : Verdict → Answer Counted
+verdict_answer (Verdict.Admitted p q count marks) = value (counted p q count marks)
+verdict_answer (Verdict.Refused f) = refusal (number_of f) (place_of f)
 
 pub data ReadingOutcome (s : List ℕ) : Answer Counted → Type 0 where
   -- 1 to 10, 19 to 21: the script's own refusal
-  script-refused : {n place : ℕ} → Outcome s (refusal n place) → ReadingOutcome s (refusal n place)
+  script_refused : {n place : ℕ} → Outcome s (refusal n place) → ReadingOutcome s (refusal n place)
   -- no refusal: the lengths, and how many matches and marks stand behind them
-  script-admitted :
+  script_admitted :
       {p q : ℕ} {ms : List Match} {ks : List Mark} → Outcome s (value (contents (p ∷ q ∷ []) ms ks))
       → ReadingOutcome s (value (counted p q (length ms) (length ks)))
 
@@ -46,11 +46,11 @@ pub record ReadingDemand (s : List ℕ) (answer : Answer Counted) : Type 0 where
 -- ---- reading into columns
 
 -- what a column is of: the matches, or the marks
-abbrev pub matchesIn : Contents → List Match
-matchesIn (contents ls ms ks) = ms
+abbrev pub matches_in : Contents → List Match
+matches_in (contents ls ms ks) = ms
 
-abbrev pub marksIn : Contents → List Mark
-marksIn (contents ls ms ks) = ks
+abbrev pub marks_in : Contents → List Mark
+marks_in (contents ls ms ks) = ks
 
 pub record ColumnDemand {X Y : Type 0} (s : List ℕ) (items : Contents → List X) (field : X → Y)
     (before after : List Y) : Type 0 where
@@ -68,26 +68,26 @@ pub record ColumnDemand {X Y : Type 0} (s : List ℕ) (items : Contents → List
 
 -- each column before and after
 pub record ColumnsDemand (s a b d : List ℕ) (r : List Bool) (a' b' d' : List ℕ) (r' : List Bool) : Type 0 where
-  pub left-a : ColumnDemand s matchesIn (λ m. m.left_a) a a'
-  pub left-b : ColumnDemand s matchesIn (λ m. m.left_b) b b'
-  pub letters : ColumnDemand s matchesIn (λ m. m.length) d d'
-  pub reversed : ColumnDemand s matchesIn (λ m. m.reversed) r r'
+  pub left_a : ColumnDemand s matches_in (λ m. m.left_a) a a'
+  pub left_b : ColumnDemand s matches_in (λ m. m.left_b) b b'
+  pub letters : ColumnDemand s matches_in (λ m. m.length) d d'
+  pub reversed : ColumnDemand s matches_in (λ m. m.reversed) r r'
 
 pub record MarksDemand (s sides positions sides' positions' : List ℕ) : Type 0 where
-  pub side : ColumnDemand s marksIn (λ k. k.side) sides sides'
-  pub position : ColumnDemand s marksIn (λ k. k.position) positions positions'
+  pub side : ColumnDemand s marks_in (λ k. k.side) sides sides'
+  pub position : ColumnDemand s marks_in (λ k. k.position) positions positions'
 
 -- ---- finding
 
-abbrev pub findingAnswer : Finding → Answer Match
-findingAnswer (Finding.Found m) = value m
-findingAnswer (Finding.Refused f) = refusal (number_of f) (place_of f)
+abbrev pub finding_answer : Finding → Answer Match
+finding_answer (Finding.Found m) = value m
+finding_answer (Finding.Refused f) = refusal (number_of f) (place_of f)
 
 pub data FindingOutcome (script : List ℕ) (number : ℕ) : Answer Match → Type 0 where
   -- 1 to 10, 19 to 21: the script's own refusal
-  script-refused : {n place : ℕ} → Outcome script (refusal n place) → FindingOutcome script number (refusal n place)
+  script_refused : {n place : ℕ} → Outcome script (refusal n place) → FindingOutcome script number (refusal n place)
   -- 13: number 0 or above the count
-  no-such-match :
+  no_such_match :
       {ls : List ℕ} {ms : List Match} {ks : List Mark} → Outcome script (value (contents ls ms ks))
       → (number ≡ 0) ⊎ (length ms < number) → FindingOutcome script number (refusal 13 0)
   -- no refusal. SCOPE, "Numbering": its number is one more than there are matches before it; marks do not count

@@ -27,17 +27,17 @@ use Rattle.runs.specs.Runs.{Same}
 use Rattle.cut_set.specs.Store.{Member, Finished, NothingFound, NothingAdded}
 use Rattle.cut_set.proofs.Gathering.{base_done}
 use Rattle.cut_set.proofs.Laws.{done-used, good-same}
-use Rattle.refining.specs.Columns.{Columns, count_of, leftsOn, rightsOn, fromAt, fromRightAt, Fit}
+use Rattle.refining.specs.Columns.{Columns, count_of, lefts_on, rights_on, from_at, from_right_at, Fit}
 use Rattle.refining.specs.Demands.{EveryExceeds}
 use Rattle.carrying_match.specs.OneMatch.{EndsIn}
 use Rattle.shelf.specs.Shelf.{set_at, Outside, Shelf, Shelved, GrownShelf, Jammed}
 use Rattle.shelf.proofs.Shelving.{grown-same}
 use Rattle.shelf.proofs.Members.{grown-member}
 use Rattle.shelving.specs.AllSets.{AllGathered, GatheredSets, LaidOut}
-use Rattle.tracks.specs.Tracks.{Tracked, matchIn, matchesIn, markAt, marksOf, givenIn, On, SideCut}
+use Rattle.tracks.specs.Tracks.{Tracked, match_in, matches_in, mark_at, marks_of, given_in, On, SideCut}
 use Rattle.tracks.specs.Tracks.{Kind, over, along, lane}
-use Rattle.tracks.specs.Engine.{FitTracks, booksOf, halfFrom, halfTo, Open}
-use Rattle.tracks.specs.Groups.{Groups, grouped, sideAt}
+use Rattle.tracks.specs.Engine.{FitTracks, books_of, half_from, half_to, Open}
+use Rattle.tracks.specs.Groups.{Groups, grouped, side_at}
 use Rattle.tracks.proofs.Indexed.{∈-matches, ∈-marks, marks-∈, on-place, lane-spans}
 use Rattle.tracks.proofs.Counting.{lane-none, jammed-exceeds}
 use Rattle.tracks.proofs.Grouped.{grouped-fit}
@@ -54,7 +54,7 @@ pub begun-laid : {n lo hi : ℕ} {xs b : List ℕ} → LaidOut n lo hi xs b → 
 begun-laid p = record {
   shelf = p.shelf;
   none_done = p.none_done;
-  holds = λ j l y. (λ m. absurd (omega (arith, m.from, m.below, p.none-used j l)), λ h. absurd h);
+  holds = λ j l y. (λ m. absurd (omega (arith, m.from, m.below, p.none_used j l)), λ h. absurd h);
 }
 
 module _ {P : ℕ → ℕ → Type 0} {n lo hi : ℕ} {xs b : List ℕ} (p : Begun P n lo hi xs b) where
@@ -70,7 +70,7 @@ module _ {P : ℕ → ℕ → Type 0} {n lo hi : ℕ} {xs b : List ℕ} (p : Beg
   begun-grown q = record {
     shelf = q.shelf;
     none_done = λ j l.
-        omega (arith, (q.sets j l).done-same, p.none_done j l, base_done (q.shelf.good j l));
+        omega (arith, (q.sets j l).done_same, p.none_done j l, base_done (q.shelf.good j l));
     holds = λ j l y. (
       λ m. ⊎_elim (λ h. inl ((p.holds j l y).0 h)) inr (grown-member (p.shelf.good j l) (q.sets j l) m),
       ⊎_elim (λ h. (q.sets j l).stays y ((p.holds j l y).1 h)) ((q.sets j l).held y),
@@ -115,45 +115,45 @@ module _ {P : ℕ → ℕ → Type 0} {n lo hi : ℕ} {xs b : List ℕ} (p : Beg
 module _ {c : Columns} {gs : List ℕ} {g n : ℕ} (fit : Fit c) (groups : Groups gs g (count_of c) n) (ts ps : List ℕ) where
   -- the matches with their tracks and the marks
   abbrev all : Tracked
-  all = grouped c gs g (marksOf ts ps)
+  all = grouped c gs g (marks_of ts ps)
 
   -- the ends on A, and the marks that are spanned on a side, among the numbers of the sets
   abbrev pub EndOn : ℕ → ℕ → Type 0
-  EndOn j y = EndIn c.from-lefts c.from-rights gs g 1 (length c.from-lefts) j y
+  EndOn j y = EndIn c.from_lefts c.from_rights gs g 1 (length c.from_lefts) j y
 
   abbrev pub MarkOn : Side → ℕ → ℕ → Type 0
-  MarkOn u j y = MarkIn (leftsOn u c) (rightsOn u c) gs g (sideAt u) ts ps (length ts) j y
+  MarkOn u j y = MarkIn (lefts_on u c) (rights_on u c) gs g (side_at u) ts ps (length ts) j y
 
   abbrev place_of : ℕ → ℕ → Place
   place_of j y = record { track = j; position = y }
 
   fits : FitTracks all n
-  fits = grouped-fit groups fit refl (marksOf ts ps)
+  fits = grouped-fit groups fit refl (marks_of ts ps)
 
-  count-on : (u : Side) → length (leftsOn u c) ≡ count_of c
-  count-on A = fit.from-length
-  count-on B = fit.to-length
+  count-on : (u : Side) → length (lefts_on u c) ≡ count_of c
+  count-on A = fit.from_length
+  count-on B = fit.to_length
 
-  end_of : {k : ℕ} → k < count_of c → (y : ℕ) → (y ≡ left (matchIn all k) A) ⊎ (y ≡ right (matchIn all k) A)
-      → Cut (matchesIn all) (marksOf ts ps) (place (matchIn all k) A y)
-  end_of {k} l y (inl e) = subst (λ (z : ℕ). Cut (matchesIn all) (marksOf ts ps) (place (matchIn all k) A z)) (sym e)
+  end_of : {k : ℕ} → k < count_of c → (y : ℕ) → (y ≡ left (match_in all k) A) ⊎ (y ≡ right (match_in all k) A)
+      → Cut (matches_in all) (marks_of ts ps) (place (match_in all k) A y)
+  end_of {k} l y (inl e) = subst (λ (z : ℕ). Cut (matches_in all) (marks_of ts ps) (place (match_in all k) A z)) (sym e)
       (end (∈-matches all l) (left_end A))
-  end_of {k} l y (inr e) = subst (λ (z : ℕ). Cut (matchesIn all) (marksOf ts ps) (place (matchIn all k) A z)) (sym e)
+  end_of {k} l y (inr e) = subst (λ (z : ℕ). Cut (matches_in all) (marks_of ts ps) (place (match_in all k) A z)) (sym e)
       (end (∈-matches all l) (right_end A))
 
   pub end-cut : {j y : ℕ} → EndOn j y → SideCut all A (place_of j y)
   end-cut {j} {y} p =
       let k = p.index in
-      let l : k < count_of c = omega (arith, p.below, fit.from-length) in
-      let is : (y ≡ left (matchIn all k) A) ⊎ (y ≡ right (matchIn all k) A) =
-      ⊎_elim inl (λ e. inr (e ∙ fit.from-right k l)) p.is in
+      let l : k < count_of c = omega (arith, p.below, fit.from_length) in
+      let is : (y ≡ left (match_in all k) A) ⊎ (y ≡ right (match_in all k) A) =
+      ⊎_elim inl (λ e. inr (e ∙ fit.from_right k l)) p.is in
       let on : On all A k (place_of j y) = record {
         below = l;
-        track-is = p.track-is;
-        spans = end-spanned (matchIn all k) A y is;
+        track_is = p.track_is;
+        spans = end-spanned (match_in all k) A y is;
       } in
       record {
-        cut = subst (λ (s : Place). Cut (matchesIn all) (marksOf ts ps) s) (on-place all A on) (end_of l y is);
+        cut = subst (λ (s : Place). Cut (matches_in all) (marks_of ts ps) s) (on-place all A on) (end_of l y is);
         index = k;
         on = on;
       }
@@ -162,21 +162,21 @@ module _ {c : Columns} {gs : List ℕ} {g n : ℕ} (fit : Fit c) (groups : Group
   on_of A {j} {y} p =
       let q = p.spanned in
       let l : q.index < count_of c = omega (arith, q.below, count-on A) in
-      (q.index, record { below = l; track-is = q.track-is; spans = (lane-spans all fit over A l y).0 q.is })
+      (q.index, record { below = l; track_is = q.track_is; spans = (lane-spans all fit over A l y).0 q.is })
   on_of B {j} {y} p =
       let q = p.spanned in
       let l : q.index < count_of c = omega (arith, q.below, count-on B) in
-      (q.index, record { below = l; track-is = q.track-is; spans = (lane-spans all fit over B l y).0 q.is })
+      (q.index, record { below = l; track_is = q.track_is; spans = (lane-spans all fit over B l y).0 q.is })
 
   pub mark-cut : (u : Side) {j y : ℕ} → MarkOn u j y → SideCut all u (place_of j y)
   mark-cut u {j} {y} p =
       let on = on_of u p in
-      let same : markAt ts ps p.mark ≡ place_of j y = λ i. place_of (p.track-is i) (p.position-is i) in
-      let here = subst (λ (s : Place). s ∈ marksOf ts ps) same (∈-marks ts ps p.before) in
+      let same : mark_at ts ps p.mark ≡ place_of j y = λ i. place_of (p.track_is i) (p.position_is i) in
+      let here = subst (λ (s : Place). s ∈ marks_of ts ps) same (∈-marks ts ps p.before) in
       let is = on-place all u on.1 in
       record {
-        cut = subst (λ (s : Place). Cut (matchesIn all) (marksOf ts ps) s) is
-            (mark (∈-matches all on.1.below) (subst (λ (s : Place). s ∈ marksOf ts ps) (sym is) here)
+        cut = subst (λ (s : Place). Cut (matches_in all) (marks_of ts ps) s) is
+            (mark (∈-matches all on.1.below) (subst (λ (s : Place). s ∈ marks_of ts ps) (sym is) here)
             on.1.spans);
         index = on.0;
         on = on.1;
@@ -197,15 +197,15 @@ module _ {c : Columns} {gs : List ℕ} {g n : ℕ} (fit : Fit c) (groups : Group
 
   -- ---- no room for one
 
-  room : (u : Side) (cap : ℕ) → halfTo u cap - halfFrom u cap ≡ 2 * cap
+  room : (u : Side) (cap : ℕ) → half_to u cap - half_from u cap ≡ 2 * cap
   room A cap = omega arith
   room B cap = omega arith
 
   -- the sets of the side hold what is a cut there, and there is no place for what comes, which is one too
   pub seeds-exceed : {P : ℕ → ℕ → Type 0} {Q : Place → Type 0} {cap : ℕ} {xs b : List ℕ} (u : Side)
-      → Begun P n (halfFrom u cap) (halfTo u cap) xs b → ((j y : ℕ) → P j y → SideCut all u (place_of j y))
+      → Begun P n (half_from u cap) (half_to u cap) xs b → ((j y : ℕ) → P j y → SideCut all u (place_of j y))
       → ((p : Place) → Q p → SideCut all u p)
-      → Jammed (λ p. Shelved xs b n p ⊎ Q p) (halfTo u cap - halfFrom u cap) → EveryExceeds (givenIn all) cap
+      → Jammed (λ p. Shelved xs b n p ⊎ Q p) (half_to u cap - half_from u cap) → EveryExceeds (given_in all) cap
   seeds-exceed {cap = cap} u p held come j =
       jammed-exceeds fits u (room u cap) j
       (λ s.
@@ -218,51 +218,51 @@ module _ {c : Columns} {gs : List ℕ} {g n : ℕ} (fit : Fit c) (groups : Group
   named over u {k} l = fits.named u k l
   named along u {k} l = fits.named (other u) k l
 
-  module _ (cap : ℕ) {xs a b : List ℕ} (on-a : Begun (Seed A) n 0 (2 * cap) xs a)
-      (on-b : Begun (Seed B) n (2 * cap) (4 * cap) xs b)
+  module _ (cap : ℕ) {xs a b : List ℕ} (on_a : Begun (Seed A) n 0 (2 * cap) xs a)
+      (on_b : Begun (Seed B) n (2 * cap) (4 * cap) xs b)
     where
-      begun : (u : Side) → Begun (Seed u) n (halfFrom u cap) (halfTo u cap) xs (booksOf a b u)
-      begun A = on-a
-      begun B = on-b
+      begun : (u : Side) → Begun (Seed u) n (half_from u cap) (half_to u cap) xs (books_of a b u)
+      begun A = on_a
+      begun B = on_b
 
-      unfinished : (u : Side) {j y : ℕ} → j < n → Finished xs (set_at (booksOf a b u) j) y → ⊥
+      unfinished : (u : Side) {j y : ℕ} → j < n → Finished xs (set_at (books_of a b u) j) y → ⊥
       unfinished u {j} l p = omega (arith, p.from, p.below, (begun u).none_done j l)
 
-      end-in : {k : ℕ} → k < count_of c → (y : ℕ) → EndAt (fromAt c k) (fromRightAt c k) y
+      end-in : {k : ℕ} → k < count_of c → (y : ℕ) → EndAt (from_at c k) (from_right_at c k) y
           → Member xs (set_at a (all.tracks A k)) y
       end-in {k} l y e =
-          (on-a.holds (all.tracks A k) (fits.named A k l) y).1
-          (inl (record { index = k; below = omega (arith, fit.from-length); track-is = refl; is = e }))
+          (on_a.holds (all.tracks A k) (fits.named A k l) y).1
+          (inl (record { index = k; below = omega (arith, fit.from_length); track_is = refl; is = e }))
 
-      ended : (k : ℕ) → k < count_of c → EndsIn xs (set_at a (all.tracks A k)) (fromAt c k) (fromRightAt c k)
-      ended k l = (end-in l (fromAt c k) (inl refl), end-in l (fromRightAt c k) (inr refl))
+      ended : (k : ℕ) → k < count_of c → EndsIn xs (set_at a (all.tracks A k)) (from_at c k) (from_right_at c k)
+      ended k l = (end-in l (from_at c k) (inl refl), end-in l (from_right_at c k) (inr refl))
 
       spanned : (u : Side) {k : ℕ} {p : Place} → On all u k p
-          → SpannedIn (leftsOn u c) (rightsOn u c) gs g (sideAt u) (length (leftsOn u c)) p.track p.position
+          → SpannedIn (lefts_on u c) (rights_on u c) gs g (side_at u) (length (lefts_on u c)) p.track p.position
       spanned A {k} {p} on = record {
         index = k;
-        below = omega (arith, on.below, fit.from-length);
-        track-is = on.track-is;
+        below = omega (arith, on.below, fit.from_length);
+        track_is = on.track_is;
         is = (lane-spans all fit over A on.below p.position).1 on.spans;
       }
       spanned B {k} {p} on = record {
         index = k;
-        below = omega (arith, on.below, fit.to-length);
-        track-is = on.track-is;
+        below = omega (arith, on.below, fit.to_length);
+        track_is = on.track_is;
         is = (lane-spans all fit over B on.below p.position).1 on.spans;
       }
 
-      marked : (u : Side) (k : ℕ) (p : Place) → p ∈ marksOf ts ps → On all u k p
-          → Member xs (set_at (booksOf a b u) p.track) p.position
+      marked : (u : Side) (k : ℕ) (p : Place) → p ∈ marks_of ts ps → On all u k p
+          → Member xs (set_at (books_of a b u) p.track) p.position
       marked u k p m on =
           let v = marks-∈ ts ps m in
-          let set = subst (λ (j : ℕ). j < n) on.track-is (fits.named u k on.below) in
+          let set = subst (λ (j : ℕ). j < n) on.track_is (fits.named u k on.below) in
           ((begun u).holds p.track set p.position).1
           (mark-seed u (record {
             mark = v.0;
             before = v.1;
-            track-is = ap (λ (s : Place). s.track) v.2;
-            position-is = ap (λ (s : Place). s.position) v.2;
+            track_is = ap (λ (s : Place). s.track) v.2;
+            position_is = ap (λ (s : Place). s.position) v.2;
             spanned = spanned u on;
           }))
 
@@ -276,21 +276,21 @@ module _ {c : Columns} {gs : List ℕ} {g n : ℕ} (fit : Fit c) (groups : Group
               let first : Member xs (set_at b j) (get_or xs (set_at b j).base 0) = record {
                 place = (set_at b j).base;
                 from = omega arith;
-                below = omega (arith, e, done-used (on-b.shelf.good j l), on-b.none_done j l);
+                below = omega (arith, e, done-used (on_b.shelf.good j l), on_b.none_done j l);
                 is = refl;
               } in
-              let on = on_of B ((on-b.holds j l (get_or xs (set_at b j).base 0)).0 first) in
+              let on = on_of B ((on_b.holds j l (get_or xs (set_at b j).base 0)).0 first) in
               let i = all.tracks A on.0 in
               let here = fits.named A on.0 on.1.below in
               let left_end = (ended on.0 on.1.below).0 in
-              absurd (omega (arith, left_end.from, left_end.below, none i here, on-a.none_done i here))
+              absurd (omega (arith, left_end.from, left_end.below, none i here, on_a.none_done i here))
 
-      gathered : AllGathered a n → AllGathered b n → (u : Side) (j : ℕ) → j < n → NothingAdded (set_at (booksOf a b u) j)
+      gathered : AllGathered a n → AllGathered b n → (u : Side) (j : ℕ) → j < n → NothingAdded (set_at (books_of a b u) j)
       gathered p q A = p.each
       gathered p q B = q.each
 
       pub begun-open : AllGathered a n → AllGathered b n → (hits : Kind → Side → ℕ)
-          → ((w : Kind) (u : Side) → hits w u ≡ 0) → Open all n cap xs (booksOf a b) hits A
+          → ((w : Kind) (u : Side) → hits w u ≡ 0) → Open all n cap xs (books_of a b) hits A
       begun-open p q hits zeros = record {
         shelf = λ u. (begun u).shelf;
         sound = λ u s m. seed-cut u (((begun u).holds s.track m.set s.position).0 m.member);
@@ -303,7 +303,7 @@ module _ {c : Columns} {gs : List ℕ} {g n : ℕ} (fit : Fit c) (groups : Group
           carried = λ j. [];
           once = λ j l. tt;
           finished = λ j l x. (λ i. absurd (Memᴰ.not-nil i), λ m. absurd (unfinished u l m));
-          hits-are = λ w. zeros w u ∙ sym (lane-none (lane w all u) (count_of c));
+          hits_are = λ w. zeros w u ∙ sym (lane-none (lane w all u) (count_of c));
         };
         few = λ w u. omega (arith, zeros w u);
       }
@@ -340,28 +340,28 @@ module _ {c : Columns} {gs : List ℕ} {g n : ℕ} (fit : Fit c) (groups : Group
       → length xs₃ ≡ length xs₂ → GatheredSets n 0 (2 * cap) xs₃ a₂ xs₄ a₃
       → length xs₄ ≡ length xs₃ → GatheredSets n (2 * cap) (4 * cap) xs₄ b₁ xs₅ b₂
       → length xs₅ ≡ length xs₄ → (hits : Kind → Side → ℕ) → ((w : Kind) (u : Side) → hits w u ≡ 0)
-      → Open all n cap xs₅ (booksOf a₃ b₂) hits A
-  seeded-open cap {xs₃ = xs₃} {xs₄ = xs₄} {xs₅ = xs₅} laid-a laid-b sown on-a e₂ on-b e₃ kept-a e₄ kept_b e₅ =
-      let a-seeds = begun-beside (seeds-a cap laid-a sown on-a) xs₃ on-b.outside (inr (omega arith)) e₃ in
-      let b-seeds = seeds-b cap (laid_beside cap laid-b sown on-a e₂) on-b in
+      → Open all n cap xs₅ (books_of a₃ b₂) hits A
+  seeded-open cap {xs₃ = xs₃} {xs₄ = xs₄} {xs₅ = xs₅} laid-a laid-b sown on_a e₂ on_b e₃ kept-a e₄ kept_b e₅ =
+      let a-seeds = begun-beside (seeds-a cap laid-a sown on_a) xs₃ on_b.outside (inr (omega arith)) e₃ in
+      let b-seeds = seeds-b cap (laid_beside cap laid-b sown on_a e₂) on_b in
       let a-kept = begun-beside (begun-gathered a-seeds kept-a) xs₅ kept_b.grown.outside (inr (omega arith)) e₅ in
       let b-kept = begun-gathered (begun-beside b-seeds xs₄ kept-a.grown.outside (inl (omega arith)) e₄) kept_b in
       begun-open cap a-kept b-kept kept-a.ready kept_b.ready
 
   -- no place for an end: nothing was there before
   pub sown-exceeds : {cap : ℕ} {xs a : List ℕ} → LaidOut n 0 (2 * cap) xs a
-      → Jammed (λ p. Shelved xs a n p ⊎ EndOn p.track p.position) (2 * cap - 0) → EveryExceeds (givenIn all) cap
+      → Jammed (λ p. Shelved xs a n p ⊎ EndOn p.track p.position) (2 * cap - 0) → EveryExceeds (given_in all) cap
   sown-exceeds laid j = seeds-exceed A (begun-laid laid) (λ j y p. absurd p) (λ p. end-cut) j
 
   -- no place for a mark on A: ends are there; none for one on B: nothing is there
   pub planted-exceeds-a : {cap : ℕ} {xs a ys a' : List ℕ} → LaidOut n 0 (2 * cap) xs a
       → GrownShelf EndOn n 0 (2 * cap) xs a ys a'
       → Jammed (λ p. Shelved ys a' n p ⊎ MarkOn A p.track p.position) (2 * cap - 0)
-      → EveryExceeds (givenIn all) cap
+      → EveryExceeds (given_in all) cap
   planted-exceeds-a laid sown j =
       seeds-exceed A (begun-grown (begun-laid laid) sown) (λ j y. ⊎_elim (λ p. absurd p) end-cut) (λ p. mark-cut A) j
 
   pub planted-exceeds-b : {cap : ℕ} {xs b : List ℕ} → Begun (λ j y. ⊥) n (2 * cap) (4 * cap) xs b
       → Jammed (λ p. Shelved xs b n p ⊎ MarkOn B p.track p.position) (4 * cap - 2 * cap)
-      → EveryExceeds (givenIn all) cap
+      → EveryExceeds (given_in all) cap
   planted-exceeds-b empty j = seeds-exceed B empty (λ j y p. absurd p) (λ p. mark-cut B) j

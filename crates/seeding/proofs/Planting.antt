@@ -26,7 +26,7 @@ use Rattle.shelf.proofs.Members.{grown-member}
 use Rattle.tracks.specs.Groups.{start_at, part}
 use Rattle.tracks.proofs.Grouped.{match-named, part_length, part_at}
 use Rattle.seeding.specs.Seeds.{EndOf}
-use Rattle.seeding.specs.Sown.{groupAt, SideGroups, MatchIn, SpannedHere, GroupSpans, SpannedIn, MarkAt, MarkIn}
+use Rattle.seeding.specs.Sown.{group_at, SideGroups, MatchIn, SpannedHere, GroupSpans, SpannedIn, MarkAt, MarkIn}
 use Rattle.seeding.specs.declared.Group.{Group}
 use Rattle.seeding.proofs.OneGroup.{group-whole, group-to, match-in, match-of, match-wide}
 
@@ -52,18 +52,18 @@ module _ {f r : List ℕ} {x k : ℕ} (p : Passable f r x x 0 k) where
 
 -- ---- one group, as it was read
 
-module _ {f r gs : List ℕ} {at g j x : ℕ} {q : Group} (e : q ≡ groupAt gs at g) where
+module _ {f r gs : List ℕ} {at g j x : ℕ} {q : Group} (e : q ≡ group_at gs at g) where
   pub spans-not : (q.track ≡ j → ⊥) → Answers (GroupSpans f r gs at g j x) false
   spans-not u = record {
     when = λ h. absurd (true≢false (sym h));
-    unless = λ _ p. u (ap (λ (z : Group). z.track) e ∙ sym p.track-is);
+    unless = λ _ p. u (ap (λ (z : Group). z.track) e ∙ sym p.track_is);
   }
 
   pub spans-as : {b : Bool} → q.track ≡ j
       → Answers (SpannedHere (part q.start q.end f) (part q.start q.end r) x) b
       → Answers (GroupSpans f r gs at g j x) b
   spans-as {b} k p = record {
-    when = λ h. record { track-is = sym k ∙ ap (λ (z : Group). z.track) e; here = found.when h };
+    when = λ h. record { track_is = sym k ∙ ap (λ (z : Group). z.track) e; here = found.when h };
     unless = λ h o. found.unless h o.here;
   }
     where
@@ -87,7 +87,7 @@ module _ {f r gs : List ℕ} {n at sets : ℕ} (s : SideGroups f r gs n at sets)
     looking-step not = record {
       until = omega arith;
       none = rw next (λ p.
-          ⊎_elim w.none (λ k. not.unless refl (record { track-is = k.0; here = k.1 })) (match-of s l p));
+          ⊎_elim w.none (λ k. not.unless refl (record { track_is = k.0; here = k.1 })) (match-of s l p));
     }
       where
         next : g + 1 ≡ suc g
@@ -95,7 +95,7 @@ module _ {f r gs : List ℕ} {n at sets : ℕ} (s : SideGroups f r gs n at sets)
 
     pub looking-found : Answers (GroupSpans f r gs at g j x) true → Answers (SpannedIn f r gs n at (length f) j x) true
     looking-found found = record {
-      when = λ _. let p = found.when refl in rw p.track-is (match-wide (group-to s l) (match-in s l p.here));
+      when = λ _. let p = found.when refl in rw p.track_is (match-wide (group-to s l) (match-in s l p.here));
       unless = λ h. absurd (true≢false h);
     }
 
@@ -134,7 +134,7 @@ module _ (ps : List ℕ) {q : ℕ} (l : q < length ps) where
 module _ {f r gs : List ℕ} {n at sets : ℕ} (s : SideGroups f r gs n at sets) where
   pub spanned-named : {R : ℕ → ℕ → Type 0} {j : ℕ} → MatchIn R f r gs n at (length f) j → j < sets
   spanned-named p =
-      subst (λ (i : ℕ). i < sets) p.track-is (match-named s.groups s.at_from s.at-to p.index p.below)
+      subst (λ (i : ℕ). i < sets) p.track_is (match-named s.groups s.at_from s.at_to p.index p.below)
 
   pub plant-none : {lo hi j x : ℕ} {xs b : List ℕ} → Answers (SpannedIn f r gs n at (length f) j x) false
       → Shelf xs b sets lo hi → GrownShelf (MarkAt f r gs n at j x) sets lo hi xs b xs b
@@ -181,8 +181,8 @@ module _ {f r gs ts ps : List ℕ} {n at sets lo hi : ℕ} {xs b : List ℕ} (sh
   marks-wide h p = record {
     mark = p.mark;
     before = omega (arith, p.before);
-    track-is = p.track-is;
-    position-is = p.position-is;
+    track_is = p.track_is;
+    position_is = p.position_is;
     spanned = p.spanned;
   }
 
@@ -195,8 +195,8 @@ module _ {f r gs ts ps : List ℕ} {n at sets lo hi : ℕ} {xs b : List ℕ} (sh
     mark-in {i} {y} p = record {
       mark = q;
       before = omega arith;
-      track-is = sym p.set;
-      position-is = sym p.is;
+      track_is = sym p.set;
+      position_is = sym p.is;
       spanned = rw p.set (rw p.is p.spanned);
     }
 
@@ -207,13 +207,13 @@ module _ {f r gs ts ps : List ℕ} {n at sets lo hi : ℕ} {xs b : List ℕ} (sh
         go (no e) = inl (record {
           mark = p.mark;
           before = omega (arith, p.before, e);
-          track-is = p.track-is;
-          position-is = p.position-is;
+          track_is = p.track_is;
+          position_is = p.position_is;
           spanned = p.spanned;
         })
         go (yes e) =
-            let track = sym p.track-is ∙ ap (λ k. get_or ts k 0) e in
-            let position = sym p.position-is ∙ ap (λ k. get_or ps k 0) e in
+            let track = sym p.track_is ∙ ap (λ k. get_or ts k 0) e in
+            let position = sym p.position_is ∙ ap (λ k. get_or ps k 0) e in
             inr (record { set = track; is = position; spanned = rw (sym track) (rw (sym position) p.spanned) })
 
     pub planting-step :

@@ -15,7 +15,7 @@ use Rattle.shelf.proofs.Members.{grown-member}
 use Rattle.tracks.specs.Groups.{start_at, part}
 use Rattle.tracks.proofs.Grouped.{start-count}
 use Rattle.seeding.specs.Seeds.{EndOf}
-use Rattle.seeding.specs.Sown.{groupAt, SideGroups, EndIn}
+use Rattle.seeding.specs.Sown.{group_at, SideGroups, EndIn}
 use Rattle.seeding.specs.declared.Group.{Group}
 use Rattle.seeding.proofs.OneGroup.{whole, group-whole, group-to, match-in, match-of, match-wide}
 
@@ -44,7 +44,7 @@ module _ {f r gs : List ℕ} {n at sets : ℕ} (s : SideGroups f r gs n at sets)
     }
 
     module _ {g : ℕ} {ys b' : List ℕ} (w : Sowing f r gs n at sets lo hi xs b g ys b') (l : g < n) {q : Group}
-        (e : q ≡ groupAt gs at g)
+        (e : q ≡ group_at gs at g)
       where
         pub sowing-step :
             {zs b'' : List ℕ} → length zs ≡ length ys → GrownShelf (EndHere f r q) sets lo hi ys b' zs b''

@@ -12,14 +12,14 @@ use native.Mathlib.Omega.{arith}
 use native.Mathlib.Decide.{ℕ_discrete}
 use lib.ListN.{length, get_or, set, length-set}
 use lib.Seq.{get_or-set_same, get_or-set_other}
-use Rattle.tracks.specs.Groups.{trackAt, Groups}
+use Rattle.tracks.specs.Groups.{track_at, Groups}
 use Rattle.tracks.proofs.Grouped.{track-named}
-use Rattle.seeding.specs.Sown.{groupAt}
+use Rattle.seeding.specs.Sown.{group_at}
 use Rattle.seeding.specs.Wanting.{Naming, Wanted}
 use Rattle.seeding.specs.declared.Group.{Group}
 
 pub groups-naming : {gs : List ℕ} {n count at sets : ℕ} → Groups gs n count sets → 1 ≤ at → at ≤ 2 → Naming gs n at sets
-groups-naming s from to = record { room = s.room; at-to = to; named = track-named s from to }
+groups-naming s from to = record { room = s.room; at_to = to; named = track-named s from to }
 
 -- vs are the flags before
 pub record Flagging (gs : List ℕ) (n at : ℕ) (vs : List Bool) (g : ℕ) (ws : List Bool) : Type 0 where
@@ -40,7 +40,7 @@ module _ {gs : List ℕ} {n at : ℕ} {vs : List Bool} (p : Naming gs n at (leng
   }
 
   module _ {g : ℕ} {ws : List Bool} (w : Flagging gs n at vs g ws) (l : g < n) {q : Group}
-      (e : q ≡ groupAt gs at g) where
+      (e : q ≡ group_at gs at g) where
     pub flagging-within : q.track < length ws
     flagging-within = omega (arith, w.lengths, ap (λ (z : Group). z.track) e, p.named g l)
 
@@ -48,18 +48,18 @@ module _ {gs : List ℕ} {n at : ℕ} {vs : List Bool} (p : Naming gs n at (leng
     flagging-step = record {
       until = omega arith;
       lengths = length-set ws q.track true ∙ w.lengths;
-      wanted = record { each = λ k h. go k h (ℕ_discrete (trackAt gs at k) q.track) };
+      wanted = record { each = λ k h. go k h (ℕ_discrete (track_at gs at k) q.track) };
     }
       where
         go :
-            (k : ℕ) → k < g + 1 → Dec (trackAt gs at k ≡ q.track)
-            → get_or (set ws q.track true) (trackAt gs at k) false ≡ true
+            (k : ℕ) → k < g + 1 → Dec (track_at gs at k ≡ q.track)
+            → get_or (set ws q.track true) (track_at gs at k) false ≡ true
         go k h (yes f) = rw f (get_or-set_same ws q.track true false flagging-within)
         go k h (no f) =
-            get_or-set_other ws q.track (trackAt gs at k) true false f ∙ w.wanted.each k (before (ℕ_discrete k g))
+            get_or-set_other ws q.track (track_at gs at k) true false f ∙ w.wanted.each k (before (ℕ_discrete k g))
           where
             before : Dec (k ≡ g) → k < g
-            before (yes i) = absurd (f (ap (trackAt gs at) i ∙ sym (ap (λ (z : Group). z.track) e)))
+            before (yes i) = absurd (f (ap (track_at gs at) i ∙ sym (ap (λ (z : Group). z.track) e)))
             before (no i) = omega (arith, i)
 
   pub flagging-end : {g : ℕ} {ws : List Bool} → Flagging gs n at vs g ws → n ≤ g → Wanted gs at n ws

@@ -1,10 +1,11 @@
 // The first cuts of the closure: the ends of the matches on A, and the marks that a match spans.
+#![tactic(auto)]
 ghost use Rattle.std.specs.Prelude.{◌≡◌, ◌+◌, ◌*◌, ◌≤◌, ◌<◌, length, get_or};
 ghost use Rattle.runs.specs.Runs.{Answers};
 ghost use Rattle.cut_set.specs.Store.{Good};
 ghost use Rattle.shelf.specs.Shelf.{Shelf};
 ghost use Rattle.shelf.specs.Filling.{Filling, FillingHere};
-ghost use Rattle.seeding.specs.Sown.{groupAt, SideGroups, EndIn, SpannedHere, GroupSpans, SpannedIn};
+ghost use Rattle.seeding.specs.Sown.{group_at, SideGroups, EndIn, SpannedHere, GroupSpans, SpannedIn};
 ghost use Rattle.seeding.specs.Sown.{MarkAt, MarkIn};
 ghost use Rattle.seeding.specs.Wanting.{Naming, Wanted};
 ghost use Rattle.seeding.specs.Seeds.{EndAt, EndOf, Seeding};
@@ -112,7 +113,7 @@ struct Group {
 fn read_group(groups: &[usize], g: usize, at: usize) -> Group
     requires g_in_bounds { 3 * g + 3 < length groups.now }
     requires at_bound { at ≤ 2 }
-    ensures { result ≡ groupAt groups.now at g }
+    ensures { result ≡ group_at groups.now at g }
 {
     let from = 3 * g;
     Group {

@@ -26,21 +26,21 @@ use Rattle.cut_set.proofs.Gathering.{base_done, base-fresh, used-top, used-limit
 use Rattle.cut_set.proofs.Laws.{none-added}
 use Rattle.cut_set.proofs.Storing.{outside-same}
 use Rattle.noting.specs.Notes.{OnlyNotes, Remembered}
-use Rattle.settling.specs.Parts.{parts, withNotes, Begins}
+use Rattle.settling.specs.Parts.{parts, with_notes, Begins}
 
 pub kept_then : {xs ys zs : List ℕ} {s t u : CutSet} → Kept xs s ys t → Kept ys t zs u → Kept xs s zs u
 kept_then {s = s} {t = t} p q = record {
   good = q.good;
   base_same = q.base_same ∙ p.base_same;
-  limit-same = q.limit-same ∙ p.limit-same;
+  limit_same = q.limit_same ∙ p.limit_same;
   members = λ y. Iff.trans (q.members y) (p.members y);
-  outside = λ k o. q.outside k (outside-same s t p.base_same p.limit-same o) ∙ p.outside k o;
+  outside = λ k o. q.outside k (outside-same s t p.base_same p.limit_same o) ∙ p.outside k o;
 }
 
 pub finished-then : {xs ys zs : List ℕ} {s t u : CutSet} → AllFinished xs s ys t → AllFinished ys t zs u →
     AllFinished xs s zs u
 finished-then p q =
-    record { kept = kept_then p.kept q.kept; used-same = q.used-same ∙ p.used-same; all = q.all }
+    record { kept = kept_then p.kept q.kept; used_same = q.used_same ∙ p.used_same; all = q.all }
 
 pub joined-after : {xs ys zs : List ℕ} {s t u : CutSet} → Kept xs s ys t → Joined ys t zs u → Joined xs s zs u
 joined-after p q = record { kept = kept_then p q.kept; run = q.run }
@@ -82,30 +82,30 @@ module _ {xs : List ℕ} {s : CutSet} (g : Good xs s) (e : NothingAdded s) where
   whole = rw (sym e) g.distinct
 
   found : Run xs s.done s.used
-  found = rw (sym e) g.found-run
+  found = rw (sym e) g.found_run
 
   part : {lo hi : ℕ} → s.base ≤ lo → hi ≤ s.used → DistinctIn xs lo hi
   part l h = distinct-part xs l h whole
 
   pub short-mergeable : Mergeable xs s.mid s.done s.used
   short-mergeable = record {
-    low = g.finished-short;
+    low = g.finished_short;
     high = found;
-    distinct = part (omega (arith, g.finished-long.order, g.finished-middle.order)) (omega arith);
+    distinct = part (omega (arith, g.finished_long.order, g.finished_middle.order)) (omega arith);
   }
 
   pub middle-mergeable : Mergeable xs s.long s.mid s.done
   middle-mergeable = record {
-    low = g.finished-middle;
-    high = g.finished-short;
-    distinct = part g.finished-long.order found.order;
+    low = g.finished_middle;
+    high = g.finished_short;
+    distinct = part g.finished_long.order found.order;
   }
 
   pub long-mergeable : Mergeable xs s.base s.long s.mid
   long-mergeable = record {
-    low = g.finished-long;
-    high = g.finished-middle;
-    distinct = part (omega arith) (omega (arith, g.finished-short.order, found.order));
+    low = g.finished_long;
+    high = g.finished_middle;
+    distinct = part (omega arith) (omega (arith, g.finished_short.order, found.order));
   }
 
   module _ {ys : List ℕ} (n : length ys ≡ length xs) where
@@ -113,21 +113,21 @@ module _ {xs : List ℕ} {s : CutSet} (g : Good xs s) (e : NothingAdded s) where
     pub found-mergeable : Merged xs s.long s.done ys → Mergeable ys s.long s.done s.used
     found-mergeable m = record {
       low = record {
-        order = omega (arith, g.finished-middle.order, g.finished-short.order);
-        within = omega (arith, n, g.finished-short.within);
+        order = omega (arith, g.finished_middle.order, g.finished_short.order);
+        within = omega (arith, n, g.finished_short.within);
         rising = m.rising;
       };
       high = run-same {xs = xs} (λ k l u. m.behind k l) n found;
       distinct = merged-distinct (merged-to s.used m) (omega arith) found.order
-          (part g.finished-long.order (omega arith));
+          (part g.finished_long.order (omega arith));
     }
 
     -- and that into the long one
     pub last-mergeable : Merged xs s.long s.done ys → Mergeable ys s.base s.long s.done
     last-mergeable m = record {
-      low = run-same {xs = xs} (λ k l u. m.before k u) n g.finished-long;
+      low = run-same {xs = xs} (λ k l u. m.before k u) n g.finished_long;
       high = (found-mergeable m).low;
-      distinct = merged-distinct (merged-to s.done m) g.finished-long.order (omega arith)
+      distinct = merged-distinct (merged-to s.done m) g.finished_long.order (omega arith)
           (part (omega arith) found.order);
     }
 
@@ -137,11 +137,11 @@ module _ {xs : List ℕ} {s : CutSet} (g : Good xs s) (e : NothingAdded s) where
     settled {lo} {hi} {long} {mid} low high a b c few m o same = record {
       kept = record {
         good = record {
-          finished-long = a;
-          finished-middle = b;
-          finished-short = c;
-          found-run = empty-run c.within;
-          few-finished = few;
+          finished_long = a;
+          finished_middle = b;
+          finished_short = c;
+          found_run = empty-run c.within;
+          few_finished = few;
           added = omega arith;
           room = omega (arith, used-top g);
           notes = record {
@@ -153,21 +153,21 @@ module _ {xs : List ℕ} {s : CutSet} (g : Good xs s) (e : NothingAdded s) where
           distinct = merged-distinct m low high whole;
         };
         base_same = refl;
-        limit-same = refl;
+        limit_same = refl;
         members = merged-wide m low high;
         outside = o;
       };
-      used-same = refl;
+      used_same = refl;
       all = refl;
     }
 
     pub settled-short : s.used ≤ s.mid + 512 → Merged xs s.mid s.used ys →
         AllFinished xs s ys (parts s s.long s.mid)
     settled-short few m = settled low (omega arith)
-        (run-same {xs = xs} (λ k l u. m.before k (omega (arith, g.finished-middle.order))) n g.finished-long)
-        (run-same {xs = xs} (λ k l u. m.before k u) n g.finished-middle)
+        (run-same {xs = xs} (λ k l u. m.before k (omega (arith, g.finished_middle.order))) n g.finished_long)
+        (run-same {xs = xs} (λ k l u. m.before k u) n g.finished_middle)
         (record {
-          order = omega (arith, g.finished-short.order, found.order);
+          order = omega (arith, g.finished_short.order, found.order);
           within = omega (arith, n, used-within g);
           rising = m.rising;
         })
@@ -175,15 +175,15 @@ module _ {xs : List ℕ} {s : CutSet} (g : Good xs s) (e : NothingAdded s) where
         (λ k l u. m.behind k (omega (arith, used-top g)))
       where
         low : s.base ≤ s.mid
-        low = omega (arith, g.finished-long.order, g.finished-middle.order)
+        low = omega (arith, g.finished_long.order, g.finished_middle.order)
 
     long_kept : Merged xs s.long s.done ys → Run ys s.base s.long
-    long_kept m = run-same {xs = xs} (λ k l u. m.before k u) n g.finished-long
+    long_kept m = run-same {xs = xs} (λ k l u. m.before k u) n g.finished_long
 
     pub settled-apart : s.used ≤ s.done + 512 → Merged xs s.long s.done ys →
         AllFinished xs s ys (parts s s.long s.done)
-    settled-apart few m = settled g.finished-long.order found.order (long_kept m) (found-mergeable m).low
-        (found-mergeable m).high few (merged-to s.used m) (merged-outside g g.finished-long.order found.order m)
+    settled-apart few m = settled g.finished_long.order found.order (long_kept m) (found-mergeable m).low
+        (found-mergeable m).high few (merged-to s.used m) (merged-outside g g.finished_long.order found.order m)
         (λ k l u. m.behind k (omega (arith, used-top g, found.order)))
 
   module _ {ys zs : List ℕ} (n : length ys ≡ length xs) (p : length zs ≡ length ys)
@@ -195,10 +195,10 @@ module _ {xs : List ℕ} {s : CutSet} (g : Good xs s) (e : NothingAdded s) where
 
     pub settled-middle : MergedOver ys s.long s.used s.used s.top zs →
         AllFinished xs s zs (parts s s.long s.used)
-    settled-middle o = settled (p ∙ n) g.finished-long.order (omega arith)
+    settled-middle o = settled (p ∙ n) g.finished_long.order (omega arith)
         (run-same {xs = ys} (λ k l u. o.before k u) p (long_kept n m))
         (record {
-          order = omega (arith, g.finished-middle.order, g.finished-short.order, found.order);
+          order = omega (arith, g.finished_middle.order, g.finished_short.order, found.order);
           within = omega (arith, p, n, used-within g);
           rising = o.rising;
         })
@@ -206,7 +206,7 @@ module _ {xs : List ℕ} {s : CutSet} (g : Good xs s) (e : NothingAdded s) where
         (omega arith)
         (merged-twice m (omega arith) found.order o)
         (λ k u. ⊎_elim
-        (λ h. o.before k (omega (arith, g.finished-long.order)) ∙ m.before k (omega (arith, g.finished-long.order)))
+        (λ h. o.before k (omega (arith, g.finished_long.order)) ∙ m.before k (omega (arith, g.finished_long.order)))
         (λ h. behind-both k (omega (arith, used-limit g)) (omega (arith, g.notes.order)) o)
         u)
         (λ k l u. behind-both k (omega (arith, used-top g)) l o)
@@ -223,9 +223,9 @@ module _ {xs : List ℕ} {s : CutSet} (g : Good xs s) (e : NothingAdded s) where
           (empty-run (omega (arith, p, n, used-within g)))
           (empty-run (omega (arith, p, n, used-within g)))
           (omega arith)
-          (merged-twice m g.finished-long.order (omega arith) o)
+          (merged-twice m g.finished_long.order (omega arith) o)
           (λ k u. ⊎_elim
-          (λ h. o.before k h ∙ m.before k (omega (arith, g.finished-long.order)))
+          (λ h. o.before k h ∙ m.before k (omega (arith, g.finished_long.order)))
           (λ h. behind-both k (omega (arith, used-limit g, found.order)) (omega (arith, g.notes.order)) o)
           u)
           (λ k l u. behind-both k (omega (arith, used-top g, found.order)) l o)
@@ -242,11 +242,11 @@ module _ {xs : List ℕ} {s : CutSet} (g : Good xs s) (d : NothingFound s) where
     kept = record {
       good = g;
       base_same = refl;
-      limit-same = refl;
+      limit_same = refl;
       members = λ y. Iff.rfl;
       outside = λ k o. refl;
     };
-    used-same = refl;
+    used_same = refl;
     all = d;
   }
 
@@ -254,33 +254,33 @@ module _ {xs : List ℕ} {s : CutSet} (g : Good xs s) (d : NothingFound s) where
       AllFinished xs s ys (parts s s.mid s.mid)
   lengthened {ys} n m = settled g (none-added g d) n (omega arith) mid-used
       (record {
-        order = omega (arith, g.finished-long.order, g.finished-middle.order);
-        within = omega (arith, n, g.finished-middle.within);
+        order = omega (arith, g.finished_long.order, g.finished_middle.order);
+        within = omega (arith, n, g.finished_middle.within);
         rising = m.rising;
       })
-      (empty-run (omega (arith, n, g.finished-middle.within)))
-      (run-same {xs = xs} (λ k l u. m.between k l u) n (rw (sym d) g.finished-short))
-      (omega (arith, g.few-finished))
+      (empty-run (omega (arith, n, g.finished_middle.within)))
+      (run-same {xs = xs} (λ k l u. m.between k l u) n (rw (sym d) g.finished_short))
+      (omega (arith, g.few_finished))
       (over-to m)
       (over-outside g (omega arith) mid-used m)
       (λ k l u. m.behind k (omega (arith, used-top g, mid-used)) l)
     where
       mid-used : s.mid ≤ s.used
-      mid-used = omega (arith, g.finished-short.order)
+      mid-used = omega (arith, g.finished_short.order)
 
   -- notes of all members, whatever was there before
   pub members-noted : {ys zs : List ℕ} {top : ℕ} → Begins s top → length ys ≡ length xs → length zs ≡ length ys →
       OnlyNotes xs top s.limit ys → Remembered ys s.base s.used top s.limit zs →
-      AllFinished xs s zs (withNotes s top)
+      AllFinished xs s zs (with_notes s top)
   members-noted {ys} {zs} {top} b n p o r = record {
     kept = record {
       good = record {
-        finished-long =
-            run (omega (arith, g.finished-middle.order, g.finished-short.order, done-used)) g.finished-long;
-        finished-middle = run (omega (arith, g.finished-short.order, done-used)) g.finished-middle;
-        finished-short = run done-used g.finished-short;
-        found-run = run g.added g.found-run;
-        few-finished = g.few-finished;
+        finished_long =
+            run (omega (arith, g.finished_middle.order, g.finished_short.order, done-used)) g.finished_long;
+        finished_middle = run (omega (arith, g.finished_short.order, done-used)) g.finished_middle;
+        finished_short = run done-used g.finished_short;
+        found_run = run g.added g.found_run;
+        few_finished = g.few_finished;
         added = g.added;
         room = omega (arith, none-added g d, b.from);
         notes = record {
@@ -294,7 +294,7 @@ module _ {xs : List ℕ} {s : CutSet} (g : Good xs s) (d : NothingFound s) where
             (sym (same i (omega (arith, g.added))) ∙ e ∙ same j (omega (arith, g.added)));
       };
       base_same = refl;
-      limit-same = refl;
+      limit_same = refl;
       members = λ y. (
         in-same (λ k l u. sym (same k u)),
         in-same (λ k l u. same k u),
@@ -302,7 +302,7 @@ module _ {xs : List ℕ} {s : CutSet} (g : Good xs s) (d : NothingFound s) where
       outside = λ k u. ⊎_elim (λ h. same k (omega (arith, base-fresh g, g.added)))
           (λ h. r.only k (inr h) ∙ o k (inr h)) u;
     };
-    used-same = refl;
+    used_same = refl;
     all = d;
   }
     where

@@ -1,6 +1,6 @@
 -- A set all of whose members are finished.
 --     parts s long mid     the members of s, with the long run up to long and the short one from mid on
---     withNotes s top      the same set with notes from top on
+--     with_notes s top      the same set with notes from top on
 --     Begins s r           notes may stand from r on
 -- Assumes nothing.
 use Rattle.std.specs.Prelude.{ℕ, ◌+◌, ◌≤◌}
@@ -23,8 +23,8 @@ pub record Begins (s : CutSet) (r : ℕ) : Type 0 where
   pub to : r ≤ s.limit
   pub few : s.limit ≤ r + 134217728
 
-abbrev pub withNotes : CutSet → ℕ → CutSet
-withNotes s r = record {
+abbrev pub with_notes : CutSet → ℕ → CutSet
+with_notes s r = record {
   base = s.base;
   long = s.long;
   mid = s.mid;

@@ -22,7 +22,7 @@ use Rattle.cut_set.specs.declared.CutSet.{CutSet}
 use Rattle.cut_set.proofs.Gathering.{base-fresh}
 use Rattle.shelf.specs.Shelf.{set_at, Shelf, GrownShelf, Saved, MadeRoom, Jammed, Shelved, filled}
 use Rattle.shelf.specs.Filling.{Reached, Crammed}
-use Rattle.shelf.proofs.Shelving.{stored-grown, shelf-none, shelf-then, shelf-as, shelf-wide, base-is, limit_is}
+use Rattle.shelf.proofs.Shelving.{stored-grown, shelf-none, shelf-then, shelf-as, shelf-wide, base_is, limit_is}
 use Rattle.shelf.proofs.Shelving.{set_grown, filled-most, filled-grown, filled_more, jammed, jammed-as}
 use Rattle.shelf.proofs.Members.{grown-member}
 
@@ -41,12 +41,12 @@ crowded-is e h = rw e h
 
 -- the set number j was s when it was loaded, and t when it was saved
 module _ {s t : CutSet} {n lo hi j : ℕ} {xs b ys b' : List ℕ} (e : s ≡ set_at b j)
-    (shelf : Shelf xs b n lo hi) (l : j < n) (saved : Saved b j t b') (length-work : length ys ≡ length xs)
-    (length-book : length b' ≡ length b) where
+    (shelf : Shelf xs b n lo hi) (l : j < n) (saved : Saved b j t b') (length_work : length ys ≡ length xs)
+    (length_book : length b' ≡ length b) where
   pub put : {P : ℕ → Type 0} → Stored P xs s ys t → GrownShelf (λ i y. (i ≡ j) × P y) n lo hi xs b ys b'
   put {P} p =
       let q : Stored P xs (set_at b j) ys t = rw e at p in
-      set_grown shelf l q.good (stored-grown q) saved length-work length-book q.base_same q.limit-same
+      set_grown shelf l q.good (stored-grown q) saved length_work length_book q.base_same q.limit_same
       q.outside
 
   pub put_full : {P : ℕ → Type 0} → Cramped P xs s ys t → Crammed P n lo hi j xs b ys b'
@@ -55,8 +55,8 @@ module _ {s t : CutSet} {n lo hi j : ℕ} {xs b ys b' : List ℕ} (e : s ≡ set
       λ h. (h.0, (h.1.0, member_is saved.here h.1.1)),
       λ h. (h.0, (h.1.0, member_is (sym saved.here) h.1.1)),
     ));
-    base_same = base-is saved.here ∙ p.stored.base_same ∙ base-is e;
-    limit-same = limit_is saved.here ∙ p.stored.limit-same ∙ limit_is e;
+    base_same = base_is saved.here ∙ p.stored.base_same ∙ base_is e;
+    limit_same = limit_is saved.here ∙ p.stored.limit_same ∙ limit_is e;
     ready = ready-is saved.here p.ready;
     crowded = crowded-is saved.here p.crowded;
   }
@@ -69,7 +69,7 @@ crammed-as e p = record {
     λ h. (h.0, ((e y).1 h.1.0, h.1.1)),
   ));
   base_same = p.base_same;
-  limit-same = p.limit-same;
+  limit_same = p.limit_same;
   ready = p.ready;
   crowded = record {
     full = p.crowded.full;
@@ -125,7 +125,7 @@ module _ {P : ℕ → Type 0} {n lo hi j : ℕ} {xs b ys b' : List ℕ} (l : j <
         more : (set_at b' j).used < (set_at b' j).limit →
             (set_at b' j).fresh - (set_at b' j).base < (set_at b'' j).fresh - (set_at b'' j).base
         more h = let good = g.grown.shelf.good j l in
-            omega (arith, base-fresh good, good.added, p.base_same, p.limit-same, p.ready, p.crowded.full)
+            omega (arith, base-fresh good, good.added, p.base_same, p.limit_same, p.ready, p.crowded.full)
 
     pub going_step : length ws ≡ length ys → Going P n lo hi j xs b ws b'''
     going_step m = record {

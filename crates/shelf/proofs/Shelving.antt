@@ -2,11 +2,11 @@
 --     grown-same, stored-grown, gathered-grown        what nothing changed has grown; storing and gathering are growing
 --     grown-then, grown-wide, grown-as                growing twice; by numbers of a wider kind, or of the same
 --     shelf-none, shelf-then, shelf-wide, shelf-as    the same of all sets
---     good-is, base-is, limit_is      what is known of a set holds of one that is the same
+--     good-is, base_is, limit_is      what is known of a set holds of one that is the same
 --     others_same, shelf-outside      what a change in the part of one set leaves as it was
 --     shelf-moved, set-moved      one set is changed, in places between its neighbours: a shelf, and how it has grown
 --     shelf-kept, set_grown       the same of a set that stands where it stood
---     filled-most, filled-same, filled-grown, filled-lt, filled_more     how many places hold gathered members
+--     filled-most, filled_same, filled-grown, filled-lt, filled_more     how many places hold gathered members
 --     jammed, jammed-as           every place holds a member, and there is one number more; the same of a wider kind
 -- Assumes nothing.
 use Prim.Native.Nat.{ℕ, zero, suc, ◌+◌, ◌-◌, ◌≤◌, ◌<◌}
@@ -32,11 +32,11 @@ pub grown-same : (xs ys : List ℕ) {s : CutSet} → Good xs s → Same xs ys s.
 grown-same xs ys {s} g same = record {
   finished = λ y. (back (omega arith) done-limit, forth (omega arith) done-limit);
   stays = λ y. forth (omega arith) (used-limit g);
-  run-kept = λ y. forth (base_done g) fresh-limit;
+  run_kept = λ y. forth (base_done g) fresh-limit;
   only = λ y p. inl (back (base_done g) (used-limit g) p);
   held = λ y p. absurd p;
   more = omega arith;
-  done-same = refl;
+  done_same = refl;
 }
   where
     done-limit : s.done ≤ s.limit
@@ -55,22 +55,22 @@ pub stored-grown : {P : ℕ → Type 0} {xs ys : List ℕ} {s t : CutSet} → St
 stored-grown p = record {
   finished = p.finished;
   stays = p.stays;
-  run-kept = p.run-kept;
+  run_kept = p.run_kept;
   only = p.only;
   held = p.held;
   more = omega (arith, p.base_same, p.more);
-  done-same = omega (arith, p.base_same, p.done-same);
+  done_same = omega (arith, p.base_same, p.done_same);
 }
 
 pub gathered-grown : {xs ys : List ℕ} {s t : CutSet} → Gathered xs s ys t → Grown (λ y. ⊥) xs s ys t
 gathered-grown g = record {
   finished = g.finished;
   stays = λ y m. (g.kept.members y).1 m;
-  run-kept = g.run-kept;
+  run_kept = g.run_kept;
   only = λ y m. inl (g.only y m);
   held = λ y p. absurd p;
   more = omega (arith, g.kept.base_same, g.more);
-  done-same = omega (arith, g.kept.base_same, g.done-same);
+  done_same = omega (arith, g.kept.base_same, g.done_same);
 }
 
 pub grown-then : {P Q : ℕ → Type 0} {xs ys zs : List ℕ} {s t u : CutSet} → Grown P xs s ys t → Grown Q ys t zs u →
@@ -78,11 +78,11 @@ pub grown-then : {P Q : ℕ → Type 0} {xs ys zs : List ℕ} {s t u : CutSet} �
 grown-then p q = record {
   finished = λ y. Iff.trans (q.finished y) (p.finished y);
   stays = λ y m. q.stays y (p.stays y m);
-  run-kept = λ y m. q.run-kept y (p.run-kept y m);
+  run_kept = λ y m. q.run_kept y (p.run_kept y m);
   only = λ y m. ⊎_elim (λ f. ⊎_elim inl (λ h. inr (inl h)) (p.only y f)) (λ h. inr (inr h)) (q.only y m);
   held = λ y h. ⊎_elim (λ h'. q.stays y (p.held y h')) (q.held y) h;
   more = omega (arith, p.more, q.more);
-  done-same = q.done-same ∙ p.done-same;
+  done_same = q.done_same ∙ p.done_same;
 }
 
 pub grown-wide : {P Q : ℕ → Type 0} {xs ys : List ℕ} {s t : CutSet} → Grown P xs s ys t → ((y : ℕ) → P y → Q y) →
@@ -90,11 +90,11 @@ pub grown-wide : {P Q : ℕ → Type 0} {xs ys : List ℕ} {s t : CutSet} → Gr
 grown-wide p wide held = record {
   finished = p.finished;
   stays = p.stays;
-  run-kept = p.run-kept;
+  run_kept = p.run_kept;
   only = λ y m. ⊎_elim inl (λ h. inr (wide y h)) (p.only y m);
   held = held;
   more = p.more;
-  done-same = p.done-same;
+  done_same = p.done_same;
 }
 
 pub grown-as : {P Q : ℕ → Type 0} {xs ys : List ℕ} {s t : CutSet} → Grown P xs s ys t → ((y : ℕ) → P y ↔ Q y) →
@@ -140,8 +140,8 @@ good-is e g = rw e g
 grown-is : {P : ℕ → Type 0} {xs ys : List ℕ} {s t u : CutSet} → t ≡ u → Grown P xs s ys u → Grown P xs s ys t
 grown-is e g = rw e g
 
-pub base-is : {s t : CutSet} → s ≡ t → s.base ≡ t.base
-base-is e = ap (λ s. s.base) e
+pub base_is : {s t : CutSet} → s ≡ t → s.base ≡ t.base
+base_is e = ap (λ s. s.base) e
 
 pub limit_is : {s t : CutSet} → s ≡ t → s.limit ≡ t.limit
 limit_is e = ap (λ s. s.limit) e
@@ -166,29 +166,29 @@ module _ (xs ys : List ℕ) {b : List ℕ} {n lo hi j : ℕ} (s : Shelf xs b n l
 
 -- the set number j is t now, and the lists are as long as they were
 module _ {xs b ys b' : List ℕ} {n lo hi j : ℕ} {t : CutSet} (s : Shelf xs b n lo hi) (in-book : j < n)
-    (good : Good ys t) (saved : Saved b j t b') (length-work : length ys ≡ length xs)
-    (length-book : length b' ≡ length b) where
+    (good : Good ys t) (saved : Saved b j t b') (length_work : length ys ≡ length xs)
+    (length_book : length b' ≡ length b) where
   -- it stands between the same neighbours, and no other set's numbers have changed
   pub shelf-moved : lo ≤ t.base → t.limit ≤ hi →
       ((i : ℕ) → i < j → (set_at b i).limit ≤ t.base) → ((i : ℕ) → j < i → i < n → t.limit ≤ (set_at b i).base) →
       ((i : ℕ) → i < n → i ≢ j → Same xs ys (set_at b i).base (set_at b i).limit) → Shelf ys b' n lo hi
   shelf-moved from to lower upper same = record {
-    book = length-book ∙ s.book;
+    book = length_book ∙ s.book;
     good = λ i l. good-at i l (ℕ_discrete i j);
     from = λ i l. from_at i l (ℕ_discrete i j);
     to = λ i l. to_at i l (ℕ_discrete i j);
     order = λ i k u l. order-at i k u l (ℕ_discrete i j) (ℕ_discrete k j);
     part = s.part;
-    within = omega (arith, length-work, s.within);
+    within = omega (arith, length_work, s.within);
   }
     where
       good-at : (i : ℕ) → i < n → Dec (i ≡ j) → Good ys (set_at b' i)
       good-at i l (yes e) = good-is (saved-here saved e) good
-      good-at i l (no u) = good-is (saved.others i u) (good-same xs ys (same i l u) length-work (s.good i l))
+      good-at i l (no u) = good-is (saved.others i u) (good-same xs ys (same i l u) length_work (s.good i l))
 
       from_at : (i : ℕ) → i < n → Dec (i ≡ j) → lo ≤ (set_at b' i).base
-      from_at i l (yes e) = omega (arith, base-is (saved-here saved e))
-      from_at i l (no u) = omega (arith, base-is (saved.others i u), s.from i l)
+      from_at i l (yes e) = omega (arith, base_is (saved-here saved e))
+      from_at i l (no u) = omega (arith, base_is (saved.others i u), s.from i l)
 
       to_at : (i : ℕ) → i < n → Dec (i ≡ j) → (set_at b' i).limit ≤ hi
       to_at i l (yes e) = omega (arith, limit_is (saved-here saved e))
@@ -197,11 +197,11 @@ module _ {xs b ys b' : List ℕ} {n lo hi j : ℕ} {t : CutSet} (s : Shelf xs b 
       order-at : (i k : ℕ) → i < k → k < n → Dec (i ≡ j) → Dec (k ≡ j) → (set_at b' i).limit ≤ (set_at b' k).base
       order-at i k u l (yes e) (yes f) = absurd (omega arith)
       order-at i k u l (yes e) (no v) =
-          omega (arith, limit_is (saved-here saved e), base-is (saved.others k v), upper k (omega arith) l)
+          omega (arith, limit_is (saved-here saved e), base_is (saved.others k v), upper k (omega arith) l)
       order-at i k u l (no v) (yes f) =
-          omega (arith, limit_is (saved.others i v), base-is (saved-here saved f), lower i (omega arith))
+          omega (arith, limit_is (saved.others i v), base_is (saved-here saved f), lower i (omega arith))
       order-at i k u l (no v) (no w) =
-          omega (arith, limit_is (saved.others i v), base-is (saved.others k w), s.order i k u l)
+          omega (arith, limit_is (saved.others i v), base_is (saved.others k w), s.order i k u l)
 
   -- it stands where it stood
   pub shelf-kept : t.base ≡ (set_at b j).base → t.limit ≡ (set_at b j).limit →
@@ -216,7 +216,7 @@ module _ {xs b ys b' : List ℕ} {n lo hi j : ℕ} {t : CutSet} (s : Shelf xs b 
 -- besides, the set has grown
 module _ {P : ℕ → Type 0} {xs b ys b' : List ℕ} {n lo hi j : ℕ} {t : CutSet} (s : Shelf xs b n lo hi) (in-book : j < n)
     (good : Good ys t) (grown : Grown P xs (set_at b j) ys t) (saved : Saved b j t b')
-    (length-work : length ys ≡ length xs) (length-book : length b' ≡ length b) where
+    (length_work : length ys ≡ length xs) (length_book : length b' ≡ length b) where
   grown-at : ((i : ℕ) → i < n → i ≢ j → Same xs ys (set_at b i).base (set_at b i).limit) → (i : ℕ) → i < n →
       Dec (i ≡ j) → Grown (λ y. (i ≡ j) × P y) xs (set_at b i) ys (set_at b' i)
   grown-at same i l (yes e) =
@@ -229,7 +229,7 @@ module _ {P : ℕ → Type 0} {xs b ys b' : List ℕ} {n lo hi j : ℕ} {t : Cut
       ((i : ℕ) → i < n → i ≢ j → Same xs ys (set_at b i).base (set_at b i).limit) → Outside lo hi xs ys →
       GrownShelf (λ i y. (i ≡ j) × P y) n lo hi xs b ys b'
   set-moved from to lower upper same outside = record {
-    shelf = shelf-moved s in-book good saved length-work length-book from to lower upper same;
+    shelf = shelf-moved s in-book good saved length_work length_book from to lower upper same;
     sets = λ i l. grown-at same i l (ℕ_discrete i j);
     outside = outside;
   }
@@ -237,7 +237,7 @@ module _ {P : ℕ → Type 0} {xs b ys b' : List ℕ} {n lo hi j : ℕ} {t : Cut
   pub set_grown : t.base ≡ (set_at b j).base → t.limit ≡ (set_at b j).limit →
       Outside (set_at b j).base (set_at b j).limit xs ys → GrownShelf (λ i y. (i ≡ j) × P y) n lo hi xs b ys b'
   set_grown base limit apart = record {
-    shelf = shelf-kept s in-book good saved length-work length-book base limit apart;
+    shelf = shelf-kept s in-book good saved length_work length_book base limit apart;
     sets = λ i l. grown-at (others_same xs ys s in-book apart) i l (ℕ_discrete i j);
     outside = shelf-outside xs ys s in-book apart;
   }
@@ -265,8 +265,8 @@ filled-le b b' zero f = omega arith
 filled-le b b' (suc n) f =
     omega (arith, filled-le b b' n (λ j l. f j (omega arith)), f n (omega arith))
 
-pub filled-same : (b b' : List ℕ) (n : ℕ) → ((j : ℕ) → j < n → size_at b' j ≡ size_at b j) → filled b' n ≡ filled b n
-filled-same b b' n f = omega (
+pub filled_same : (b b' : List ℕ) (n : ℕ) → ((j : ℕ) → j < n → size_at b' j ≡ size_at b j) → filled b' n ≡ filled b n
+filled_same b b' n f = omega (
   arith,
   filled-le b b' n (λ j l. omega (arith, f j l)),
   filled-le b' b n (λ j l. omega (arith, f j l)),
@@ -299,7 +299,7 @@ placed xs k at (suc n) rest = record { track = k; position = get_or xs at 0 } �
 
 -- p is one of these
 record Among (xs : List ℕ) (k lo hi : ℕ) (p : Place) : Type 0 where
-  track-is : p.track ≡ k
+  track_is : p.track ≡ k
   stands : In xs lo hi p.position
 
 placed-in : (xs : List ℕ) (k at n : ℕ) {rest : List Place} {p : Place} → p ∈ placed xs k at n rest →
@@ -307,11 +307,11 @@ placed-in : (xs : List ℕ) (k at n : ℕ) {rest : List Place} {p : Place} → p
 placed-in xs k at zero m = inr m
 placed-in xs k at (suc n) m = ⊎_elim
     (λ e. inl (record {
-      track-is = ap (λ p. p.track) e;
+      track_is = ap (λ p. p.track) e;
       stands = record { place = at; from = omega arith; below = omega arith; is = sym (ap (λ p. p.position) e) };
     }))
     (λ q. ⊎_elim
-    (λ a. inl (record { track-is = a.track-is; stands = in-wide (omega arith) (omega arith) a.stands }))
+    (λ a. inl (record { track_is = a.track_is; stands = in-wide (omega arith) (omega arith) a.stands }))
     inr
     (placed-in xs k (suc at) n q))
     (Memᴰ.cases_cons m)
@@ -336,43 +336,43 @@ placed-length xs k at zero rest = omega arith
 placed-length xs k at (suc n) rest = omega (arith, placed-length xs k (suc at) n rest)
 
 -- the gathered members of the first n sets
-abbrev shelvedOf : List ℕ → List ℕ → ℕ → List Place
-shelvedOf xs b zero = []
-shelvedOf xs b (suc k) = placed xs k (set_at b k).base ((set_at b k).fresh - (set_at b k).base) (shelvedOf xs b k)
+abbrev shelved_of : List ℕ → List ℕ → ℕ → List Place
+shelved_of xs b zero = []
+shelved_of xs b (suc k) = placed xs k (set_at b k).base ((set_at b k).fresh - (set_at b k).base) (shelved_of xs b k)
 
 module _ {xs b : List ℕ} {n lo hi : ℕ} (s : Shelf xs b n lo hi) where
-  fresh-is : (k : ℕ) → k < n → (set_at b k).base + size_at b k ≡ (set_at b k).fresh
-  fresh-is k l = omega (arith, base-fresh (s.good k l))
+  fresh_is : (k : ℕ) → k < n → (set_at b k).base + size_at b k ≡ (set_at b k).fresh
+  fresh_is k l = omega (arith, base-fresh (s.good k l))
 
-  shelved-in : (k : ℕ) → k ≤ n → (p : Place) → p ∈ shelvedOf xs b k → (p.track < k) × Shelved xs b n p
+  shelved-in : (k : ℕ) → k ≤ n → (p : Place) → p ∈ shelved_of xs b k → (p.track < k) × Shelved xs b n p
   shelved-in zero l p m = absurd (Memᴰ.not-nil m)
   shelved-in (suc k) l p m = ⊎_elim
-      (λ a. (omega (arith, a.track-is), here a))
+      (λ a. (omega (arith, a.track_is), here a))
       (λ q. let before = shelved-in k (omega arith) p q in (omega (arith, before.0), before.1))
       (placed-in xs k (set_at b k).base (size_at b k) m)
     where
       here : Among xs k (set_at b k).base ((set_at b k).base + size_at b k) p → Shelved xs b n p
       here a = record {
-        set = omega (arith, a.track-is);
-        member = rw a.track-is
-            (in-wide (omega arith) (omega (arith, fresh-is k l, (s.good k l).added)) a.stands);
+        set = omega (arith, a.track_is);
+        member = rw a.track_is
+            (in-wide (omega arith) (omega (arith, fresh_is k l, (s.good k l).added)) a.stands);
       }
 
-  shelved-distinct : (k : ℕ) → k ≤ n → Distinct (shelvedOf xs b k)
+  shelved-distinct : (k : ℕ) → k ≤ n → Distinct (shelved_of xs b k)
   shelved-distinct zero l = tt
   shelved-distinct (suc k) l = placed-distinct xs k (set_at b k).base (size_at b k)
-      (rw (fresh-is k l) (s.good k l).distinct) (shelved-distinct k (omega arith))
+      (rw (fresh_is k l) (s.good k l).distinct) (shelved-distinct k (omega arith))
       (λ p m. (shelved-in k (omega arith) p m).0)
 
-  shelved-length : (k : ℕ) → length (shelvedOf xs b k) ≡ filled b k
+  shelved-length : (k : ℕ) → length (shelved_of xs b k) ≡ filled b k
   shelved-length zero = refl
   shelved-length (suc k) =
-      omega (arith, placed-length xs k (set_at b k).base (size_at b k) (shelvedOf xs b k), shelved-length k)
+      omega (arith, placed-length xs k (set_at b k).base (size_at b k) (shelved_of xs b k), shelved-length k)
 
   pub jammed : {j x : ℕ} → filled b n ≡ hi - lo → (Member xs (set_at b j) x → ⊥) →
       Jammed (λ p. Shelved xs b n p ⊎ (p ≡ record { track = j; position = x })) (hi - lo)
   jammed {j} {x} full absent = record {
-    list = record { track = j; position = x } ∷ shelvedOf xs b n;
+    list = record { track = j; position = x } ∷ shelved_of xs b n;
     distinct = (
       λ p m e. absent (rw (← e) at (shelved-in n (omega arith) p m).1.member),
       shelved-distinct n (omega arith),

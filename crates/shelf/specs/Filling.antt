@@ -16,7 +16,7 @@ Reached P j ys b i y = (i ≡ j) × (P y × Member ys (set_at b j) y)
 pub record Crammed (P : ℕ → Type 0) (n lo hi j : ℕ) (xs b ys b' : List ℕ) : Type 0 where
   pub grown : GrownShelf (Reached P j ys b') n lo hi xs b ys b'
   pub base_same : (set_at b' j).base ≡ (set_at b j).base
-  pub limit-same : (set_at b' j).limit ≡ (set_at b j).limit
+  pub limit_same : (set_at b' j).limit ≡ (set_at b j).limit
   pub ready : NothingAdded (set_at b' j)
   pub crowded : Crowded P ys (set_at b' j)
 

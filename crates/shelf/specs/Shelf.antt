@@ -52,12 +52,12 @@ filled b (suc j) = filled b j + ((set_at b j).fresh - (set_at b j).base)
 pub record Grown (P : ℕ → Type 0) (xs : List ℕ) (s : CutSet) (ys : List ℕ) (t : CutSet) : Type 0 where
   pub finished : (y : ℕ) → Finished ys t y ↔ Finished xs s y
   pub stays : (y : ℕ) → Member xs s y → Member ys t y
-  pub run-kept : (y : ℕ) → In xs s.done s.fresh y → In ys t.done t.fresh y
+  pub run_kept : (y : ℕ) → In xs s.done s.fresh y → In ys t.done t.fresh y
   pub only : (y : ℕ) → Found ys t y → Found xs s y ⊎ P y
   pub held : (y : ℕ) → P y → Member ys t y
   pub more : s.fresh - s.base ≤ t.fresh - t.base
   -- the finished members stand in as many places as before
-  pub done-same : t.done - t.base ≡ s.done - s.base
+  pub done_same : t.done - t.base ≡ s.done - s.base
 
 pub record GrownShelf (P : ℕ → ℕ → Type 0) (n lo hi : ℕ) (xs b ys b' : List ℕ) : Type 0 where
   pub shelf : Shelf ys b' n lo hi

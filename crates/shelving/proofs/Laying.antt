@@ -19,7 +19,7 @@ pub record EmptyIn (xs : List ℕ) (lo hi : ℕ) (s : CutSet) : Type 0 where
   pub from : lo ≤ s.base
   pub to : s.limit ≤ hi
   pub none_done : s.done ≡ s.base
-  pub none-used : s.used ≡ s.base
+  pub none_used : s.used ≡ s.base
 
 empty-is : {xs : List ℕ} {lo hi : ℕ} {s t : CutSet} → s ≡ t → EmptyIn xs lo hi t → EmptyIn xs lo hi s
 empty-is e p = rw e p
@@ -30,17 +30,17 @@ empty-wide h p = record {
   from = p.from;
   to = omega (arith, p.to);
   none_done = p.none_done;
-  none-used = p.none-used;
+  none_used = p.none_used;
 }
 
 emptied-in : {xs : List ℕ} {lo base limit : ℕ} {s : CutSet} → lo ≤ base → Emptied xs base limit s →
     EmptyIn xs lo limit s
 emptied-in h e = record {
   good = e.good;
-  from = omega (arith, e.base-is);
+  from = omega (arith, e.base_is);
   to = omega (arith, e.limit_is);
-  none_done = omega (arith, e.done-is, e.base-is);
-  none-used = omega (arith, e.used-is, e.base-is);
+  none_done = omega (arith, e.done_is, e.base_is);
+  none_used = omega (arith, e.used_is, e.base_is);
 }
 
 -- the first k sets are empty ones in the places [lo, at), in their order
@@ -80,7 +80,7 @@ lay-next {lo = lo} {k = k} {at} {limit} {xs} {b} {b'} p l w e lb = record {
     order-at : (i j : ℕ) → i < j → j < k + 1 → Dec (j ≡ k) → (set_at b' i).limit ≤ (set_at b' j).base
     order-at i j u v (yes f) =
         let last : (set_at b' k).base ≡ e.set.base = ap (λ s. s.base) e.saved.here in
-        rw f (omega (arith, before i (omega arith), (p.each i (omega arith)).to, last, e.emptied.base-is))
+        rw f (omega (arith, before i (omega arith), (p.each i (omega arith)).to, last, e.emptied.base_is))
     order-at i j u v (no f) =
         omega (arith, before i (omega arith), ap (λ s. s.base) (e.saved.others j f), p.order i j u (omega arith))
 
@@ -96,5 +96,5 @@ lay-whole p h = record {
     within = p.layable.within;
   };
   none_done = λ j l. (p.each j (omega arith)).none_done;
-  none-used = λ j l. (p.each j (omega arith)).none-used;
+  none_used = λ j l. (p.each j (omega arith)).none_used;
 }

@@ -18,7 +18,7 @@ use Rattle.cut_set.specs.Store.{Good, Member, NothingAdded, NothingFound, Kept, 
 use Rattle.cut_set.specs.declared.CutSet.{CutSet}
 use Rattle.cut_set.proofs.Laws.{none-added, good-same}
 use Rattle.shelf.specs.Shelf.{set_at, Outside, Shelf, GrownShelf, Saved}
-use Rattle.shelf.proofs.Shelving.{grown-same, gathered-grown, shelf-none, shelf-then, shelf-as, filled-same}
+use Rattle.shelf.proofs.Shelving.{grown-same, gathered-grown, shelf-none, shelf-then, shelf-as, filled_same}
 use Rattle.shelf.proofs.Shelving.{others_same, shelf-outside, shelf-kept, set_grown}
 use Rattle.shelving.specs.AllSets.{AllGathered, GatheredSets, FinishedSets, AnyFound}
 use Rattle.shelving.specs.OneSet.{GatheredSet, FinishedSet}
@@ -40,16 +40,16 @@ pub record GatheredTo (n lo hi k : ℕ) (xs b ys b' : List ℕ) : Type 0 where
   pub few : k ≤ n
   pub grown : GrownShelf (λ i y. ⊥) n lo hi xs b ys b'
   pub ready : (i : ℕ) → i < k → NothingAdded (set_at b' i)
-  pub length-work : length ys ≡ length xs
-  pub length-book : length b' ≡ length b
+  pub length_work : length ys ≡ length xs
+  pub length_book : length b' ≡ length b
 
 pub gather-start : {n lo hi : ℕ} {xs b : List ℕ} → Shelf xs b n lo hi → GatheredTo n lo hi 0 xs b xs b
 gather-start s = record {
   few = omega arith;
   grown = shelf-none s;
   ready = λ i l. absurd (omega arith);
-  length-work = refl;
-  length-book = refl;
+  length_work = refl;
+  length_book = refl;
 }
 
 pub gather-next : {n lo hi k : ℕ} {xs b ys b' zs b'' : List ℕ} → GatheredTo n lo hi k xs b ys b' → k < n →
@@ -58,11 +58,11 @@ gather-next {k = k} {ys = ys} {b' = b'} {zs = zs} {b'' = b''} p l g lw lb = reco
   few = omega arith;
   grown = shelf-as
       (shelf-then p.grown (set_grown p.grown.shelf l kept.good (gathered-grown g.gathered) g.saved lw lb
-      kept.base_same kept.limit-same kept.outside))
+      kept.base_same kept.limit_same kept.outside))
       (λ i l y. (⊎_elim (λ h. h) (λ h. h.1), (λ h. absurd h)));
   ready = λ i u. ready_at i u (ℕ_discrete i k);
-  length-work = lw ∙ p.length-work;
-  length-book = lb ∙ p.length-book;
+  length_work = lw ∙ p.length_work;
+  length_book = lb ∙ p.length_book;
 }
   where
     kept : Kept ys (set_at b' k) zs g.set
@@ -85,8 +85,8 @@ pub record FinishedTo (n lo hi k : ℕ) (xs b ys b' : List ℕ) : Type 0 where
   pub none : (i : ℕ) → i < k → NothingFound (set_at b' i)
   pub sizes : (i : ℕ) → i < n → (set_at b' i).used - (set_at b' i).base ≡ (set_at b i).used - (set_at b i).base
   pub outside : Outside lo hi xs ys
-  pub length-work : length ys ≡ length xs
-  pub length-book : length b' ≡ length b
+  pub length_work : length ys ≡ length xs
+  pub length_book : length b' ≡ length b
 
 pub finish-start : {n lo hi : ℕ} {xs b : List ℕ} → Shelf xs b n lo hi → AllGathered b n →
     FinishedTo n lo hi 0 xs b xs b
@@ -98,8 +98,8 @@ finish-start s a = record {
   none = λ i l. absurd (omega arith);
   sizes = λ i l. refl;
   outside = λ k o. refl;
-  length-work = refl;
-  length-book = refl;
+  length_work = refl;
+  length_book = refl;
 }
 
 -- a set in the second list has the members that another has in the first, in as many places, and nothing was added
@@ -131,21 +131,21 @@ same-finished : {xs ys : List ℕ} {s t : CutSet} → AllFinished xs s ys t → 
 same-finished f = record {
   ready = none-added f.kept.good f.all;
   members = f.kept.members;
-  size = omega (arith, f.used-same, f.kept.base_same);
+  size = omega (arith, f.used_same, f.kept.base_same);
 }
 
 pub finish-next : {n lo hi k : ℕ} {xs b ys b' zs b'' : List ℕ} → FinishedTo n lo hi k xs b ys b' → k < n →
     FinishedSet k ys b' zs b'' → length zs ≡ length ys → length b'' ≡ length b' → FinishedTo n lo hi (k + 1) xs b zs b''
 finish-next {n} {k = k} {ys = ys} {b'} {zs} {b''} p l f lw lb = record {
   few = omega arith;
-  shelf = shelf-kept p.shelf l kept.good f.saved lw lb kept.base_same kept.limit-same kept.outside;
+  shelf = shelf-kept p.shelf l kept.good f.saved lw lb kept.base_same kept.limit_same kept.outside;
   ready = λ i u. (same_at i u (ℕ_discrete i k)).ready;
   members = λ i u y. Iff.trans ((same_at i u (ℕ_discrete i k)).members y) (p.members i u y);
   none = λ i u. none-at i u (ℕ_discrete i k);
   sizes = λ i u. (same_at i u (ℕ_discrete i k)).size ∙ p.sizes i u;
   outside = λ k o. shelf-outside ys zs p.shelf l kept.outside k o ∙ p.outside k o;
-  length-work = lw ∙ p.length-work;
-  length-book = lb ∙ p.length-book;
+  length_work = lw ∙ p.length_work;
+  length_book = lb ∙ p.length_book;
 }
   where
     kept : Kept ys (set_at b' k) zs f.set
@@ -167,7 +167,7 @@ finish-whole {n} {b = b} {b' = b'} a h p = record {
   members = p.members;
   none = λ i l. p.none i (omega arith);
   sizes = p.sizes;
-  filled-same = filled-same b b' n (λ i l. omega (arith, p.ready i l, a.each i l, p.sizes i l));
+  filled_same = filled_same b b' n (λ i l. omega (arith, p.ready i l, a.each i l, p.sizes i l));
   outside = p.outside;
 }
 

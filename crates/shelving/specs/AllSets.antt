@@ -24,7 +24,7 @@ pub record FinishedSets (n lo hi : ℕ) (xs b ys b' : List ℕ) : Type 0 where
   pub members : (j : ℕ) → j < n → (y : ℕ) → Member ys (set_at b' j) y ↔ Member xs (set_at b j) y
   pub none : (j : ℕ) → j < n → NothingFound (set_at b' j)
   pub sizes : (j : ℕ) → j < n → (set_at b' j).used - (set_at b' j).base ≡ (set_at b j).used - (set_at b j).base
-  pub filled-same : filled b' n ≡ filled b n
+  pub filled_same : filled b' n ≡ filled b n
   pub outside : Outside lo hi xs ys
 
 -- one of the first n sets has newly found members
@@ -48,4 +48,4 @@ pub record Layable (xs b : List ℕ) (n lo hi : ℕ) : Type 0 where
 pub record LaidOut (n lo hi : ℕ) (xs b : List ℕ) : Type 0 where
   pub shelf : Shelf xs b n lo hi
   pub none_done : (j : ℕ) → j < n → (set_at b j).done ≡ (set_at b j).base
-  pub none-used : (j : ℕ) → j < n → (set_at b j).used ≡ (set_at b j).base
+  pub none_used : (j : ℕ) → j < n → (set_at b j).used ≡ (set_at b j).base

@@ -21,8 +21,8 @@ use Rattle.sifting.proofs.Keeping.{Keeping, keep-start, keep-step}
 -- ys is xs on the way
 pub record Sifting (xs : List ℕ) (lo hi at end : ℕ) (ys : List ℕ) (low kept k : ℕ) : Type 0 where
   pub keeping : Keeping xs (In xs lo hi) at end ys kept k
-  pub low-from : lo ≤ low
-  pub low-to : low ≤ hi
+  pub low_from : lo ≤ low
+  pub low_to : low ≤ hi
   pub passed : (i j : ℕ) → lo ≤ i → i < low → k ≤ j → j < end → get_or xs i 0 < get_or xs j 0
 
 module _ {xs : List ℕ} {lo hi at end : ℕ} (s : Siftable xs lo hi at end) where
@@ -49,8 +49,8 @@ module _ {xs : List ℕ} {lo hi at end : ℕ} (s : Siftable xs lo hi at end) whe
   pub sift-start : Sifting xs lo hi at end xs lo at at
   sift-start = record {
     keeping = keep-start s.second;
-    low-from = omega arith;
-    low-to = s.first.order;
+    low_from = omega arith;
+    low_to = s.first.order;
     passed = λ i j l h m u. absurd (omega arith);
   }
 
@@ -69,10 +69,10 @@ module _ {xs : List ℕ} {lo hi at end : ℕ} (s : Siftable xs lo hi at end) whe
     first-same j l u = i.keeping.before j (omega (arith, s.order))
 
     pub sift-run : Run ys low hi
-    sift-run = run-same {xs = xs} (λ j l u. first-same j (omega (arith, i.low-from)) u) i.keeping.lengths (record {
-      order = i.low-to;
+    sift-run = run-same {xs = xs} (λ j l u. first-same j (omega (arith, i.low_from)) u) i.keeping.lengths (record {
+      order = i.low_to;
       within = s.first.within;
-      rising = λ j j' l o u. s.first.rising j j' (omega (arith, i.low-from)) o u;
+      rising = λ j j' l o u. s.first.rising j j' (omega (arith, i.low_from)) o u;
     })
 
     module _ {x : ℕ} {known : Bool} {next count : ℕ} (more : k < end) (is : x ≡ get_or ys k 0)
@@ -83,7 +83,7 @@ module _ {xs : List ℕ} {lo hi at end : ℕ} (s : Siftable xs lo hi at end) whe
       -- whether x is in the whole first run
       answers : Answers (In xs lo hi x) known
       answers =
-          let whole : Answers (In ys lo hi x) known = answers-later i.low-from early (answers-from b ans) in
+          let whole : Answers (In ys lo hi x) known = answers-later i.low_from early (answers-from b ans) in
           record {
             when = λ e. in-same (λ j l u. sym (first-same j l u)) (whole.when e);
             unless = λ e q. whole.unless e (in-same first-same q);
@@ -91,15 +91,15 @@ module _ {xs : List ℕ} {lo hi at end : ℕ} (s : Siftable xs lo hi at end) whe
         where
           early : In ys lo low x → ⊥
           early q = let f : get_or ys q.place 0 ≡ get_or xs q.place 0 =
-              first-same q.place q.from (omega (arith, q.below, i.low-to)) in
+              first-same q.place q.from (omega (arith, q.below, i.low_to)) in
               let l : get_or xs q.place 0 < get_or xs k 0 =
               i.passed q.place k q.from q.below (omega arith) more in omega (arith, q.is, x-is)
 
       pub sift-step : Sifting xs lo hi at end (set ys kept x) next (kept + count) (k + 1)
       sift-step = record {
         keeping = keep-step s.second i.keeping more is answers c;
-        low-from = omega (arith, i.low-from, b.from);
-        low-to = b.to;
+        low_from = omega (arith, i.low_from, b.from);
+        low_to = b.to;
         passed = λ j m l' h o v. ⊎_elim
             (λ w. i.passed j m l' w (omega arith) v)
             (λ w. let f : get_or ys j 0 ≡ get_or xs j 0 = first-same j l' (omega (arith, b.to)) in

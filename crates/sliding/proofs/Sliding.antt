@@ -25,8 +25,8 @@ use Rattle.cut_set.specs.declared.CutSet.{CutSet}
 use Rattle.cut_set.proofs.Gathering.{base-fresh, used-limit}
 use Rattle.runs.specs.Runs.{Same}
 use Rattle.shelf.specs.Shelf.{set_at, Outside, Shelf, GrownShelf, Saved, MadeRoom, filled}
-use Rattle.shelf.proofs.Shelving.{shelf-none, shelf-then, shelf-as, gathered-grown, good-is, base-is, limit_is}
-use Rattle.shelf.proofs.Shelving.{set-moved, set_grown, filled-same}
+use Rattle.shelf.proofs.Shelving.{shelf-none, shelf-then, shelf-as, gathered-grown, good-is, base_is, limit_is}
+use Rattle.shelf.proofs.Shelving.{set-moved, set_grown, filled_same}
 use Rattle.moving.specs.Moving.{Bare, Movable, MovedSet}
 use Rattle.sliding.specs.Sliding.{Slidable, Slid, Bared, Between, MovedTo, Packed, Leaving, Spreadable, Spread}
 
@@ -54,11 +54,11 @@ slid-slidable p = record { shelf = p.grown.shelf; bare = p.bare }
 bare-is : {s t : CutSet} → s ≡ t → Bare t → Bare s
 bare-is e g = rw e g
 
-fresh-is : {s t : CutSet} → s ≡ t → s.fresh ≡ t.fresh
-fresh-is e = ap (λ s. s.fresh) e
+fresh_is : {s t : CutSet} → s ≡ t → s.fresh ≡ t.fresh
+fresh_is e = ap (λ s. s.fresh) e
 
-used-is : {s t : CutSet} → s ≡ t → s.used ≡ t.used
-used-is e = ap (λ s. s.used) e
+used_is : {s t : CutSet} → s ≡ t → s.used ≡ t.used
+used_is e = ap (λ s. s.used) e
 
 pub set-good : {xs b : List ℕ} {n lo hi u : ℕ} {s : CutSet} → Shelf xs b n lo hi → u < n → s ≡ set_at b u → Good xs s
 set-good {u = u} f h e = good-is e (f.good u h)
@@ -72,12 +72,12 @@ movable {u = u} f p e = rw e (record {
   within = omega (arith, p.to, f.shelf.within);
 })
 
-module _ {xs b ys b' : List ℕ} {n lo hi u : ℕ} {s t : CutSet} (length-work : length ys ≡ length xs)
-    (length-book : length b' ≡ length b) (e : s ≡ set_at b u) (saved : Saved b u t b') where
+module _ {xs b ys b' : List ℕ} {n lo hi u : ℕ} {s t : CutSet} (length_work : length ys ≡ length xs)
+    (length_book : length b' ≡ length b) (e : s ≡ set_at b u) (saved : Saved b u t b') where
   pub bared : Shelf xs b n lo hi → u < n → GatheredBare xs s ys t → Bared n lo hi u xs b ys b'
   bared f h p = record {
-    grown = grown-none (set_grown f h g.gathered.kept.good (gathered-grown g.gathered) saved length-work
-        length-book g.gathered.kept.base_same g.gathered.kept.limit-same g.gathered.kept.outside);
+    grown = grown-none (set_grown f h g.gathered.kept.good (gathered-grown g.gathered) saved length_work
+        length_book g.gathered.kept.base_same g.gathered.kept.limit_same g.gathered.kept.outside);
     here = bare-is saved.here (record { ready = g.gathered.ready; none = g.none });
     others = saved.others;
   }
@@ -89,9 +89,9 @@ module _ {xs b ys b' : List ℕ} {n lo hi u : ℕ} {s t : CutSet} (length-work :
       MovedSet xs s base limit ys t → MovedTo n lo hi u base limit xs b ys b'
   moved_to {base} {limit} f p m = record {
     slid = record {
-      grown = grown-none (set-moved f.shelf p.index q.good q.grown saved length-work length-book
-          (omega (arith, base-is q.is, p.from)) (omega (arith, limit_is q.is, p.to))
-          (λ i l. omega (arith, base-is q.is, p.below i l)) (λ i l h. omega (arith, limit_is q.is, p.above i l h))
+      grown = grown-none (set-moved f.shelf p.index q.good q.grown saved length_work length_book
+          (omega (arith, base_is q.is, p.from)) (omega (arith, limit_is q.is, p.to))
+          (λ i l. omega (arith, base_is q.is, p.below i l)) (λ i l h. omega (arith, limit_is q.is, p.above i l h))
           same outside);
       bare = λ i l. dite (ℕ_discrete i u)
           (λ c. rw c (bare-is (saved.here ∙ q.is) (record { ready = refl; none = refl })))
@@ -177,7 +177,7 @@ module _ {n lo hi at u : ℕ} {xs b ys b' : List ℕ} {s : CutSet} (p : Packing 
 
   -- the set will not end behind where it ends
   ends : at + (s.used - s.base) ≤ (set_at b' u).limit
-  ends = omega (arith, base-is read, limit_is read, p.above u (omega arith) h, packing-order, used-limit good)
+  ends = omega (arith, base_is read, limit_is read, p.above u (omega arith) h, packing-order, used-limit good)
 
   pub packing-between : Between b' n lo hi u at (at + (s.used - s.base))
   packing-between = record {
@@ -186,7 +186,7 @@ module _ {n lo hi at u : ℕ} {xs b ys b' : List ℕ} {s : CutSet} (p : Packing 
     to = omega (arith, ends, shelf.to u h);
     below = p.below;
     above = λ i l k. omega (arith, ends, shelf.order u i l k);
-    fits = omega (arith, base-is read, used-is read);
+    fits = omega (arith, base_is read, used_is read);
   }
 
   pub packing-step : {zs b'' : List ℕ} → length zs ≡ length ys →
@@ -199,18 +199,18 @@ module _ {n lo hi at u : ℕ} {xs b ys b' : List ℕ} {s : CutSet} (p : Packing 
     sum = rw (add-one u) (omega (
       arith,
       p.sum,
-      base-is read,
-      used-is read,
-      base-is q.here,
-      fresh-is q.here,
-      filled-same b' b'' u (λ i l. let e : set_at b'' i ≡ set_at b' i = q.others i (λ c. omega arith) in
-          omega (arith, base-is e, fresh-is e)),
+      base_is read,
+      used_is read,
+      base_is q.here,
+      fresh_is q.here,
+      filled_same b' b'' u (λ i l. let e : set_at b'' i ≡ set_at b' i = q.others i (λ c. omega arith) in
+          omega (arith, base_is e, fresh_is e)),
     ));
     fits = packing-between.to;
     below = λ i l. dite (ℕ_discrete i u)
         (λ c. rw c (omega (arith, limit_is q.here)))
         (λ d. omega (arith, limit_is (q.others i d), p.below i (omega arith)));
-    above = λ i l k. omega (arith, base-is (q.others i (λ c. omega arith)), packing-between.above i (omega arith) k);
+    above = λ i l k. omega (arith, base_is (q.others i (λ c. omega arith)), packing-between.above i (omega arith) k);
   }
 
 pub packed : {n lo hi at u : ℕ} {xs b ys b' : List ℕ} → Packing n lo hi xs b ys b' at u → n ≤ u →
@@ -268,11 +268,11 @@ module _ {n lo hi j reserve end v : ℕ} {xs b ys b' : List ℕ} {s : CutSet} (u
     pub spreading-between : Between b' n lo hi u (s.base + (end - s.used - room)) end
     spreading-between = record {
       index = inside;
-      from = omega (arith, base-is read, kept.from u inside);
+      from = omega (arith, base_is read, kept.from u inside);
       to = p.fits;
-      below = λ i h. omega (arith, base-is read, kept.order i u h inside);
+      below = λ i h. omega (arith, base_is read, kept.order i u h inside);
       above = λ i h k. p.above i (omega arith) k;
-      fits = omega (arith, base-is read, used-is read, spreading-free, spreading-order);
+      fits = omega (arith, base_is read, used_is read, spreading-free, spreading-order);
     }
 
     pub spreading-step : {zs b'' : List ℕ} → length zs ≡ length ys →
@@ -285,23 +285,23 @@ module _ {n lo hi j reserve end v : ℕ} {xs b ys b' : List ℕ} {s : CutSet} (u
       fits = omega (arith, p.fits, spreading-free, spreading-order);
       below = λ i h. omega (arith, limit_is (q.others i (λ c. omega arith)), spreading-between.below i h);
       above = λ i h k. dite (ℕ_discrete i u)
-          (λ c. rw c (omega (arith, base-is q.here)))
-          (λ d. omega (arith, base-is (q.others i d), p.above i (omega arith) k, spreading-free, spreading-order));
+          (λ c. rw c (omega (arith, base_is q.here)))
+          (λ d. omega (arith, base_is (q.others i d), p.above i (omega arith) k, spreading-free, spreading-order));
       left = λ h i k. omega (
         arith,
-        used-is (q.others i (λ c. omega arith)),
+        used_is (q.others i (λ c. omega arith)),
         kept.order i u k inside,
-        base-is read,
+        base_is read,
         used-limit (kept.good i (omega arith)),
         l.above h (slack (omega arith)),
       );
       there = λ h. dite (ℕ_discrete u j)
           (λ c. rw (← c) (omega (
             arith,
-            used-is q.here,
+            used_is q.here,
             limit_is q.here,
-            base-is read,
-            used-is read,
+            base_is read,
+            used_is read,
             l.here c (slack (omega arith)),
             l.most,
             spreading-free,
@@ -309,14 +309,14 @@ module _ {n lo hi j reserve end v : ℕ} {xs b ys b' : List ℕ} {s : CutSet} (u
           )))
           (λ d. omega (
             arith,
-            used-is (q.others j (λ c. d (sym c))),
+            used_is (q.others j (λ c. d (sym c))),
             limit_is (q.others j (λ c. d (sym c))),
             p.there (omega arith),
           ));
     }
       where
         slack : j < v → reserve ≤ end - s.used
-        slack h = omega (arith, used-is read, p.left h u (omega arith))
+        slack h = omega (arith, used_is read, p.left h u (omega arith))
 
 pub spread-out : {n lo hi j reserve end u : ℕ} {xs b ys b' : List ℕ} → Spreading n lo hi j reserve xs b ys b' end u →
     u ≤ 0 → Spread n lo hi j reserve xs b ys b'

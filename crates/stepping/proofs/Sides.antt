@@ -18,24 +18,24 @@ use Rattle.refinement.specs.declared.Side.{Side}
 use Rattle.refinement.specs.declared.Side.TheVariants.{A, B}
 use Rattle.refinement.specs.Match.{Place, other}
 use Rattle.cut_set.specs.Store.{NothingFound}
-use Rattle.refining.specs.Columns.{Columns, seenFrom, count_of}
+use Rattle.refining.specs.Columns.{Columns, seen_from, count_of}
 use Rattle.refining.specs.Demands.{EveryExceeds}
 use Rattle.shelf.specs.Shelf.{set_at, Shelf}
-use Rattle.tracks.specs.Tracks.{Tracked, givenIn, Kind, over, along, Lane, lane}
-use Rattle.tracks.specs.Engine.{FitTracks, halfFrom, halfTo, Open, unused, Taken}
-use Rattle.tracks.specs.Groups.{Groups, sideAt, grouped}
+use Rattle.tracks.specs.Tracks.{Tracked, given_in, Kind, over, along, Lane, lane}
+use Rattle.tracks.specs.Engine.{FitTracks, half_from, half_to, Open, unused, Taken}
+use Rattle.tracks.specs.Groups.{Groups, side_at, grouped}
 use Rattle.tracks.proofs.Stepping.{found-exceeds, jammed-too-many, taken-open, taken-less}
 use Rattle.tracks.proofs.Settled.{settled-all}
 use Rattle.shelving.specs.AllSets.{SomeFound}
 use Rattle.carrying_lane.specs.Parts.{OneOfTwo, EndsKept}
-use Rattle.taking.specs.Taking.{laneTo, Halves, before, behind, Able, Stepped, BothNot, excess, jammed}
+use Rattle.taking.specs.Taking.{lane_to, Halves, before, behind, Able, Stepped, BothNot, excess, jammed}
 use Rattle.stepping.specs.Steps.{AllCuts}
 use Rattle.stepping.specs.Steps.{Going}
 use Rattle.stepping.specs.declared.Closing.{Closing}
 
 pub lane-is :
     (c : Columns) (gs : List ℕ) (g : ℕ) (marks : List Place) (s : Side) (w : Kind)
-    → laneTo w (seenFrom s c) gs g (sideAt s) (sideAt (other s)) ≡ lane w (grouped c gs g marks) s
+    → lane_to w (seen_from s c) gs g (side_at s) (side_at (other s)) ≡ lane w (grouped c gs g marks) s
 lane-is c gs g marks A over = refl
 lane-is c gs g marks A along = refl
 lane-is c gs g marks B over = refl
@@ -48,11 +48,11 @@ both P A p q B = q
 both P B p q A = q
 both P B p q B = p
 
-one_of : (s : Side) → OneOfTwo (sideAt s)
+one_of : (s : Side) → OneOfTwo (side_at s)
 one_of A = record { from = omega arith; to = omega arith }
 one_of B = record { from = omega arith; to = omega arith }
 
-halves_of : (cap : ℕ) (s : Side) → Halves (halfFrom s cap) (halfTo s cap) (halfFrom (other s) cap) (halfTo (other s) cap)
+halves_of : (cap : ℕ) (s : Side) → Halves (half_from s cap) (half_to s cap) (half_from (other s) cap) (half_to (other s) cap)
 halves_of cap A = before (omega arith)
 halves_of cap B = behind (omega arith)
 
@@ -63,18 +63,18 @@ module _ {c : Columns} {gs : List ℕ} {g n cap : ℕ} {marks : List Place} {xs 
     (o : Open (grouped c gs g marks) n cap xs books hits s)
   where
     pub step-able :
-        Able gs g (count_of c) n (sideAt s) (sideAt (other s)) (halfFrom s cap) (halfTo s cap) (halfFrom (other s) cap)
-        (halfTo (other s) cap) xs (books s) (books (other s)) (hits over s) (hits along s) (cap + count_of c)
+        Able gs g (count_of c) n (side_at s) (side_at (other s)) (half_from s cap) (half_to s cap) (half_from (other s) cap)
+        (half_to (other s) cap) xs (books s) (books (other s)) (hits over s) (hits along s) (cap + count_of c)
     step-able = record {
       groups = groups;
       from_one = one_of s;
       to_one = one_of (other s);
-      from-shelf = o.shelf s;
+      from_shelf = o.shelf s;
       gathered = record { each = o.gathered s };
       shelf = o.shelf (other s);
       halves = halves_of cap s;
-      few-over = o.few over s;
-      few-along = o.few along s;
+      few_over = o.few over s;
+      few_along = o.few along s;
     }
 
     module _ (ft : FitTracks (grouped c gs g marks) n) where
@@ -82,53 +82,53 @@ module _ {c : Columns} {gs : List ℕ} {g n cap : ℕ} {marks : List Place} {xs 
       t = grouped c gs g marks
 
       abbrev lanes : Kind → Lane
-      lanes w = laneTo w (seenFrom s c) gs g (sideAt s) (sideAt (other s))
+      lanes w = lane_to w (seen_from s c) gs g (side_at s) (side_at (other s))
 
       same-lanes : lanes ≡ (λ w. lane w t s)
       same-lanes i w = lane-is c gs g marks s w i
 
       pub step-not :
-          BothNot lanes (count_of c) (books s) n (halfFrom (other s) cap) (halfTo (other s) cap) xs (books (other s))
+          BothNot lanes (count_of c) (books s) n (half_from (other s) cap) (half_to (other s) cap) xs (books (other s))
           (λ w. hits w s) (cap + count_of c)
-          → EveryExceeds (givenIn t) cap
+          → EveryExceeds (given_in t) cap
       step-not h =
           go (subst (λ (l : Kind → Lane).
-          BothNot l (count_of c) (books s) n (halfFrom (other s) cap) (halfTo (other s) cap) xs (books (other s))
+          BothNot l (count_of c) (books s) n (half_from (other s) cap) (half_to (other s) cap) xs (books (other s))
           (λ w. hits w s) (cap + count_of c)) same-lanes h)
         where
           go :
-              BothNot (λ w. lane w t s) (count_of c) (books s) n (halfFrom (other s) cap) (halfTo (other s) cap) xs
+              BothNot (λ w. lane w t s) (count_of c) (books s) n (half_from (other s) cap) (half_to (other s) cap) xs
               (books (other s)) (λ w. hits w s) (cap + count_of c)
-              → EveryExceeds (givenIn t) cap
+              → EveryExceeds (given_in t) cap
           go (excess w h) = found-exceeds ft o w h
           go (jammed j) = jammed-too-many ft o j
 
       module _ {ys : List ℕ} (books' : Side → List ℕ) (hits' : Kind → Side → ℕ)
           (k :
-          Stepped lanes (count_of c) n (halfFrom s cap) (halfTo s cap) (halfFrom (other s) cap) (halfTo (other s) cap) xs
+          Stepped lanes (count_of c) n (half_from s cap) (half_to s cap) (half_from (other s) cap) (half_to (other s) cap) xs
           (books s) (books (other s)) (λ w. hits w s) (cap + count_of c) ys (books' s) (books' (other s)) (λ w. hits' w s))
           (others : (w : Kind) → hits' w (other s) ≡ hits w (other s))
         where
           step :
-              Stepped (λ w. lane w t s) (count_of c) n (halfFrom s cap) (halfTo s cap) (halfFrom (other s) cap)
-              (halfTo (other s) cap) xs (books s) (books (other s)) (λ w. hits w s) (cap + count_of c) ys (books' s)
+              Stepped (λ w. lane w t s) (count_of c) n (half_from s cap) (half_to s cap) (half_from (other s) cap)
+              (half_to (other s) cap) xs (books s) (books (other s)) (λ w. hits w s) (cap + count_of c) ys (books' s)
               (books' (other s)) (λ w. hits' w s)
           step =
               subst (λ (l : Kind → Lane).
-              Stepped l (count_of c) n (halfFrom s cap) (halfTo s cap) (halfFrom (other s) cap) (halfTo (other s) cap) xs
+              Stepped l (count_of c) n (half_from s cap) (half_to s cap) (half_from (other s) cap) (half_to (other s) cap) xs
               (books s) (books (other s)) (λ w. hits w s) (cap + count_of c) ys (books' s) (books' (other s))
               (λ w. hits' w s)) same-lanes k
 
           taken : Taken t n cap xs books hits s ys books' hits'
           taken = record {
-            shelf = both (λ u. Shelf ys (books' u) n (halfFrom u cap) (halfTo u cap)) s step.from-shelf step.shelf;
+            shelf = both (λ u. Shelf ys (books' u) n (half_from u cap) (half_to u cap)) s step.from_shelf step.shelf;
             members = step.members;
             all = step.all;
-            filled-same = step.filled-same;
+            filled_same = step.filled_same;
             grown = step.grown;
             ready = step.ready;
             counted = step.counted;
-            counted-other = others;
+            counted_other = others;
             few = step.few;
           }
 
@@ -143,7 +143,7 @@ module _ {c : Columns} {gs : List ℕ} {g n cap : ℕ} {marks : List Place} {xs 
               let all = settled-all ft step-open
               (both (λ u. (j : ℕ) → j < n → NothingFound (set_at (books' u) j)) s step.all none) in
               record {
-                shelf = λ u. (halfFrom u cap, halfTo u cap, step-open.shelf u);
+                shelf = λ u. (half_from u cap, half_to u cap, step-open.shelf u);
                 cuts = all.1;
                 fits = all.0;
               }
@@ -152,7 +152,7 @@ module _ {c : Columns} {gs : List ℕ} {g n cap : ℕ} {marks : List Place} {xs 
 pub ends-kept :
     (c : Columns) (gs : List ℕ) (g : ℕ) {n cap : ℕ} {marks : List Place} {xs : List ℕ} {books : Side → List ℕ}
     {hits : Kind → Side → ℕ} → Open (grouped c gs g marks) n cap xs books hits B
-    → EndsKept (laneTo over (seenFrom B c) gs g (sideAt B) (sideAt A)) xs (books A)
+    → EndsKept (lane_to over (seen_from B c) gs g (side_at B) (side_at A)) xs (books A)
 ends-kept c gs g o k l = o.ended k l
 
 -- the places of both halves are there

@@ -1,5 +1,5 @@
 -- The two steps that call each other: what they are given, and what their answers mean.
---     hitsOf              the hits so far, by kind and side
+--     hits_of              the hits so far, by kind and side
 --     Given               the matches as they are lent
 --     OpenWith, Opened    what holds between two steps, with these marks and with some
 --     AllCuts, Going, Goes     all is carried; what an answer of the two steps means, and what a step does
@@ -7,34 +7,34 @@
 use Rattle.std.specs.Prelude.{ℕ, ◌-◌, ◌≤◌, ◌<◌, ◌≡◌, Bool, false, ◌↔◌, List, length, replicate}
 use Rattle.refinement.specs.declared.Side.{Side}
 use Rattle.refinement.specs.declared.Side.TheVariants.{A, B}
-use Rattle.refinement.specs.Match.{Place, onSide}
+use Rattle.refinement.specs.Match.{Place, on_side}
 use Rattle.refining.specs.Columns.{Columns, count_of, Fit}
-use Rattle.refining.specs.Refining.{leastOf}
+use Rattle.refining.specs.Refining.{least_of}
 use Rattle.refining.specs.Demands.{EveryExceeds}
 use Rattle.shelf.specs.Shelf.{Shelf, Shelved}
-use Rattle.tracks.specs.Tracks.{Tracked, SideCut, givenIn, Kind}
-use Rattle.tracks.specs.Engine.{booksOf, Open, unused}
+use Rattle.tracks.specs.Tracks.{Tracked, SideCut, given_in, Kind}
+use Rattle.tracks.specs.Engine.{books_of, Open, unused}
 use Rattle.tracks.specs.Groups.{Groups, grouped}
 use Rattle.carrying_lane.specs.Parts.{UsableParts}
 use Rattle.stepping.specs.declared.Counts.{Counts}
 use Rattle.stepping.specs.declared.Closing.{Closing}
-use Rattle.taking.specs.Taking.{ofKind}
+use Rattle.taking.specs.Taking.{of_kind}
 
-abbrev pub hitsOf : Counts → Kind → Side → ℕ
-hitsOf c w u = ofKind w (onSide u c.over_a c.over_b) (onSide u c.along_a c.along_b)
+abbrev pub hits_of : Counts → Kind → Side → ℕ
+hits_of c w u = of_kind w (on_side u c.over_a c.over_b) (on_side u c.along_a c.along_b)
 
 -- the matches as the steps are lent them, with the indexes of their groups
 pub record Given (c : Columns) (straight : List Bool) (ia ib gs : List ℕ) (g n : ℕ) : Type 0 where
   pub fit : Fit c
   pub few : count_of c ≤ 4294967296
-  pub straight-is : straight ≡ replicate (count_of c) false
+  pub straight_is : straight ≡ replicate (count_of c) false
   pub groups : Groups gs g (count_of c) n
-  pub on-a : UsableParts ia gs g c.from-lefts c.from-rights
-  pub on-b : UsableParts ib gs g c.to-lefts c.to-rights
+  pub on_a : UsableParts ia gs g c.from_lefts c.from_rights
+  pub on_b : UsableParts ib gs g c.to_lefts c.to_rights
 
 -- between two steps, the marks being those from which the closure began
 abbrev pub OpenWith : Columns → List ℕ → ℕ → List Place → ℕ → ℕ → List ℕ → List ℕ → List ℕ → Counts → Side → Type 0
-OpenWith c gs g marks n cap xs a b counts s = Open (grouped c gs g marks) n cap xs (booksOf a b) (hitsOf counts) s
+OpenWith c gs g marks n cap xs a b counts s = Open (grouped c gs g marks) n cap xs (books_of a b) (hits_of counts) s
 
 -- with some marks
 abbrev pub Opened : Columns → List ℕ → ℕ → ℕ → ℕ → List ℕ → List ℕ → List ℕ → Counts → Side → Type 0
@@ -44,20 +44,20 @@ Opened c gs g n cap xs a b counts s = (marks : List Place) × OpenWith c gs g ma
 pub record AllCuts (t : Tracked) (n cap : ℕ) (ys : List ℕ) (books : Side → List ℕ) : Type 0 where
   pub shelf : (u : Side) → (lo : ℕ) × (hi : ℕ) × Shelf ys (books u) n lo hi
   pub cuts : (u : Side) (p : Place) → Shelved ys (books u) n p ↔ SideCut t u p
-  pub fits : length (leastOf (givenIn t)) ≤ cap
+  pub fits : length (least_of (given_in t)) ≤ cap
 
 -- after steps that began with `free` unused places: all is carried; or a step is due, with fewer of them
 abbrev pub Going : Columns → List ℕ → ℕ → List Place → ℕ → ℕ → ℕ → List ℕ → List ℕ → List ℕ → Closing → Type 0
-Going c gs g marks n cap free ys a b Closing.Done = AllCuts (grouped c gs g marks) n cap ys (booksOf a b)
+Going c gs g marks n cap free ys a b Closing.Done = AllCuts (grouped c gs g marks) n cap ys (books_of a b)
 Going c gs g marks n cap free ys a b (Closing.MoreA k) =
-    OpenWith c gs g marks n cap ys a b k A × (unused (booksOf a b) n cap < free)
+    OpenWith c gs g marks n cap ys a b k A × (unused (books_of a b) n cap < free)
 Going c gs g marks n cap free ys a b (Closing.MoreB k) =
-    OpenWith c gs g marks n cap ys a b k B × (unused (booksOf a b) n cap < free)
-Going c gs g marks n cap free ys a b Closing.TooMany = EveryExceeds (givenIn (grouped c gs g marks)) cap
+    OpenWith c gs g marks n cap ys a b k B × (unused (books_of a b) n cap < free)
+Going c gs g marks n cap free ys a b Closing.TooMany = EveryExceeds (given_in (grouped c gs g marks)) cap
 
 -- a step of the side s, and those that follow it: whatever the marks are that hold before it
 abbrev pub Goes :
     Columns → List ℕ → ℕ → ℕ → ℕ → List ℕ → List ℕ → List ℕ → Counts → Side → List ℕ → List ℕ → List ℕ → Closing → Type 0
 Goes c gs g n cap xs a b counts s ys a' b' r =
     (marks : List Place) → OpenWith c gs g marks n cap xs a b counts s
-    → Going c gs g marks n cap (unused (booksOf a b) n cap) ys a' b' r
+    → Going c gs g marks n cap (unused (books_of a b) n cap) ys a' b' r

@@ -1,7 +1,8 @@
 // The A step and the B step, which call each other on the newly found cuts. Sides have sets of their own, one for each
 // track, so that a match of a track with itself carries from one set to another.
+#![tactic(auto)]
 ghost use Rattle.refinement.specs.declared.Side.{Side};
-ghost use Rattle.refining.specs.Columns.{columnsOf};
+ghost use Rattle.refining.specs.Columns.{columns_of};
 ghost use Rattle.stepping.specs.Steps.{Given, Opened, Goes};
 
 use shelving::any_found;
@@ -46,12 +47,12 @@ pub fn a_step(
     capacity: usize,
     budget: u32,
 ) -> Closing
-    requires given { Given (columnsOf left_a.now right_a.now left_b.now right_b.now reversed.now) straight.now
+    requires given { Given (columns_of left_a.now right_a.now left_b.now right_b.now reversed.now) straight.now
         index_a.now index_b.now groups.now count sets }
-    requires opened { Opened (columnsOf left_a.now right_a.now left_b.now right_b.now reversed.now) groups.now
+    requires opened { Opened (columns_of left_a.now right_a.now left_b.now right_b.now reversed.now) groups.now
         count sets capacity work.old book_a.old book_b.old counts Side.A }
     ensures { Goes
-        (columnsOf left_a.now right_a.now left_b.now right_b.now
+        (columns_of left_a.now right_a.now left_b.now right_b.now
         reversed.now)
         groups.now count sets capacity work.old book_a.old book_b.old
         counts Side.A work.new book_a.new book_b.new result }
@@ -141,12 +142,12 @@ pub fn b_step(
     capacity: usize,
     budget: u32,
 ) -> Closing
-    requires given { Given (columnsOf left_a.now right_a.now left_b.now right_b.now reversed.now) straight.now
+    requires given { Given (columns_of left_a.now right_a.now left_b.now right_b.now reversed.now) straight.now
         index_a.now index_b.now groups.now count sets }
-    requires opened { Opened (columnsOf left_a.now right_a.now left_b.now right_b.now reversed.now) groups.now
+    requires opened { Opened (columns_of left_a.now right_a.now left_b.now right_b.now reversed.now) groups.now
         count sets capacity work.old book_a.old book_b.old counts Side.B }
     ensures { Goes
-        (columnsOf left_a.now right_a.now left_b.now right_b.now
+        (columns_of left_a.now right_a.now left_b.now right_b.now
         reversed.now)
         groups.now count sets capacity work.old book_a.old book_b.old
         counts Side.B work.new book_a.new book_b.new result }

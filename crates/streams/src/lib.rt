@@ -1,6 +1,7 @@
 // How the program reads its input and writes its text: by calls of C that may move a part, be interrupted, or fail.
+#![tactic(auto)]
 ghost use Rattle.std.specs.Prelude.{true, ◌≡◌, ◌+◌, ◌<◌, ◌≤◌, length, take, drop};
-ghost use Rattle.reporting.specs.Reporting.{inputRoom, reportOf};
+ghost use Rattle.reporting.specs.Reporting.{input_room, report_of};
 ghost use Rattle.streams.specs.Counting.{count_of, Went};
 
 use libc::{EAGAIN, EINTR, STDIN_FILENO, STDOUT_FILENO};
@@ -53,7 +54,7 @@ fn read_more(bytes: &mut [u8], done: usize) -> Moved
 // Reads until the buffer is full or the input ends. What came before a read that fails is not answered, since it would
 // be taken for a shorter script.
 pub fn read_input(bytes: &mut [u8]) -> Moved
-    requires { inputRoom ≡ length bytes.old }
+    requires { input_room ≡ length bytes.old }
     ensures { count_of result ≤ length bytes.new }
 {
     let mut done: usize = 0;
@@ -81,7 +82,7 @@ pub fn read_input(bytes: &mut [u8]) -> Moved
 // One write, and the program's only one to standard output. It is handed the script and how many bytes went out already
 // for its contract's sake: what goes to C is the rest of the text of what was read.
 fn write_rest(_script: &[u8], _done: usize, rest: &[u8]) -> Moved
-    requires { rest.now ≡ drop _done (reportOf _script.now) }
+    requires { rest.now ≡ drop _done (report_of _script.now) }
     ensures { count_of result ≤ length rest.now }
 {
     let put = libc::write(STDOUT_FILENO, rest);
@@ -93,7 +94,7 @@ fn write_rest(_script: &[u8], _done: usize, rest: &[u8]) -> Moved
 
 // Writes until all of the text went out or a write fails.
 pub fn write_text(script: &[u8], text: &[u8]) -> Output
-    requires { text.now ≡ reportOf script.now }
+    requires { text.now ≡ report_of script.now }
     ensures { Went (length text.now) result }
 {
     let mut done: usize = 0;

@@ -45,7 +45,7 @@ clipped a b from to h l l' =
 pub stored-none : (from to : ℕ) → Stored from to [] []
 unfolding rank
 stored-none from to =
-    record { nested = λ h. omega arith; none_before = λ h l. refl; none-behind = λ h l. refl }
+    record { nested = λ h. omega arith; none_before = λ h l. refl; none_behind = λ h l. refl }
 
 pub under_none : (h : ℕ) → under [] [] h ≡ false
 unfolding rank
@@ -68,9 +68,9 @@ stored_more {from} {to} {xs} {ys} s a b low some high =
                 rw (rank-last h xs a, rank-last h ys b, lt-leb b h (omega arith)) (omega (arith, s.nested h))
           ];
       none_before = λ h l. rw (rank-last h xs a, lt-leb a h (omega arith)) (omega (arith, s.none_before h l));
-      none-behind = λ h l.
+      none_behind = λ h l.
           under_more xs ys a b h (omega arith) (s.nested h)
-          ∙ rw (within-behind a b h (omega arith)) (s.none-behind h l);
+          ∙ rw (within-behind a b h (omega arith)) (s.none_behind h l);
     }
 
 -- a and b are the ends of what is left of the stretch

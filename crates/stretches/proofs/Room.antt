@@ -45,7 +45,7 @@ module _ {from to : ℕ} {L H xs ys : List ℕ} (s : Stored from to L H) (low : 
       record {
         nested = λ h. rw (low.ranks h, high.ranks h) (s.nested h);
         none_before = λ h l. low.ranks h ∙ s.none_before h l;
-        none-behind = λ h l. sorted-under h ∙ s.none-behind h l;
+        none_behind = λ h l. sorted-under h ∙ s.none_behind h l;
       }
 
   pub sorted-roomier : {lows highs : List ℕ} {store : Store} → length xs ≡ length L
@@ -93,7 +93,7 @@ module _ {from to : ℕ} {L H lows highs : List ℕ} {n : ℕ} (s : Stored from 
       record {
         nested = front-nested n (omega arith);
         none_before = λ h l. omega (arith, u.fewer h, s.none_before h l);
-        none-behind = λ h l. u.same h ∙ s.none-behind h l;
+        none_behind = λ h l. u.same h ∙ s.none_behind h l;
       }
 
   pub room-enough : n < length L → from < to → Roomier from to L H lows highs (record { used = n; to = to })
@@ -166,13 +166,13 @@ module _ {from to : ℕ} {L H lows highs : List ℕ} {n : ℕ} (s : Stored from 
           stored = record {
             nested = front-nested m (omega arith);
             none_before = λ h l. omega (arith, front-ranks m h (omega arith), s.none_before h l);
-            none-behind = λ h l.
+            none_behind = λ h l.
                 elim (dec_lt h (get_or lows m 0)) [
                   | no t ↦ none-cut h (omega arith)
                   | yes t ↦
                       let past : to ≤ h =
                       elim (dec_lt h to) [ no o ↦ omega arith | yes o ↦ absurd (omega (arith, le-min o t)) ] in
-                      same-cut h t ∙ u.same h ∙ s.none-behind h past
+                      same-cut h t ∙ u.same h ∙ s.none_behind h past
                 ];
           };
           same = λ h l. same-cut h (omega arith) ∙ u.same h;

@@ -43,8 +43,8 @@ summing-starts L H =
 
 module _ {L H : List ℕ} (p : Paired L H) {letters reach k : ℕ} (s : Summing L H letters reach k) where
   -- nothing lies behind where the last stretch ends
-  none-behind : (h : ℕ) → reach ≤ h → under (take k L) (take k H) h ≡ false
-  none-behind h l =
+  none_behind : (h : ℕ) → reach ≤ h → under (take k L) (take k H) h ≡ false
+  none_behind h l =
       let low-size = length-take-le k L s.within in
       let high-size = length-take-le k H (omega (arith, s.within, p.as_many)) in
       let all = rank-all h (take k H) (λ i t.
@@ -74,7 +74,7 @@ module _ {L H : List ℕ} (p : Paired L H) {letters reach k : ℕ} (s : Summing 
               ]
               in
               let low : (i : ℕ) → i < k → get_or L i 0 ≤ h =
-              λ i o. omega (arith, p.low-rises.order i k o inside) in
+              λ i o. omega (arith, p.low_rises.order i k o inside) in
               under-from h (omega arith) (omega (arith, s.onward k (omega arith) (omega (arith, p.as_many))))
               ∙ sym (s.reached h low behind)
         ]
@@ -86,17 +86,17 @@ module _ {L H : List ℕ} (p : Paired L H) {letters reach k : ℕ} (s : Summing 
         let low = le-max_left (get_or L k 0) reach in
         let far = le-max_right (get_or L k 0) reach in
         let alike = tally-agrees new old (max (get_or L k 0) reach) agree in
-        let none = tally-none old reach (max (get_or L k 0) reach) far (λ h l l'. none-behind h l) in
+        let none = tally-none old reach (max (get_or L k 0) reach) far (λ h l l'. none_behind h l) in
         let all = tally-all new (max (get_or L k 0) reach) (get_or H k 0) order
         (λ h l l'. under-from h (omega arith) l') in
         record {
           within = omega arith;
           passed = λ i l.
               elim (dec_lt i k) [
-                | yes t ↦ p.high-rises.order i k t (omega (arith, p.as_many))
+                | yes t ↦ p.high_rises.order i k t (omega (arith, p.as_many))
                 | no t ↦ let e : i ≡ k = omega arith in rw e (omega arith)
               ];
-          onward = λ i l l'. p.high-rises.order k i (omega arith) l';
+          onward = λ i l l'. p.high_rises.order k i (omega arith) l';
           reached = λ h before l. under-from h (before k (omega arith)) l;
           sum = omega (arith, s.sum, alike, none, all);
         }
@@ -121,7 +121,7 @@ module _ {L H : List ℕ} (p : Paired L H) {letters reach k : ℕ} (s : Summing 
             let f = under L H in
             elim (dec_le reach last) [
               | yes l ↦
-                  let beyond = tally-none f reach last l (λ h o o'. rw (whole, whole') at (none-behind h o)) in
+                  let beyond = tally-none f reach last l (λ h o o'. rw (whole, whole') at (none_behind h o)) in
                   omega (arith, whole_sum, beyond)
               | no l ↦
                   omega (arith, whole_sum, tally-none f last reach (omega arith) (λ h o o'. none h o))

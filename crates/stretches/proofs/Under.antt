@@ -77,8 +77,8 @@ pub nested-pairs : {xs ys : List ℕ} → Rises xs → Rises ys → Nested xs ys
 nested-pairs {xs} {ys} up up' n =
     record {
       as_many = n.as_many;
-      low-rises = up;
-      high-rises = up';
+      low_rises = up;
+      high_rises = up';
       forward = λ i l.
           let h = get_or ys i 0 in
           elim (dec_lt h (get_or xs i 0)) [

@@ -26,12 +26,12 @@ pub record Uniting (L H lows highs : List ℕ) (used k : ℕ) : Type 0 where
   pub some : 0 < used
   pub fewer : used ≤ k
   pub within : k ≤ length L
-  pub low-room : length lows ≡ length L
-  pub high-room : length highs ≡ length H
-  pub low-rest : (i : ℕ) → k ≤ i → get_or lows i 0 ≡ get_or L i 0
-  pub high-rest : (i : ℕ) → k ≤ i → get_or highs i 0 ≡ get_or H i 0
-  pub low-last : get_or lows (used - 1) 0 ≤ get_or L (k - 1) 0
-  pub high-last : get_or highs (used - 1) 0 ≡ get_or H (k - 1) 0
+  pub low_room : length lows ≡ length L
+  pub high_room : length highs ≡ length H
+  pub low_rest : (i : ℕ) → k ≤ i → get_or lows i 0 ≡ get_or L i 0
+  pub high_rest : (i : ℕ) → k ≤ i → get_or highs i 0 ≡ get_or H i 0
+  pub low_last : get_or lows (used - 1) 0 ≤ get_or L (k - 1) 0
+  pub high_last : get_or highs (used - 1) 0 ≡ get_or H (k - 1) 0
   pub apart : Apart lows highs used
   pub ranks : (h : ℕ) → rank h (take used lows) ≤ rank h (take k L)
   pub same : (h : ℕ) → under (take used lows) (take used highs) h ≡ under (take k L) (take k H) h
@@ -53,9 +53,9 @@ module _ {L H : List ℕ} (p : Paired L H) where
       let high-size = length-take-le k H (omega (arith, p.as_many)) in
       rw (take_next L k inside, take_next H k (omega (arith, p.as_many)))
       (under_last (take k L) (take k H) (get_or L k 0) (get_or H k 0) h (p.forward k inside) (omega arith)
-      (λ i l. let t : i < k = omega arith in rw (get_or-take k L i 0 t) (p.low-rises.order i k t inside))
+      (λ i l. let t : i < k = omega arith in rw (get_or-take k L i 0 t) (p.low_rises.order i k t inside))
       (λ i l. let t : i < k = omega arith in
-      rw (get_or-take k H i 0 t) (p.high-rises.order i k t (omega (arith, p.as_many)))))
+      rw (get_or-take k H i 0 t) (p.high_rises.order i k t (omega (arith, p.as_many)))))
 
   pub uniting-starts : 0 < length L → Uniting L H L H 1 1
   uniting-starts inside =
@@ -63,12 +63,12 @@ module _ {L H : List ℕ} (p : Paired L H) where
         some = omega arith;
         fewer = omega arith;
         within = inside;
-        low-room = refl;
-        high-room = refl;
-        low-rest = λ i l. refl;
-        high-rest = λ i l. refl;
-        low-last = omega arith;
-        high-last = refl;
+        low_room = refl;
+        high_room = refl;
+        low_rest = λ i l. refl;
+        high_rest = λ i l. refl;
+        low_last = omega arith;
+        high_last = refl;
         apart = record { gap = λ i l. absurd (omega arith); forward = λ i l. p.forward i (omega arith) };
         ranks = λ h. omega arith;
         same = λ h. refl;
@@ -107,7 +107,7 @@ module _ {L H : List ℕ} {lows highs : List ℕ} {used k : ℕ} (u : Uniting L 
       ]
 
   low-size : (m : ℕ) → m ≤ used → length (take m lows) ≡ m
-  low-size m l = length-take-le m lows (omega (arith, u.fewer, u.within, u.low-room))
+  low-size m l = length-take-le m lows (omega (arith, u.fewer, u.within, u.low_room))
 
 -- the last written stretch, with its right end at g or further at v, and one from l on that touches it
 joined-tests : (b : Bool) (h : ℕ) {x l g v : ℕ} → x ≤ l → l ≤ g → g ≤ v
@@ -127,23 +127,23 @@ joined-tests b h {x} {l} {g} {v} xl lg gv =
 module _ {L H : List ℕ} (p : Paired L H) {lows highs : List ℕ} {used k : ℕ} (u : Uniting L H lows highs used k)
     (inside : k < length L) {v : ℕ} (read : v ≡ get_or highs k 0) where
   high-here : v ≡ get_or H k 0
-  high-here = read ∙ u.high-rest k (omega arith)
+  high-here = read ∙ u.high_rest k (omega arith)
 
   high-order : get_or highs (used - 1) 0 ≤ v
   high-order =
       omega (
         arith,
-        u.high-last,
+        u.high_last,
         high-here,
-        p.high-rises.order (k - 1) k (omega (arith, u.some, u.fewer)) (omega (arith, p.as_many)),
+        p.high_rises.order (k - 1) k (omega (arith, u.some, u.fewer)) (omega (arith, p.as_many)),
       )
 
   low-order : get_or lows (used - 1) 0 ≤ get_or L k 0
   low-order =
-      omega (arith, u.low-last, p.low-rises.order (k - 1) k (omega (arith, u.some, u.fewer)) inside)
+      omega (arith, u.low_last, p.low_rises.order (k - 1) k (omega (arith, u.some, u.fewer)) inside)
 
-  high-room : used - 1 < length highs
-  high-room = omega (arith, u.fewer, u.some, u.high-room, p.as_many)
+  high_room : used - 1 < length highs
+  high_room = omega (arith, u.fewer, u.some, u.high_room, p.as_many)
 
   -- under what is written, with the last right end at g
   under_to : (h g : ℕ) (hs : List ℕ) → take used hs ≡ take (used - 1) highs ++ g ∷ [] → get_or highs (used - 1) 0 ≤ g
@@ -152,9 +152,9 @@ module _ {L H : List ℕ} (p : Paired L H) {lows highs : List ℕ} {used k : ℕ
   under_to h g hs shape order =
       let all : used ≡ used - 1 + 1 = omega (arith, u.some) in
       let front : take used lows ≡ take (used - 1) lows ++ get_or lows (used - 1) 0 ∷ [] =
-      ap (λ (n : ℕ). take n lows) all ∙ take_next lows (used - 1) (omega (arith, u.fewer, u.some, u.low-room)) in
+      ap (λ (n : ℕ). take n lows) all ∙ take_next lows (used - 1) (omega (arith, u.fewer, u.some, u.low_room)) in
       let size = low-size u (used - 1) (omega arith) in
-      let size' = length-take-le (used - 1) highs (omega (arith, high-room)) in
+      let size' = length-take-le (used - 1) highs (omega (arith, high_room)) in
       let forward = u.apart.forward (used - 1) (omega (arith, u.some)) in
       rw (front, shape)
       (under_last (take (used - 1) lows) (take (used - 1) highs) (get_or lows (used - 1) 0) g h (omega arith)
@@ -168,19 +168,19 @@ module _ {L H : List ℕ} (p : Paired L H) {lows highs : List ℕ} {used k : ℕ
   uniting-joined touches =
       let it : (i : ℕ) → (i ≡ used - 1 → ⊥) → get_or (set highs (used - 1) v) i 0 ≡ get_or highs i 0 =
       λ i n. get_or-set_other highs (used - 1) i v 0 n in
-      let written : get_or (set highs (used - 1) v) (used - 1) 0 ≡ v = get_or-set_same highs (used - 1) v 0 high-room in
+      let written : get_or (set highs (used - 1) v) (used - 1) 0 ≡ v = get_or-set_same highs (used - 1) v 0 high_room in
       let back : k + 1 - 1 ≡ k = omega arith in
       let forward-last = u.apart.forward (used - 1) (omega (arith, u.some)) in
       record {
         some = u.some;
         fewer = omega (arith, u.fewer);
         within = omega arith;
-        low-room = u.low-room;
-        high-room = length-set highs (used - 1) v ∙ u.high-room;
-        low-rest = λ i l. u.low-rest i (omega arith);
-        high-rest = λ i l. it i (λ e. omega (arith, u.fewer, u.some)) ∙ u.high-rest i (omega arith);
-        low-last = rw back low-order;
-        high-last = rw (back, written) high-here;
+        low_room = u.low_room;
+        high_room = length-set highs (used - 1) v ∙ u.high_room;
+        low_rest = λ i l. u.low_rest i (omega arith);
+        high_rest = λ i l. it i (λ e. omega (arith, u.fewer, u.some)) ∙ u.high_rest i (omega arith);
+        low_last = rw back low-order;
+        high_last = rw (back, written) high-here;
         apart = record {
           gap = λ i l. rw (it i (λ e. omega arith)) (u.apart.gap i l);
           forward = λ i l.
@@ -198,17 +198,17 @@ module _ {L H : List ℕ} (p : Paired L H) {lows highs : List ℕ} {used k : ℕ
       all = omega (arith, u.some)
 
       touched : get_or L k 0 ≤ get_or highs (used - 1) 0
-      touched = omega (arith, u.low-rest k (omega arith))
+      touched = omega (arith, u.low_rest k (omega arith))
 
       same-joined : (h : ℕ)
           → under (take used lows) (take used (set highs (used - 1) v)) h ≡ under (take (k + 1) L) (take (k + 1) H) h
       same-joined h =
           let g = get_or highs (used - 1) 0 in
           let new = under_to h v (set highs (used - 1) v)
-          (ap (λ (n : ℕ). take n (set highs (used - 1) v)) all ∙ take_set_next highs (used - 1) v high-room)
+          (ap (λ (n : ℕ). take n (set highs (used - 1) v)) all ∙ take_set_next highs (used - 1) v high_room)
           high-order in
           let old = under_to h g highs
-          (ap (λ (n : ℕ). take n highs) all ∙ take_next highs (used - 1) high-room) (omega arith) in
+          (ap (λ (n : ℕ). take n highs) all ∙ take_next highs (used - 1) high_room) (omega arith) in
           new ∙ joined-tests (under (take (used - 1) lows) (take (used - 1) highs) h) h low-order touched high-order
           ∙ rw (← old, u.same h, high-here) (sym (under_next p k h inside))
 
@@ -219,12 +219,12 @@ module _ {L H : List ℕ} (p : Paired L H) {lows highs : List ℕ} {used k : ℕ
         some = omega arith;
         fewer = omega (arith, u.fewer);
         within = omega arith;
-        low-room = length-set lows used w ∙ u.low-room;
-        high-room = length-set highs used v ∙ u.high-room;
-        low-rest = λ i l. low-other i (λ e. omega (arith, u.fewer)) ∙ u.low-rest i (omega arith);
-        high-rest = λ i l. high-other i (λ e. omega (arith, u.fewer)) ∙ u.high-rest i (omega arith);
-        low-last = rw (back, last, low-written) (omega (arith, low-here));
-        high-last = rw (back, last, high-written) high-here;
+        low_room = length-set lows used w ∙ u.low_room;
+        high_room = length-set highs used v ∙ u.high_room;
+        low_rest = λ i l. low-other i (λ e. omega (arith, u.fewer)) ∙ u.low_rest i (omega arith);
+        high_rest = λ i l. high-other i (λ e. omega (arith, u.fewer)) ∙ u.high_rest i (omega arith);
+        low_last = rw (back, last, low-written) (omega (arith, low-here));
+        high_last = rw (back, last, high-written) high-here;
         apart = record {
           gap = λ i l.
               elim (ℕ_discrete (i + 1) used) [
@@ -241,7 +241,7 @@ module _ {L H : List ℕ} (p : Paired L H) {lows highs : List ℕ} {used k : ℕ
               ];
         };
         ranks = λ h.
-            rw (take_set_next lows used w low-room, take_next L k inside, rank-last h (take used lows) w)
+            rw (take_set_next lows used w low_room, take_next L k inside, rank-last h (take used lows) w)
             (rw (rank-last h (take k L) (get_or L k 0), low-here) (omega (arith, u.ranks h)));
         same = same-apart;
       }
@@ -253,16 +253,16 @@ module _ {L H : List ℕ} (p : Paired L H) {lows highs : List ℕ} {used k : ℕ
       last = omega arith
 
       low-here : w ≡ get_or L k 0
-      low-here = low_read ∙ u.low-rest k (omega arith)
+      low-here = low_read ∙ u.low_rest k (omega arith)
 
-      low-room : used < length lows
-      low-room = omega (arith, u.fewer, u.low-room)
+      low_room : used < length lows
+      low_room = omega (arith, u.fewer, u.low_room)
 
       room : used < length highs
-      room = omega (arith, u.fewer, u.high-room, p.as_many)
+      room = omega (arith, u.fewer, u.high_room, p.as_many)
 
       low-written : get_or (set lows used w) used 0 ≡ w
-      low-written = get_or-set_same lows used w 0 low-room
+      low-written = get_or-set_same lows used w 0 low_room
 
       high-written : get_or (set highs used v) used 0 ≡ v
       high-written = get_or-set_same highs used v 0 room
@@ -280,7 +280,7 @@ module _ {L H : List ℕ} (p : Paired L H) {lows highs : List ℕ} {used k : ℕ
           let size = low-size u used (omega arith) in
           let size' = length-take-le used highs (omega arith) in
           let forward : w ≤ v = omega (arith, low-here, high-here, p.forward k inside) in
-          rw (take_set_next lows used w low-room, take_set_next highs used v room)
+          rw (take_set_next lows used w low_room, take_set_next highs used v room)
           (under_last (take used lows) (take used highs) w v h forward (omega arith)
           (λ i l. let t : i < used = omega arith in
           rw (get_or-take used lows i 0 t) (lows-until u w (omega (arith, low-here, low-order)) i t))

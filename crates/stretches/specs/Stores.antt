@@ -5,7 +5,7 @@
 --     Rooms lows highs spare         room for five stretches at least, and as much to sort their ends
 --     Stored from to lows highs      the ends of stretches in the window from `from` to `to`
 --     Held from lows highs store     the first ends of both lists are such, as many as the store has
---     underStore lows highs store h  the letter behind h is under what the store has
+--     under_store lows highs store h  the letter behind h is under what the store has
 --     Apart lows highs n             the first n stretches lie one behind the other
 --     United L H lows highs n        they do, and are L and H united
 --     Roomier, Added                 what is stored after room was made, and after a stretch was added
@@ -23,8 +23,8 @@ under lows highs h = ltb (rank h highs) (rank h lows)
 
 pub record Paired (lows highs : List ℕ) : Type 0 where
   pub as_many : length highs ≡ length lows
-  pub low-rises : Rises lows
-  pub high-rises : Rises highs
+  pub low_rises : Rises lows
+  pub high_rises : Rises highs
   pub forward : (i : ℕ) → i < length lows → get_or lows i 0 ≤ get_or highs i 0
 
 -- the same, in any order
@@ -40,7 +40,7 @@ pub record Rooms (lows highs spare : List ℕ) : Type 0 where
 pub record Stored (from to : ℕ) (lows highs : List ℕ) : Type 0 where
   pub nested : (h : ℕ) → rank h highs ≤ rank h lows
   pub none_before : (h : ℕ) → h < from → rank h lows ≡ 0
-  pub none-behind : (h : ℕ) → to ≤ h → under lows highs h ≡ false
+  pub none_behind : (h : ℕ) → to ≤ h → under lows highs h ≡ false
 
 pub record Held (from : ℕ) (lows highs : List ℕ) (store : Store) : Type 0 where
   pub room : store.used ≤ length lows
@@ -49,8 +49,8 @@ pub record Held (from : ℕ) (lows highs : List ℕ) (store : Store) : Type 0 wh
   pub stored : Stored from store.to (take store.used lows) (take store.used highs)
 
 -- the letters under what a store has
-abbrev pub underStore : List ℕ → List ℕ → Store → ℕ → Bool
-underStore lows highs store h = under (take store.used lows) (take store.used highs) h
+abbrev pub under_store : List ℕ → List ℕ → Store → ℕ → Bool
+under_store lows highs store h = under (take store.used lows) (take store.used highs) h
 
 -- no two touch
 pub record Apart (lows highs : List ℕ) (n : ℕ) : Type 0 where
@@ -68,14 +68,14 @@ pub record Roomier (from to : ℕ) (L H lows highs : List ℕ) (store : Store) :
   pub onward : from < store.to
   pub shorter : store.to ≤ to
   pub stored : Stored from store.to (take store.used lows) (take store.used highs)
-  pub same : (h : ℕ) → h < store.to → underStore lows highs store h ≡ under L H h
+  pub same : (h : ℕ) → h < store.to → under_store lows highs store h ≡ under L H h
 
 pub record Added (from : ℕ) (x : Stretch) (L H : List ℕ) (before : Store) (lows highs : List ℕ) (store : Store)
     : Type 0 where
   pub held : Held from lows highs store
   pub shorter : store.to ≤ before.to
   pub more : (h : ℕ) → from ≤ h → h < store.to
-      → underStore lows highs store h ≡ (within x.low x.high h || underStore L H before h)
+      → under_store lows highs store h ≡ (within x.low x.high h || under_store L H before h)
 
 pub record Summed (lows highs : List ℕ) (n : ℕ) : Type 0 where
   pub summed : (last : ℕ) → ((h : ℕ) → last ≤ h → under lows highs h ≡ false) → n ≡ tally (under lows highs) last

@@ -2,6 +2,7 @@
 // itself, they tell what is covered: a letter is, if more left ends than right ends lie before it. Where they fill the
 // arrays, stretches that touch become one; where that does not make room enough, the window of letters that they are
 // kept for is cut short.
+#![tactic(auto)]
 ghost use Rattle.std.specs.Prelude.{◌≤◌, ◌<◌, min, max, ◌≡◌, length};
 ghost use Rattle.stretches.specs.Stores.{Paired, Nested, Rooms, Stored, Held, United, Roomier, Added, Summed};
 

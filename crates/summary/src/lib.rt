@@ -1,10 +1,11 @@
 // The summary of a table: pieces, distinct pieces, the letters covered on A and on B, and classes.
+#![tactic(auto)]
 ghost use Rattle.std.specs.Prelude.{◌≡◌, [], ◌∷◌, ℕ, ◌<◌, eqb};
 ghost use Rattle.refinement.specs.declared.Side.{Side};
 ghost use Rattle.rows.specs.Rows.{rows_of};
 ghost use Rattle.table.specs.Distinct.{DistinctPieces};
-ghost use Rattle.table.specs.Covering.{coverOf, LettersOnce};
-ghost use Rattle.table.specs.Summing.{classCount, lengthInClass, classesOf, summaryOf};
+ghost use Rattle.table.specs.Covering.{cover_of, LettersOnce};
+ghost use Rattle.table.specs.Summing.{class_count, length_in_class, classes_of, summary_of};
 
 use covered_letters::cover_of;
 use distinct_pieces::count_distinct;
@@ -14,7 +15,7 @@ use table::{CLASSES, Summary};
 
 // The class of a length; CLASSES where it fits none.
 fn class_of(length: u32) -> usize
-    ensures { (c : ℕ) → c < classCount → lengthInClass c length ≡ eqb c result }
+    ensures { (c : ℕ) → c < class_count → length_in_class c length ≡ eqb c result }
 {
     if length == 0 {
         return CLASSES;
@@ -27,7 +28,7 @@ fn class_of(length: u32) -> usize
 }
 
 fn count_classes(table: &[u32]) -> [usize; CLASSES]
-    ensures { result ≡ classesOf (rows_of table.now) }
+    ensures { result ≡ classes_of (rows_of table.now) }
 {
     let rows = row_count(table);
     let mut classes = [0usize; CLASSES];
@@ -46,14 +47,14 @@ fn count_classes(table: &[u32]) -> [usize; CLASSES]
 
 // The letters covered on A, and those on B.
 fn count_covers(table: &[u32]) -> [u64; 2]
-    ensures { result ≡ coverOf Side.A (rows_of table.now) ∷ coverOf Side.B (rows_of table.now) ∷ [] }
+    ensures { result ≡ cover_of Side.A (rows_of table.now) ∷ cover_of Side.B (rows_of table.now) ∷ [] }
 {
     [cover_of(table, Side::A), cover_of(table, Side::B)]
 }
 
 // The summary of a table.
 pub fn sum_up(table: &[u32]) -> Summary
-    ensures summary { result ≡ summaryOf table.now }
+    ensures summary { result ≡ summary_of table.now }
     ensures distinct { DistinctPieces (rows_of table.now) result.distinct }
     ensures covers { LettersOnce (rows_of table.now) result.covers }
 {

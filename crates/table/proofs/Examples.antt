@@ -12,49 +12,49 @@ use mathlib.Core.Path.{◌≡◌, refl}
 use mathlib.Core.List.{List, [], ◌∷◌, ◌++◌}
 use native.Mathlib.Decide.{dec_le}
 use lib.ListN.{replicate}
-use Rattle.refinement.specs.Order.{insertBy, sortBy}
-use Rattle.rows.specs.Rows.{firstRows, rows_of}
+use Rattle.refinement.specs.Order.{insert_by, sort_by}
+use Rattle.rows.specs.Rows.{first_rows, rows_of}
 use Rattle.table.specs.Finding.{leading, start_of, part_of}
-use Rattle.table.specs.Distinct.{occurs, firstsAfter}
-use Rattle.table.specs.Covering.{lettersFrom}
-use Rattle.table.specs.Summing.{total, classesFrom, summaryOf}
+use Rattle.table.specs.Distinct.{occurs, firsts_after}
+use Rattle.table.specs.Covering.{letters_from}
+use Rattle.table.specs.Summing.{total, classes_from, summary_of}
 
 five : ℕ → ℕ → ℕ → ℕ → ℕ → List ℕ
-five number left-a left-b letters direction = number ∷ left-a ∷ left-b ∷ letters ∷ direction ∷ []
+five number left_a left_b letters direction = number ∷ left_a ∷ left_b ∷ letters ∷ direction ∷ []
 
-run-summary : summaryOf (
+run-summary : summary_of (
     five 1 0 0 2 0 ++ five 1 2 2 1 0 ++ five 1 3 3 1 0 ++ five 1 4 4 2 0
     ++ five 2 2 7 1 1 ++ five 2 3 6 1 1 ++ five 2 4 4 2 1 ++ five 2 6 3 1 1)
     ≡ record { pieces = 8; distinct = 8; covers = 7 ∷ 8 ∷ []; classes = 5 ∷ 3 ∷ replicate 28 0 }
-unfolding five rows_of firstRows occurs firstsAfter total classesFrom lettersFrom sortBy insertBy dec_le
+unfolding five rows_of first_rows occurs firsts_after total classes_from letters_from sort_by insert_by dec_le
 run-summary = refl
 
-numbers_apart : (summaryOf (
+numbers_apart : (summary_of (
     five 1 4 4 2 2 ++ five 1 5 4 2 2 ++ five 1 4 5 2 2 ++ five 1 4 4 3 2 ++ five 1 4 4 2 3)).distinct ≡ 5
-unfolding five rows_of firstRows occurs firstsAfter
+unfolding five rows_of first_rows occurs firsts_after
 numbers_apart = refl
 
-directions-apart : (summaryOf (
+directions-apart : (summary_of (
     five 1 4 4 2 0 ++ five 1 4 4 2 1 ++ five 1 4 4 2 2 ++ five 1 4 4 2 3 ++ five 1 4 4 2 0xFFFF_FFFF)).distinct ≡ 5
-unfolding five rows_of firstRows occurs firstsAfter
+unfolding five rows_of first_rows occurs firsts_after
 directions-apart = refl
 
-matches-alike : (summaryOf (five 1 4 4 2 3 ++ five 2 4 4 2 3 ++ five 0 4 4 2 3)).distinct ≡ 1
-unfolding five rows_of firstRows occurs firstsAfter
+matches-alike : (summary_of (five 1 4 4 2 3 ++ five 2 4 4 2 3 ++ five 0 4 4 2 3)).distinct ≡ 1
+unfolding five rows_of first_rows occurs firsts_after
 matches-alike = refl
 
-class-ends : (summaryOf (
+class-ends : (summary_of (
     five 1 0 0 0 0 ++ five 1 0 0 1 0 ++ five 1 0 0 0x3FFF_FFFF 0 ++ five 1 0 0 0x4000_0000 0)
     ).classes ≡ 1 ∷ replicate 28 0 ++ 1 ∷ []
-unfolding five rows_of firstRows total classesFrom
+unfolding five rows_of first_rows total classes_from
 class-ends = refl
 
 first_run : part_of 1 (
     five 2 0 0 1 0 ++ five 1 1 1 1 0 ++ five 1 2 2 1 0 ++ five 2 3 3 1 0 ++ five 1 4 4 1 0
     ++ 1 ∷ 5 ∷ 5 ∷ 1 ∷ []) ≡ five 1 1 1 1 0 ++ five 1 2 2 1 0
-unfolding five rows_of firstRows leading
+unfolding five rows_of first_rows leading
 first_run = refl
 
 no_run : start_of 7 (five 1 0 0 1 0 ++ 7 ∷ 1 ∷ 1 ∷ 1 ∷ []) ≡ 0
-unfolding five rows_of firstRows leading
+unfolding five rows_of first_rows leading
 no_run = refl

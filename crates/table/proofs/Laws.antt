@@ -25,11 +25,11 @@ use lib.Seq.{get_or-drop}
 use Rattle.refinement.specs.declared.Side.{Side}
 use Rattle.refinement.specs.declared.Side.TheVariants.{A, B}
 use Rattle.refinement.specs.Order.{◌∈◌}
-use Rattle.rows.specs.Rows.{rowWidth, row_of, firstRows, rows_of}
-use Rattle.table.specs.Distinct.{same, occurs, firstsAfter, firstOfEach}
-use Rattle.table.specs.Covering.{rightOf, coverOf}
-use Rattle.table.specs.Summing.{total, count, classCount, inClass, classesFrom}
-use Rattle.table.specs.Summing.{summaryOfRows, summaryOf}
+use Rattle.rows.specs.Rows.{row_width, row_of, first_rows, rows_of}
+use Rattle.table.specs.Distinct.{same, occurs, firsts_after, first_of_each}
+use Rattle.table.specs.Covering.{right_of, cover_of}
+use Rattle.table.specs.Summing.{total, count, class_count, in_class, classes_from}
+use Rattle.table.specs.Summing.{summary_of_rows, summary_of}
 use Rattle.rows.specs.declared.Row.{Row}
 use Rattle.table.proofs.Counting.{count-inside, count-agrees, count-every, count-no-one, count-joined}
 use Rattle.table.proofs.Pieces.{bool_same, or_turned, same-sym, occurs-same, firsts-inside}
@@ -37,7 +37,7 @@ use Rattle.table.proofs.Covers.{cover-order, cover-at-most}
 
 -- ---- no more than the pieces
 
-pub distinct-inside : (t : List ℕ) → (summaryOf t).distinct ≤ (summaryOf t).pieces
+pub distinct-inside : (t : List ℕ) → (summary_of t).distinct ≤ (summary_of t).pieces
 distinct-inside t = firsts-inside [] (rows_of t)
 
 unfoldable pub sum_of : List ℕ → ℕ
@@ -67,8 +67,8 @@ between_none a x =
       | no from-a ↦ rw (le-leb a x (omega arith), le-ltb x a (omega arith))
     ]
 
-classes-from-sum : (n c : ℕ) (rs : List Row) → sum_of (classesFrom n c rs) ≡ count (between (2 ^ c) (2 ^ (c + n))) rs
-unfolding classesFrom sum_of
+classes-from-sum : (n c : ℕ) (rs : List Row) → sum_of (classes_from n c rs) ≡ count (between (2 ^ c) (2 ^ (c + n))) rs
+unfolding classes_from sum_of
 classes-from-sum zero c rs =
     rw (add-zero c)
     (sym (count-agrees (between (2 ^ c) (2 ^ c)) false (λ r. between_none (2 ^ c) r.length) rs ∙ count-no-one rs))
@@ -78,15 +78,15 @@ classes-from-sum (suc n) c rs =
     let low = pow_mono {i = c} {j = c + 1} (omega arith) in
     let high = pow_mono {i = c + 1} {j = c + 1 + n} (omega arith) in
     rw (classes-from-sum n (suc c) rs, ← next, ← end)
-    (count-joined (inClass c) (between (2 ^ (c + 1)) (2 ^ (c + 1 + n))) (between (2 ^ c) (2 ^ (c + 1 + n)))
+    (count-joined (in_class c) (between (2 ^ (c + 1)) (2 ^ (c + 1 + n))) (between (2 ^ c) (2 ^ (c + 1 + n)))
     (λ r. between-joined (2 ^ c) (2 ^ (c + 1)) (2 ^ (c + 1 + n)) r.length low high) rs)
 
 -- a piece of no letters, or of 2^30 or more, is in no class
-pub classes-sum : (t : List ℕ) → sum_of (summaryOf t).classes ≡ count (between 1 (2 ^ classCount)) (rows_of t)
-classes-sum t = classes-from-sum classCount 0 (rows_of t)
+pub classes-sum : (t : List ℕ) → sum_of (summary_of t).classes ≡ count (between 1 (2 ^ class_count)) (rows_of t)
+classes-sum t = classes-from-sum class_count 0 (rows_of t)
 
-pub classes-inside : (t : List ℕ) → sum_of (summaryOf t).classes ≤ (summaryOf t).pieces
-classes-inside t = omega (arith, classes-sum t, count-inside (between 1 (2 ^ classCount)) (rows_of t))
+pub classes-inside : (t : List ℕ) → sum_of (summary_of t).classes ≤ (summary_of t).pieces
+classes-inside t = omega (arith, classes-sum t, count-inside (between 1 (2 ^ class_count)) (rows_of t))
 
 -- ---- in every order
 
@@ -98,8 +98,8 @@ total-order f (Permᴰ.swap {a} {b} {l = l} e e') = rw (← e, ← e') (omega ar
 total-order f (Permᴰ.trans p q) = total-order f p ∙ total-order f q
 
 firsts-seen : (s s' : List Row) → ((r : Row) → occurs r s ≡ occurs r s') → (rs : List Row)
-    → firstsAfter s rs ≡ firstsAfter s' rs
-unfolding firstsAfter occurs
+    → firsts_after s rs ≡ firsts_after s' rs
+unfolding firsts_after occurs
 firsts-seen s s' h [] = refl
 firsts-seen s s' h (r ∷ rs) =
     rw (h r, firsts-seen (r ∷ s) (r ∷ s') (λ q. ap (λ (b : Bool). same r q || b) (h q)) rs)
@@ -111,12 +111,12 @@ turned seen r s q = or_turned (same s q) (same r q) (occurs q seen)
 -- f gives the same for rows of the same piece
 module _ (f : Row → ℕ) (alike : (r s : Row) → same r s ≡ true → f r ≡ f s) where
   first_counted : (seen : List Row) (r : Row) (rs : List Row)
-      → total f (firstsAfter seen (r ∷ rs)) ≡ cond (occurs r seen) 0 (f r) + total f (firstsAfter (r ∷ seen) rs)
-  unfolding firstsAfter total
+      → total f (firsts_after seen (r ∷ rs)) ≡ cond (occurs r seen) 0 (f r) + total f (firsts_after (r ∷ seen) rs)
+  unfolding firsts_after total
   first_counted seen r rs = go (occurs r seen)
     where
-      go : (b : Bool) → total f (cond b (firstsAfter (r ∷ seen) rs) (r ∷ firstsAfter (r ∷ seen) rs))
-          ≡ cond b 0 (f r) + total f (firstsAfter (r ∷ seen) rs)
+      go : (b : Bool) → total f (cond b (firsts_after (r ∷ seen) rs) (r ∷ firsts_after (r ∷ seen) rs))
+          ≡ cond b 0 (f r) + total f (firsts_after (r ∷ seen) rs)
       go true = omega arith
       go false = refl
 
@@ -138,7 +138,7 @@ module _ (f : Row → ℕ) (alike : (r s : Row) → same r s ≡ true → f r �
       go false e = omega arith
 
   firsts-swapped : (seen : List Row) (r s : Row) (rs : List Row)
-      → total f (firstsAfter seen (r ∷ s ∷ rs)) ≡ total f (firstsAfter seen (s ∷ r ∷ rs))
+      → total f (firsts_after seen (r ∷ s ∷ rs)) ≡ total f (firsts_after seen (s ∷ r ∷ rs))
   firsts-swapped seen r s rs =
       omega (
         arith,
@@ -151,50 +151,50 @@ module _ (f : Row → ℕ) (alike : (r s : Row) → same r s ≡ true → f r �
       )
 
   pub firsts-order : {rs ss : List Row} → Permᴰ rs ss → (seen : List Row)
-      → total f (firstsAfter seen rs) ≡ total f (firstsAfter seen ss)
+      → total f (firsts_after seen rs) ≡ total f (firsts_after seen ss)
   firsts-order Permᴰ.nil seen = refl
   firsts-order (Permᴰ.cons {a} {b} {l₁} {l₂} e p) seen =
       rw (← e) (omega (arith, first_counted seen a l₁, first_counted seen a l₂, firsts-order p (a ∷ seen)))
   firsts-order (Permᴰ.swap {a} {b} {l = l} e e') seen = rw (← e, ← e') (firsts-swapped seen a b l)
   firsts-order (Permᴰ.trans p q) seen = firsts-order p seen ∙ firsts-order q seen
 
-classes-order : (n c : ℕ) {rs ss : List Row} → Permᴰ rs ss → classesFrom n c rs ≡ classesFrom n c ss
-unfolding classesFrom
+classes-order : (n c : ℕ) {rs ss : List Row} → Permᴰ rs ss → classes_from n c rs ≡ classes_from n c ss
+unfolding classes_from
 classes-order zero c p = refl
-classes-order (suc n) c p = rw (total-order (λ r. cond (inClass c r) 1 0) p, classes-order n (suc c) p)
+classes-order (suc n) c p = rw (total-order (λ r. cond (in_class c r) 1 0) p, classes-order n (suc c) p)
 
-rows-order : {rs ss : List Row} → Permᴰ rs ss → summaryOfRows rs ≡ summaryOfRows ss
+rows-order : {rs ss : List Row} → Permᴰ rs ss → summary_of_rows rs ≡ summary_of_rows ss
 rows-order {rs} {ss} p =
     let pieces : length rs ≡ length ss = sym (count-every rs) ∙ total-order (λ r. 1) p ∙ count-every ss in
     let firsts = firsts-order (λ r. 1) (λ r s e. refl) p [] in
-    let distinct : length (firstOfEach rs) ≡ length (firstOfEach ss)
-    = sym (count-every (firstOfEach rs)) ∙ firsts ∙ count-every (firstOfEach ss) in
-    rw (pieces, distinct, cover-order A p, cover-order B p, classes-order classCount 0 p)
+    let distinct : length (first_of_each rs) ≡ length (first_of_each ss)
+    = sym (count-every (first_of_each rs)) ∙ firsts ∙ count-every (first_of_each ss) in
+    rw (pieces, distinct, cover-order A p, cover-order B p, classes-order class_count 0 p)
 
-pub summary-order : (t t' : List ℕ) → Permᴰ (rows_of t) (rows_of t') → summaryOf t ≡ summaryOf t'
+pub summary-order : (t t' : List ℕ) → Permᴰ (rows_of t) (rows_of t') → summary_of t ≡ summary_of t'
 summary-order t t' p = rows-order p
 
 -- ---- no sum wraps
 
 -- a right end is at most twice the largest number
-rows_end : (s : Side) (n : ℕ) (t : List ℕ) → ((k : ℕ) → get_or t k 0 < 2 ^ 32) → (r : Row) → r ∈ firstRows n t
-    → rightOf s r < 2 ^ 33
-unfolding firstRows
+rows_end : (s : Side) (n : ℕ) (t : List ℕ) → ((k : ℕ) → get_or t k 0 < 2 ^ 32) → (r : Row) → r ∈ first_rows n t
+    → right_of s r < 2 ^ 33
+unfolding first_rows
 rows_end s zero t fits r m = absurd (Memᴰ.not-nil m)
 rows_end s (suc n) t fits r m =
     ⊎_elim (λ e. rw e (first s))
-    (rows_end s n (drop rowWidth t) (λ k. rw get_or-drop (fits (rowWidth + k))) r) (Memᴰ.cases_cons m)
+    (rows_end s n (drop row_width t) (λ k. rw get_or-drop (fits (row_width + k))) r) (Memᴰ.cases_cons m)
   where
-    first : (s : Side) → rightOf s (row_of t) < 2 ^ 33
+    first : (s : Side) → right_of s (row_of t) < 2 ^ 33
     first A = omega (arith, fits 1, fits 3)
     first B = omega (arith, fits 2, fits 3)
 
 pub table-ends : (s : Side) (t : List ℕ) → ((k : ℕ) → get_or t k 0 < 2 ^ 32) → (r : Row) → r ∈ rows_of t
-    → rightOf s r < 2 ^ 33
+    → right_of s r < 2 ^ 33
 unfolding rows_of
-table-ends s t fits r m = rows_end s (length t / rowWidth) t fits r m
+table-ends s t fits r m = rows_end s (length t / row_width) t fits r m
 
-pub covers-fit : (s : Side) (t : List ℕ) → ((k : ℕ) → get_or t k 0 < 2 ^ 32) → coverOf s (rows_of t) < 2 ^ 33
+pub covers-fit : (s : Side) (t : List ℕ) → ((k : ℕ) → get_or t k 0 < 2 ^ 32) → cover_of s (rows_of t) < 2 ^ 33
 covers-fit s t fits =
     let most = cover-at-most s (rows_of t) (2 ^ 33 - 1) (λ r m. omega (arith, table-ends s t fits r m)) in
     omega arith

@@ -25,7 +25,7 @@ use lib.ListN.{length, get_or, take}
 use lib.Dec.{eqb}
 use lib.Seq.{length-take-le, get_or-take}
 use Rattle.rows.specs.Rows.{row_of, row_at}
-use Rattle.table.specs.Distinct.{same, occurs, firstsAfter, firstOfEach, piece_of, SamePiece}
+use Rattle.table.specs.Distinct.{same, occurs, firsts_after, first_of_each, piece_of, SamePiece}
 use Rattle.rows.specs.declared.Row.{Row}
 use Rattle.rows.proofs.TableRows.{take_more}
 
@@ -74,8 +74,8 @@ same-fields r s e =
     let behind-a = and_right (eqb r.left_a s.left_a) _ e in
     let behind-b = and_right (eqb r.left_b s.left_b) _ behind-a in
     record {
-      left-a = eqb-true _ _ (and_left _ _ e);
-      left-b = eqb-true _ _ (and_left _ _ behind-a);
+      left_a = eqb-true _ _ (and_left _ _ e);
+      left_b = eqb-true _ _ (and_left _ _ behind-a);
       letters = eqb-true _ _ (and_left _ _ behind-b);
       direction = eqb-true _ _ (and_right (eqb r.length s.length) _ behind-b);
     }
@@ -83,20 +83,20 @@ same-fields r s e =
 pub fields-same : (r s : Row) → SamePiece r s → same r s ≡ true
 fields-same r s h =
     rw (
-      eq-eqb _ _ h.left-a,
-      eq-eqb _ _ h.left-b,
+      eq-eqb _ _ h.left_a,
+      eq-eqb _ _ h.left_b,
       eq-eqb _ _ h.letters,
       eq-eqb _ _ h.direction,
     )
 
 pub piece-numbers : (r s : Row) → SamePiece r s → piece_of r ≡ piece_of s
-piece-numbers r s h = rw (h.left-a, h.left-b, h.letters, h.direction)
+piece-numbers r s h = rw (h.left_a, h.left_b, h.letters, h.direction)
 
 pub numbers-piece : (r s : Row) → piece_of r ≡ piece_of s → SamePiece r s
 numbers-piece r s e =
     record {
-      left-a = ap (λ (ns : List ℕ). get_or ns 0 0) e;
-      left-b = ap (λ (ns : List ℕ). get_or ns 1 0) e;
+      left_a = ap (λ (ns : List ℕ). get_or ns 0 0) e;
+      left_b = ap (λ (ns : List ℕ). get_or ns 1 0) e;
       letters = ap (λ (ns : List ℕ). get_or ns 2 0) e;
       direction = ap (λ (ns : List ℕ). get_or ns 3 0) e;
     }
@@ -177,8 +177,8 @@ turn false true d = refl
 turn false false d = refl
 
 firsts-snoc : (seen rs : List Row) (r : Row)
-    → firstsAfter seen (rs ++ r ∷ []) ≡ firstsAfter seen rs ++ fresh r (occurs r seen || occurs r rs)
-unfolding firstsAfter occurs fresh
+    → firsts_after seen (rs ++ r ∷ []) ≡ firsts_after seen rs ++ fresh r (occurs r seen || occurs r rs)
+unfolding firsts_after occurs fresh
 firsts-snoc seen [] r = go (occurs r seen)
   where
     go : (b : Bool) → cond b [] (r ∷ []) ≡ cond (b || false) [] (r ∷ [])
@@ -188,32 +188,32 @@ firsts-snoc seen (q ∷ rs) r =
     go (occurs q seen)
     (firsts-snoc (q ∷ seen) rs r ∙ rw (turn (same q r) (occurs r seen) (occurs r rs)))
   where
-    go : (b : Bool) → firstsAfter (q ∷ seen) (rs ++ r ∷ [])
-        ≡ firstsAfter (q ∷ seen) rs ++ fresh r (occurs r seen || (same q r || occurs r rs))
-        → cond b (firstsAfter (q ∷ seen) (rs ++ r ∷ [])) (q ∷ firstsAfter (q ∷ seen) (rs ++ r ∷ []))
-        ≡ cond b (firstsAfter (q ∷ seen) rs) (q ∷ firstsAfter (q ∷ seen) rs)
+    go : (b : Bool) → firsts_after (q ∷ seen) (rs ++ r ∷ [])
+        ≡ firsts_after (q ∷ seen) rs ++ fresh r (occurs r seen || (same q r || occurs r rs))
+        → cond b (firsts_after (q ∷ seen) (rs ++ r ∷ [])) (q ∷ firsts_after (q ∷ seen) (rs ++ r ∷ []))
+        ≡ cond b (firsts_after (q ∷ seen) rs) (q ∷ firsts_after (q ∷ seen) rs)
         ++ fresh r (occurs r seen || (same q r || occurs r rs))
     go true e = e
     go false e = ap (λ (xs : List Row). q ∷ xs) e
 
 module _ (rs : List Row) (k : ℕ) (inside : k < length rs) where
-  pub firsts-known : occurs (row_at rs k) (take k rs) ≡ true → firstOfEach (take (k + 1) rs) ≡ firstOfEach (take k rs)
+  pub firsts-known : occurs (row_at rs k) (take k rs) ≡ true → first_of_each (take (k + 1) rs) ≡ first_of_each (take k rs)
   unfolding occurs fresh
   firsts-known o =
-      ap firstOfEach (take_more rs k inside) ∙ firsts-snoc [] (take k rs) (row_at rs k)
-      ∙ rw o (append-nil (firstOfEach (take k rs)))
+      ap first_of_each (take_more rs k inside) ∙ firsts-snoc [] (take k rs) (row_at rs k)
+      ∙ rw o (append-nil (first_of_each (take k rs)))
 
   pub firsts-fresh : occurs (row_at rs k) (take k rs) ≡ false
-      → firstOfEach (take (k + 1) rs) ≡ firstOfEach (take k rs) ++ row_at rs k ∷ []
+      → first_of_each (take (k + 1) rs) ≡ first_of_each (take k rs) ++ row_at rs k ∷ []
   unfolding occurs fresh
-  firsts-fresh o = ap firstOfEach (take_more rs k inside) ∙ firsts-snoc [] (take k rs) (row_at rs k) ∙ rw o
+  firsts-fresh o = ap first_of_each (take_more rs k inside) ∙ firsts-snoc [] (take k rs) (row_at rs k) ∙ rw o
 
-pub firsts-inside : (seen rs : List Row) → length (firstsAfter seen rs) ≤ length rs
-unfolding firstsAfter
+pub firsts-inside : (seen rs : List Row) → length (firsts_after seen rs) ≤ length rs
+unfolding firsts_after
 firsts-inside seen [] = zero-le
 firsts-inside seen (r ∷ rs) = go (occurs r seen) (firsts-inside (r ∷ seen) rs)
   where
-    go : (b : Bool) → length (firstsAfter (r ∷ seen) rs) ≤ length rs
-        → length (cond b (firstsAfter (r ∷ seen) rs) (r ∷ firstsAfter (r ∷ seen) rs)) ≤ suc (length rs)
+    go : (b : Bool) → length (firsts_after (r ∷ seen) rs) ≤ length rs
+        → length (cond b (firsts_after (r ∷ seen) rs) (r ∷ firsts_after (r ∷ seen) rs)) ≤ suc (length rs)
     go true h = omega arith
     go false h = suc-le-suc h

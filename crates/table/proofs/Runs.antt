@@ -19,8 +19,8 @@ use native.Mathlib.Decide.{dec_lt}
 use borrow.Author.Tests.{lt-ltb, le-ltb, eqb-true, eqb-false, not-true, not-false}
 use lib.ListN.{length, drop, drop_of_length-le, length-drop}
 use lib.Seq.{drop-cons, get_or-drop}
-use Rattle.rows.specs.Rows.{rowWidth, row_of, row_at, rows_of}
-use Rattle.table.specs.Finding.{leading, hasNumber, hasOther, before, run, start_of, size_of}
+use Rattle.rows.specs.Rows.{row_width, row_of, row_at, rows_of}
+use Rattle.table.specs.Finding.{leading, has_number, has_other, before, run, start_of, size_of}
 use Rattle.rows.specs.declared.Row.{Row}
 use Rattle.rows.proofs.TableRows.{rows-length}
 
@@ -53,16 +53,16 @@ leading-inside p (r ∷ rs) = go (p r) (leading-inside p rs)
 
 module _ (n : ℕ) (t : List ℕ) {first : ℕ} (reached : first ≡ before n (rows_of t)) (inside : first < length (rows_of t))
   where
-    pub start-found : first * rowWidth ≡ start_of n t
+    pub start-found : first * row_width ≡ start_of n t
     start-found = rw (← reached, lt-ltb first (length (rows_of t)) inside) (omega arith)
 
     pub end-found : {end : ℕ} → end ≡ first + run n (drop first (rows_of t))
-        → end * rowWidth ≡ start_of n t + size_of n t
+        → end * row_width ≡ start_of n t + size_of n t
     end-found ended = rw (← start-found, ended, ← reached) (omega arith)
 
 module _ (n : ℕ) (t : List ℕ) (none : length (rows_of t) ≤ before n (rows_of t)) where
   pub size-missing : size_of n t ≡ 0
-  size-missing = omega (arith, leading-none (hasNumber n) (rows_of t) (before n (rows_of t)) none)
+  size-missing = omega (arith, leading-none (has_number n) (rows_of t) (before n (rows_of t)) none)
 
   pub start-missing : start_of n t ≡ 0
   start-missing = rw (le-ltb (before n (rows_of t)) (length (rows_of t)) none)
@@ -101,12 +101,12 @@ pub record Run (n : ℕ) (rs : List Row) (from to : ℕ) : Type 0 where
 
 -- a start and a size, in numbers of the table
 pub data Found (n : ℕ) (rs : List Row) : ℕ → ℕ → Type 0 where
-  found : (from to : ℕ) → Run n rs from to → Found n rs (rowWidth * from) (rowWidth * (to - from))
+  found : (from to : ℕ) → Run n rs from to → Found n rs (row_width * from) (row_width * (to - from))
   missing : ((k : ℕ) → k < length rs → (row_at rs k).number ≡ n → ⊥) → Found n rs 0 0
 
 first_else : (n : ℕ) (rs : List Row) (k : ℕ) → k < before n rs → (row_at rs k).number ≡ n → ⊥
 first_else n rs k l =
-    eqb-false (row_at rs k).number n (not-true (hasNumber n (row_at rs k)) (leading-pass (hasOther n) rs k l))
+    eqb-false (row_at rs k).number n (not-true (has_number n (row_at rs k)) (leading-pass (has_other n) rs k l))
 
 run_of : (n : ℕ) (rs : List Row) → before n rs < length rs
     → Run n rs (before n rs) (before n rs + run n (drop (before n rs) rs))
@@ -119,20 +119,20 @@ run_of n rs h =
       some =
           omega (
             arith,
-            leading-more (hasNumber n) rs b h refl
-                (not-false (hasNumber n (row_at rs b)) (leading-fail (hasOther n) rs h)),
+            leading-more (has_number n) rs b h refl
+                (not-false (has_number n (row_at rs b)) (leading-fail (has_other n) rs h)),
           );
       unbroken = λ k l l'.
           let i = k - b in
           let within : i < run n rest = omega arith in
           let placed : b + i ≡ k = omega arith in
           subst (λ (r : Row). r.number ≡ n) (there i ∙ ap (row_at rs) placed)
-          (eqb-true (row_at rest i).number n (leading-pass (hasNumber n) rest i within));
+          (eqb-true (row_at rest i).number n (leading-pass (has_number n) rest i within));
       whole = λ l.
           let within : run n rest < length rest = omega (arith, length-drop b rs) in
           subst (λ (r : Row). r.number ≡ n → ⊥) (there (run n rest))
-          (eqb-false (row_at rest (run n rest)).number n (leading-fail (hasNumber n) rest within));
-      inside = omega (arith, leading-inside (hasNumber n) rest, length-drop b rs);
+          (eqb-false (row_at rest (run n rest)).number n (leading-fail (has_number n) rest within));
+      inside = omega (arith, leading-inside (has_number n) rest, length-drop b rs);
     }
 
 le_of_not_lt : {m n : ℕ} → (m < n → ⊥) → n ≤ m
@@ -147,13 +147,13 @@ part-found n t =
       | yes h ↦
           let sized : b + size - b ≡ size = omega arith in
           rw (lt-ltb b (length rs) h)
-          (subst (λ (m : ℕ). Found n rs (rowWidth * b) (rowWidth * m)) sized (found b (b + size) (run_of n rs h)))
+          (subst (λ (m : ℕ). Found n rs (row_width * b) (row_width * m)) sized (found b (b + size) (run_of n rs h)))
       | no h ↦
           let none : length rs ≤ b = le_of_not_lt h in
           rw (start-missing n t none, size-missing n t none) (missing (λ k l. first_else n rs k (omega arith)))
     ]
 
-found_inside : {n : ℕ} {rs : List Row} {s z : ℕ} → Found n rs s z → s + z ≤ rowWidth * length rs
+found_inside : {n : ℕ} {rs : List Row} {s z : ℕ} → Found n rs s z → s + z ≤ row_width * length rs
 found_inside (Found.found f t r) = omega (arith, r.some, r.inside)
 found_inside (Found.missing none) = zero-le
 
@@ -179,7 +179,7 @@ not-missing {f = f} r none = none f (lt_of_lt_of_le r.some r.inside) (r.unbroken
 pub found-once : {n : ℕ} {rs : List Row} {s z s' z' : ℕ} → Found n rs s z → Found n rs s' z' → (s ≡ s') × (z ≡ z')
 found-once (Found.found f t r) (Found.found f' t' r') =
     let same = runs-once r r' in
-    (ap (λ (i : ℕ). rowWidth * i) same.0, ap₂ (λ (i j : ℕ). rowWidth * (j - i)) same.0 same.1)
+    (ap (λ (i : ℕ). row_width * i) same.0, ap₂ (λ (i j : ℕ). row_width * (j - i)) same.0 same.1)
 found-once (Found.found f t r) (Found.missing none) = absurd (not-missing r none)
 found-once (Found.missing none) (Found.found f t r) = absurd (not-missing r none)
 found-once (Found.missing none) (Found.missing none') = (refl, refl)

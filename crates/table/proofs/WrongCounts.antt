@@ -9,7 +9,7 @@ use mathlib.Core.Path.{◌≡◌, refl, sym}
 use mathlib.Core.Logic.{◌≢◌}
 use mathlib.Core.List.{[], ◌∷◌}
 use native.Mathlib.Omega.{arith}
-use Rattle.table.specs.Distinct.{same, occurs, firstsAfter, firstOfEach, DistinctPieces}
+use Rattle.table.specs.Distinct.{same, occurs, firsts_after, first_of_each, DistinctPieces}
 use Rattle.rows.specs.declared.Row.{Row}
 use Rattle.table.proofs.Pieces.{false_of, same-fields, fields-same}
 use Rattle.table.proofs.OneOfEach.{firsts-each}
@@ -19,9 +19,9 @@ five n a b l d = record { number = n; left_a = a; left_b = b; length = l; direct
 
 -- of two rows
 counted : (r s : Row) (told : Bool) → same r s ≡ told → {n : ℕ} → DistinctPieces (r ∷ s ∷ []) n → n ≡ cond told 1 2
-unfolding firstsAfter occurs
-counted r s true e d = sym (rw e at (d.every (firstOfEach (r ∷ s ∷ [])) (firsts-each (r ∷ s ∷ []))))
-counted r s false e d = sym (rw e at (d.every (firstOfEach (r ∷ s ∷ [])) (firsts-each (r ∷ s ∷ []))))
+unfolding firsts_after occurs
+counted r s true e d = sym (rw e at (d.every (first_of_each (r ∷ s ∷ [])) (firsts-each (r ∷ s ∷ []))))
+counted r s false e d = sym (rw e at (d.every (first_of_each (r ∷ s ∷ [])) (firsts-each (r ∷ s ∷ []))))
 
 module _ (n m a b l : ℕ) where
   direction-ignored-refused : (d e : ℕ) → d ≢ e → ¬ DistinctPieces (five n a b l d ∷ five m a b l e ∷ []) 1
@@ -38,5 +38,5 @@ module _ (n m a b l : ℕ) where
   match-number-refused d c =
       let r = five n a b l d in
       let s = five m a b l d in
-      let alike = fields-same r s (record { left-a = refl; left-b = refl; letters = refl; direction = refl }) in
+      let alike = fields-same r s (record { left_a = refl; left_b = refl; letters = refl; direction = refl }) in
       omega (arith, counted r s true alike c)

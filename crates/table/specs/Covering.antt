@@ -1,7 +1,7 @@
 -- The letters that the rows of a table cover. TO READ: contracts mean what stands here.
---     left_of s r, rightOf s r     the ends of the stretch that the row r has on the side s
---     lettersFrom s h rs          the letters from the position h on of rows that go up by their left ends
---     coverOf s rs                the letters of the side s that rs covers
+--     left_of s r, right_of s r     the ends of the stretch that the row r has on the side s
+--     letters_from s h rs          the letters from the position h on of rows that go up by their left ends
+--     cover_of s rs                the letters of the side s that rs covers
 --     CountedOnce P n             so many letters are such that P, each counted once
 --     Covered s rs h              the letter behind the position h is in at least one row's stretch
 --     LettersOnce rs covers       for A and for B, `covers` has the number of such letters
@@ -10,33 +10,33 @@ use Rattle.std.specs.Prelude.{ℕ, ◌+◌, ◌-◌, ◌≤◌, ◌<◌, max, �
 use Rattle.std.proofs.Math.Decide.{dec_le}
 use Rattle.refinement.specs.declared.Side.{Side}
 use Rattle.refinement.specs.declared.Side.TheVariants.{A, B}
-use Rattle.refinement.specs.Match.{onSide}
-use Rattle.refinement.specs.Order.{◌∈◌, Distinct, sortBy}
+use Rattle.refinement.specs.Match.{on_side}
+use Rattle.refinement.specs.Order.{◌∈◌, Distinct, sort_by}
 use Rattle.rows.specs.declared.Row.{Row}
 
 -- ---- the number, as it is worked out by hand
 
 -- SCOPE, "Covers": a stretch begins at its left end ..
 abbrev pub left_of : Side → Row → ℕ
-left_of s r = onSide s r.left_a r.left_b
+left_of s r = on_side s r.left_a r.left_b
 
 -- .. and has as many letters as the row's length: left and length are added as natural numbers
-abbrev pub rightOf : Side → Row → ℕ
-rightOf s r = left_of s r + r.length
+abbrev pub right_of : Side → Row → ℕ
+right_of s r = left_of s r + r.length
 
 -- a row whose left end is no further goes first
-abbrev pub notPast? : (s : Side) (r q : Row) → Dec (left_of s r ≤ left_of s q)
-notPast? s r q = dec_le (left_of s r) (left_of s q)
+abbrev pub not_past? : (s : Side) (r q : Row) → Dec (left_of s r ≤ left_of s q)
+not_past? s r q = dec_le (left_of s r) (left_of s q)
 
 -- of the first row the letters that lie behind h; the others count behind its right end, or behind h if that is further
-unfoldable pub lettersFrom : Side → ℕ → List Row → ℕ
-lettersFrom s h [] = 0
-lettersFrom s h (r ∷ rs) = (rightOf s r - max h (left_of s r)) + lettersFrom s (max h (rightOf s r)) rs
+unfoldable pub letters_from : Side → ℕ → List Row → ℕ
+letters_from s h [] = 0
+letters_from s h (r ∷ rs) = (right_of s r - max h (left_of s r)) + letters_from s (max h (right_of s r)) rs
 
 -- SCOPE, "Covers": the number of letters in at least one row's stretch (law cover-counted). By hand: the rows in the
 -- order of their left ends, and of each what those before it leave
-abbrev pub coverOf : Side → List Row → ℕ
-coverOf s rs = lettersFrom s 0 (sortBy (notPast? s) rs)
+abbrev pub cover_of : Side → List Row → ℕ
+cover_of s rs = letters_from s 0 (sort_by (not_past? s) rs)
 
 -- ---- the number, in the words of the request
 
@@ -50,8 +50,8 @@ pub record CountedOnce (P : ℕ → Type 0) (n : ℕ) : Type 0 where
 
 -- SCOPE, "Covers": the letter behind h is in the stretch
 pub record InStretch (s : Side) (r : Row) (h : ℕ) : Type 0 where
-  pub from-left : left_of s r ≤ h
-  pub before-right : h < rightOf s r
+  pub from_left : left_of s r ≤ h
+  pub before_right : h < right_of s r
 
 -- SCOPE, "Covers": in at least one row's stretch
 pub record Covered (s : Side) (rs : List Row) (h : ℕ) : Type 0 where
@@ -62,5 +62,5 @@ pub record Covered (s : Side) (rs : List Row) (h : ℕ) : Type 0 where
 -- 02, #102: two numbers, for A and for B
 pub record LettersOnce (rs : List Row) (covers : List ℕ) : Type 0 where
   pub two : length covers ≡ 2
-  pub on-a : CountedOnce (Covered A rs) (get_or covers 0 0)
-  pub on-b : CountedOnce (Covered B rs) (get_or covers 1 0)
+  pub on_a : CountedOnce (Covered A rs) (get_or covers 0 0)
+  pub on_b : CountedOnce (Covered B rs) (get_or covers 1 0)

@@ -1,7 +1,7 @@
 -- Distinct pieces among rows. TO READ: contracts mean what stands here.
 --     same r s               the test whether r and s are the same piece
 --     occurs r rs            some row of rs is the same piece as r
---     firstOfEach rs         of each piece of rs the first row, in the order of rs
+--     first_of_each rs         of each piece of rs the first row, in the order of rs
 --     piece_of r              the numbers that make the piece of r
 --     SamePiece r s          r and s are the same piece
 --     OneOfEach rs qs        qs has one row of each piece of rs
@@ -9,7 +9,7 @@
 -- 01, "The table and its buffers"; 02, #105. Assumes nothing.
 use Rattle.std.specs.Prelude.{ℕ, Bool, false, cond, ◌&&◌, ◌||◌, ◌≡◌, List, [], ◌∷◌, length, drop, eqb}
 use Rattle.refinement.specs.Order.{◌∈◌, Rising}
-use Rattle.rows.specs.Rows.{rowNumbers}
+use Rattle.rows.specs.Rows.{row_numbers}
 use Rattle.rows.specs.declared.Row.{Row}
 
 -- ---- the pieces, as they are found by hand
@@ -26,26 +26,26 @@ occurs r [] = false
 occurs r (s ∷ rs) = same s r || occurs r rs
 
 -- the rows of rs that are the same piece as no row before them and as none of `seen`
-unfoldable pub firstsAfter : List Row → List Row → List Row
-firstsAfter seen [] = []
-firstsAfter seen (r ∷ rs) =
-    let rest = firstsAfter (r ∷ seen) rs in
+unfoldable pub firsts_after : List Row → List Row → List Row
+firsts_after seen [] = []
+firsts_after seen (r ∷ rs) =
+    let rest = firsts_after (r ∷ seen) rs in
     cond (occurs r seen) rest (r ∷ rest)
 
 -- SCOPE, "Distinct": a row stands for its piece where no earlier row is the same piece
-abbrev pub firstOfEach : List Row → List Row
-firstOfEach rs = firstsAfter [] rs
+abbrev pub first_of_each : List Row → List Row
+first_of_each rs = firsts_after [] rs
 
 -- ---- the pieces, in the words of the request
 
 -- SCOPE, "Rows": all numbers of a row but its match number
 abbrev pub piece_of : Row → List ℕ
-piece_of r = drop 1 (rowNumbers r)
+piece_of r = drop 1 (row_numbers r)
 
 -- 02, #105: the same left-A, left-B and length (01), and directions that agree too
 pub record SamePiece (r s : Row) : Type 0 where
-  pub left-a : r.left_a ≡ s.left_a
-  pub left-b : r.left_b ≡ s.left_b
+  pub left_a : r.left_a ≡ s.left_a
+  pub left_b : r.left_b ≡ s.left_b
   pub letters : r.length ≡ s.length
   pub direction : r.direction ≡ s.direction
 
@@ -58,5 +58,5 @@ pub record OneOfEach (rs qs : List Row) : Type 0 where
 -- SCOPE, "Distinct": there are rows, one of each piece, and however they are chosen they are n
 pub record DistinctPieces (rs : List Row) (n : ℕ) : Type 0 where
   pub chosen : List Row
-  pub one-of-each : OneOfEach rs chosen
+  pub one_of_each : OneOfEach rs chosen
   pub every : (qs : List Row) → OneOfEach rs qs → length qs ≡ n

@@ -2,6 +2,7 @@
 // a table with any contents, proofs/ the laws of it; `match_rows`, `distinct_pieces`, `covered_letters` and `summary`
 // have the functions.
 // A caller hands over its finished rows alone, `&table[..n * ROW_WIDTH]`: what stands behind them is read as rows too.
+#![tactic(auto)]
 pub mod finding;
 pub mod summing;
 

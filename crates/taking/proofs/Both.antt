@@ -12,17 +12,17 @@ use mathlib.Core.List.{List}
 use native.Mathlib.Omega.{arith}
 use lib.ListN.{length, replicate, length-replicate}
 use Rattle.refinement.specs.Match.{Place}
-use Rattle.cut_set.specs.Store.{Found, foundIn}
-use Rattle.refining.specs.Columns.{Columns, columnsOf, count_of, fromAt, fromRightAt, Fit}
-use Rattle.carrying_match.specs.OneMatch.{hitsOn}
+use Rattle.cut_set.specs.Store.{Found, found_in}
+use Rattle.refining.specs.Columns.{Columns, columns_of, count_of, from_at, from_right_at, Fit}
+use Rattle.carrying_match.specs.OneMatch.{hits_on}
 use Rattle.shelf.specs.Shelf.{set_at, Shelf, Shelved}
 use Rattle.shelf.proofs.Shelving.{shelf-then, shelf-as, jammed-as}
 use Rattle.shelf.proofs.Members.{grown-member}
-use Rattle.tracks.specs.Tracks.{Kind, over, along, Lane, LaneImage, laneHits}
+use Rattle.tracks.specs.Tracks.{Kind, over, along, Lane, LaneImage, lane_hits}
 use Rattle.tracks.specs.Groups.{Groups, Takes, TakesNot}
 use Rattle.carrying_lane.specs.Parts.{OneOfTwo, ClearBook}
 use Rattle.carrying_lane.proofs.Lanes.{match-named, found-same, found_back}
-use Rattle.taking.specs.Taking.{laneTo, ofKind, Image, Both, BothNot, excess, jammed}
+use Rattle.taking.specs.Taking.{lane_to, of_kind, Image, Both, BothNot, excess, jammed}
 
 -- a lane takes the same of two kinds of numbers that are equal in each set that it takes from
 image-as :
@@ -39,13 +39,13 @@ image-as {l} named f p = record {
 
 hits-as :
     (l : Lane) (m : ℕ) (f g : ℕ → List ℕ) → ((k : ℕ) → k < m → f (l.from k) ≡ g (l.from k))
-    → laneHits l m f ≡ laneHits l m g
+    → lane_hits l m f ≡ lane_hits l m g
 hits-as l zero f g e = refl
 hits-as l (suc m) f g e =
     omega (
       arith,
       hits-as l m f g (λ k h. e k (omega arith)),
-      ap (hitsOn (fromAt l.columns m) (fromRightAt l.columns m)) (e m (omega arith)),
+      ap (hits_on (from_at l.columns m) (from_right_at l.columns m)) (e m (omega arith)),
     )
 
 module _ (l : Kind → Lane) {m n lo hi : ℕ} {fb xs b : List ℕ} (o a most : ℕ)
@@ -53,23 +53,23 @@ module _ (l : Kind → Lane) {m n lo hi : ℕ} {fb xs b : List ℕ} (o a most : 
     (clear : ClearBook xs fb n lo hi)
     (shelf : Shelf xs b n lo hi)
   where
-    pub over-not : TakesNot (l over) m fb n lo hi xs b o most → BothNot l m fb n lo hi xs b (λ w. ofKind w o a) most
+    pub over-not : TakesNot (l over) m fb n lo hi xs b o most → BothNot l m fb n lo hi xs b (λ w. of_kind w o a) most
     over-not (inl h) = excess over h
     over-not (inr j) = jammed (jammed-as (λ p. ⊎_elim inl (λ q. inr (over, q))) j)
 
     module _ {ys b' : List ℕ} {o' : ℕ} (t : Takes (l over) m fb n lo hi xs b o most ys b' o')
-        (same-work : length ys ≡ length xs)
+        (same_work : length ys ≡ length xs)
       where
         back : {w : Kind} {j y : ℕ} → LaneImage (l w) m (λ i x. Found ys (set_at fb i) x) j y → LaneImage (l w) m (λ i x. Found xs (set_at fb i) x) j y
         back {w} p = image-as (named w) (λ i h x q. (found_back clear ys t.grown.outside i h x).0 q) p
 
-        same-hits : laneHits (l along) m (λ i. foundIn ys (set_at fb i)) ≡ laneHits (l along) m (λ i. foundIn xs (set_at fb i))
+        same-hits : lane_hits (l along) m (λ i. found_in ys (set_at fb i)) ≡ lane_hits (l along) m (λ i. found_in xs (set_at fb i))
         same-hits =
             hits-as (l along) m _ _ (λ k h.
-            found-same clear ys t.grown.outside ((l along).from k) (named along k h) same-work)
+            found-same clear ys t.grown.outside ((l along).from k) (named along k h) same_work)
 
         pub along-not :
-            TakesNot (l along) m fb n lo hi ys b' a most → BothNot l m fb n lo hi xs b (λ w. ofKind w o a) most
+            TakesNot (l along) m fb n lo hi ys b' a most → BothNot l m fb n lo hi xs b (λ w. of_kind w o a) most
         along-not (inl h) = excess along (omega (arith, same-hits))
         along-not (inr j) = jammed (jammed-as shown j)
           where
@@ -83,7 +83,7 @@ module _ (l : Kind → Lane) {m n lo hi : ℕ} {fb xs b : List ℕ} (o a most : 
 
         pub both-taken :
             {zs b'' : List ℕ} {a' : ℕ} → Takes (l along) m fb n lo hi ys b' a most zs b'' a'
-            → Both l m fb n lo hi xs b (λ w. ofKind w o a) most zs b'' (λ w. ofKind w o' a')
+            → Both l m fb n lo hi xs b (λ w. of_kind w o a) most zs b'' (λ w. of_kind w o' a')
         both-taken {zs} {b''} {a'} u = record {
           grown = shelf-as (shelf-then t.grown u.grown) (λ i h y. (
             ⊎_elim (λ p. (over, p)) (λ p. (along, back {w = along} p)),
@@ -101,11 +101,11 @@ module _ (l : Kind → Lane) {m n lo hi : ℕ} {fb xs b : List ℕ} (o a most : 
                 inr (image-as (named along) (λ i h x q. (found_back clear ys t.grown.outside i h x).1 q) p)
 
             counted :
-                (w : Kind) → ofKind w o' a' ≡ ofKind w o a + laneHits (l w) m (λ i. foundIn xs (set_at fb i))
+                (w : Kind) → of_kind w o' a' ≡ of_kind w o a + lane_hits (l w) m (λ i. found_in xs (set_at fb i))
             counted over = t.counted
             counted along = omega (arith, u.counted, same-hits)
 
-            few : (w : Kind) → ofKind w o' a' ≤ most
+            few : (w : Kind) → of_kind w o' a' ≤ most
             few over = t.few
             few along = u.few
 
@@ -121,21 +121,21 @@ module _ {c : Columns} (fit : Fit c) (w : List Bool) (e : w ≡ replicate (count
   straight-length = ap length e ∙ length-replicate (count_of c) false
 
   -- carrying every position to itself
-  pub straight-fit : Fit (columnsOf c.to-lefts c.to-rights c.to-lefts c.to-rights w)
+  pub straight-fit : Fit (columns_of c.to_lefts c.to_rights c.to_lefts c.to_rights w)
   straight-fit =
       let n = straight-length in record {
-        from-length = fit.to-length ∙ sym n;
-        from-right-length = fit.to-right-length ∙ sym n;
-        to-length = fit.to-length ∙ sym n;
-        to-right-length = fit.to-right-length ∙ sym n;
+        from_length = fit.to_length ∙ sym n;
+        from_right_length = fit.to_right_length ∙ sym n;
+        to_length = fit.to_length ∙ sym n;
+        to_right_length = fit.to_right_length ∙ sym n;
         lettered = λ k l. fit.lettered k (omega (arith, n));
-        from-right = λ k l. fit.to-right k (omega (arith, n));
-        to-right = λ k l. fit.to-right k (omega (arith, n));
+        from_right = λ k l. fit.to_right k (omega (arith, n));
+        to_right = λ k l. fit.to_right k (omega (arith, n));
       }
 
 -- the lanes of a step take from sets that are there
 pub lanes-named :
     {c : Columns} {gs : List ℕ} {g n fa ta : ℕ} → Fit c → Groups gs g (count_of c) n → OneOfTwo fa → OneOfTwo ta
-    → (w : Kind) (k : ℕ) → k < count_of c → (laneTo w c gs g fa ta).from k < n
+    → (w : Kind) (k : ℕ) → k < count_of c → (lane_to w c gs g fa ta).from k < n
 lanes-named fit groups fo to over k l = match-named groups fit fo k l
 lanes-named fit groups fo to along k l = match-named groups fit to k l

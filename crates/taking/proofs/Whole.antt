@@ -79,10 +79,10 @@ pub step-taken :
     → GatheredSets n lo hi ys b' zs b'' → FinishedSets n flo fhi zs fb vs fb' → length vs ≡ length zs
     → Stepped l m n flo fhi lo hi xs fb b hits most vs fb' b'' hits'
 step-taken l {m} {n} {flo} {fhi} {lo} {hi} {xs = xs} {fb} {b} {ys} {zs = zs} {b''} {vs} s h t g f e = record {
-  from-shelf = f.shelf;
+  from_shelf = f.shelf;
   members = λ j k y. Iff.trans (f.members j k y) (member_apart s (halves-flip h) zs (both-outside t g) j k y);
   all = f.none;
-  filled-same = f.filled-same;
+  filled_same = f.filled_same;
   shelf = shelf-apart g.grown.shelf h vs f.outside e;
   grown = λ j k. grown-as
       (grown-then (t.grown.sets j k)

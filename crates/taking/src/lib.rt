@@ -1,10 +1,11 @@
 // One step, told without A and B: the newly found cuts of the sets of one side are taken to the sets of the other, over
 // the matches, which carry them, and along those whose track there is the cut's, as they are. Then they are finished.
+#![tactic(auto)]
 ghost use Rattle.std.specs.Prelude.{◌≡◌, true, false, ◌≤◌, length, replicate};
-ghost use Rattle.refining.specs.Columns.{columnsOf, Fit};
-ghost use Rattle.tracks.specs.Groups.{laneBy};
+ghost use Rattle.refining.specs.Columns.{columns_of, Fit};
+ghost use Rattle.tracks.specs.Groups.{lane_by};
 ghost use Rattle.carrying_lane.specs.Parts.{UsableParts, EndsKept};
-ghost use Rattle.taking.specs.Taking.{laneTo, Able, TakingBoth, Stepping};
+ghost use Rattle.taking.specs.Taking.{lane_to, Able, TakingBoth, Stepping};
 
 use carrying_group::Hits;
 use carrying_lane::carry_lane;
@@ -45,7 +46,7 @@ fn take_both(
     most: usize,
     ended: bool,
 ) -> Step
-    requires fit { Fit (columnsOf lefts.now rights.now other_lefts.now other_rights.now reversed.now) }
+    requires fit { Fit (columns_of lefts.now rights.now other_lefts.now other_rights.now reversed.now) }
     requires reversed_len_bound { length reversed.now ≤ 4294967296 }
     requires straight_value { straight.now ≡ replicate (length reversed.now) false }
     requires usable_parts { UsableParts index.now groups.now count lefts.now rights.now }
@@ -54,14 +55,14 @@ fn take_both(
         from_book.now book.old over along most }
     requires ends_kept { ended ≡ true
         → EndsKept
-        (laneBy
-        (columnsOf lefts.now rights.now other_lefts.now other_rights.now reversed.now) groups.now count
+        (lane_by
+        (columns_of lefts.now rights.now other_lefts.now other_rights.now reversed.now) groups.now count
         from_at to_at)
         work.old book.old }
     ensures { TakingBoth
         (λ w.
-        laneTo w
-        (columnsOf lefts.now rights.now other_lefts.now
+        lane_to w
+        (columns_of lefts.now rights.now other_lefts.now
         other_rights.now reversed.now)
         groups.now count from_at to_at)
         (length reversed.now) from_book.now sets lo hi work.old
@@ -143,7 +144,7 @@ pub fn take_step(
     most: usize,
     ended: bool,
 ) -> Step
-    requires fit { Fit (columnsOf lefts.now rights.now other_lefts.now other_rights.now reversed.now) }
+    requires fit { Fit (columns_of lefts.now rights.now other_lefts.now other_rights.now reversed.now) }
     requires reversed_len_bound { length reversed.now ≤ 4294967296 }
     requires straight_value { straight.now ≡ replicate (length reversed.now) false }
     requires usable_parts { UsableParts index.now groups.now count lefts.now rights.now }
@@ -152,14 +153,14 @@ pub fn take_step(
         from_book.old book.old over along most }
     requires ends_kept { ended ≡ true
         → EndsKept
-        (laneBy
-        (columnsOf lefts.now rights.now other_lefts.now other_rights.now reversed.now) groups.now count
+        (lane_by
+        (columns_of lefts.now rights.now other_lefts.now other_rights.now reversed.now) groups.now count
         from_at to_at)
         work.old book.old }
     ensures { Stepping
         (λ w.
-        laneTo w
-        (columnsOf lefts.now rights.now other_lefts.now
+        lane_to w
+        (columns_of lefts.now rights.now other_lefts.now
         other_rights.now reversed.now)
         groups.now count from_at to_at)
         (length reversed.now) sets from_lo from_hi lo hi work.old

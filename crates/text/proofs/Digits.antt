@@ -16,7 +16,7 @@ use mathlib.Core.Bool.{Bool, true, false, cond}
 use lib.Dec.{ltb}
 use lib.ListN.{length, length-append}
 use Rattle.io.specs.Digits.{IsDigitCount, last_digits}
-use Rattle.text.specs.Decimal.{placesWithin, places, decimal}
+use Rattle.text.specs.Decimal.{places_within, places, decimal}
 
 one_less : (j : ℕ) → suc (suc j) - 1 ≡ suc j
 one_less j = sub-one (suc (suc j))
@@ -42,8 +42,8 @@ fewer n j f = (
     more zero f l = absurd (omega arith)
     more (suc i) f l = rw (one_less i) (omega (arith, tens n (suc i) f))
 
-places-fewest : (most n k : ℕ) → n < 10 ^ suc most → IsDigitCount 10 1 n k → k ≡ placesWithin most n
-unfolding placesWithin
+places-fewest : (most n k : ℕ) → n < 10 ^ suc most → IsDigitCount 10 1 n k → k ≡ places_within most n
+unfolding places_within
 places-fewest zero n k h f = one_place n k h f
 places-fewest (suc most) n k h f =
     go (dec_lt n 10) k f
@@ -51,20 +51,20 @@ places-fewest (suc most) n k h f =
   where
     go :
         Dec (n < 10) → (k : ℕ) → IsDigitCount 10 1 n k
-        → ((j : ℕ) → IsDigitCount 10 1 (n / 10) (suc j) → suc j ≡ placesWithin most (n / 10))
-        → k ≡ cond (ltb n 10) 1 (suc (placesWithin most (n / 10)))
+        → ((j : ℕ) → IsDigitCount 10 1 (n / 10) (suc j) → suc j ≡ places_within most (n / 10))
+        → k ≡ cond (ltb n 10) 1 (suc (places_within most (n / 10)))
     go (yes l) k f next = rw (lt-ltb n 10 l) (one_place n k l f)
     go (no g) zero f next = absurd (omega (arith, f.0))
     go (no g) (suc zero) f next = absurd (g f.1)
     go (no g) (suc (suc j)) f next = rw (le-ltb n 10 (omega arith)) (ap suc (next j (fewer n j f)))
 
-places-few : (most n : ℕ) → placesWithin most n ≤ suc most
-unfolding placesWithin
+places-few : (most n : ℕ) → places_within most n ≤ suc most
+unfolding places_within
 places-few zero n = omega arith
 places-few (suc most) n = go (ltb n 10) (places-few most (n / 10))
   where
-    go : (b : Bool) → placesWithin most (n / 10) ≤ suc most
-        → cond b 1 (suc (placesWithin most (n / 10))) ≤ suc (suc most)
+    go : (b : Bool) → places_within most (n / 10) ≤ suc most
+        → cond b 1 (suc (places_within most (n / 10))) ≤ suc (suc most)
     go true h = omega arith
     go false h = omega arith
 

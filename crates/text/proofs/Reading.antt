@@ -18,7 +18,7 @@ use borrow.Author.Tests.{lt-ltb, le-ltb, le-leb, lt-leb}
 use lib.Dec.{leb, ltb}
 use lib.ListN.{length, get_or}
 use Rattle.io.specs.Digits.{hex_digit_ascii, last_digits}
-use Rattle.text.specs.Decimal.{placesWithin, places, decimal}
+use Rattle.text.specs.Decimal.{places_within, places, decimal}
 use Rattle.text.proofs.Digits.{digits-length}
 
 -- ---- reading
@@ -47,16 +47,16 @@ digits-read (suc k) n h =
     )
 
 -- so many digits hold the number
-places-hold : (most n : ℕ) → n < 10 ^ suc most → n < 10 ^ placesWithin most n
-unfolding placesWithin
+places-hold : (most n : ℕ) → n < 10 ^ suc most → n < 10 ^ places_within most n
+unfolding places_within
 places-hold zero n h = h
 places-hold (suc most) n h =
     go (dec_lt n 10) (places-hold most (n / 10) (omega (arith, pow-suc 10 (suc most))))
   where
-    go : Dec (n < 10) → n / 10 < 10 ^ placesWithin most (n / 10)
-        → n < 10 ^ cond (ltb n 10) 1 (suc (placesWithin most (n / 10)))
+    go : Dec (n < 10) → n / 10 < 10 ^ places_within most (n / 10)
+        → n < 10 ^ cond (ltb n 10) 1 (suc (places_within most (n / 10)))
     go (yes l) held = rw (lt-ltb n 10 l) l
-    go (no g) held = rw (le-ltb n 10 (omega arith)) (omega (arith, pow-suc 10 (placesWithin most (n / 10))))
+    go (no g) held = rw (le-ltb n 10 (omega arith)) (omega (arith, pow-suc 10 (places_within most (n / 10))))
 
 decimal-read : (n : ℕ) → n < 10 ^ 20 → read_on 0 (decimal n) ≡ n
 decimal-read n h = digits-read (places n) n (places-hold 19 n h)
@@ -108,7 +108,7 @@ decimal-start n u c d below = digits-start (decimal n) u c d (all_digits (places
 -- ---- no leading zeros
 
 pub decimal-one : (n : ℕ) → n < 10 → decimal n ≡ (48 + n) ∷ []
-unfolding placesWithin
+unfolding places_within
 decimal-one n h =
     let whole : n % 10 ≡ n = omega arith in
     rw (lt-ltb n 10 h) (ap (λ (b : ℕ). b ∷ []) (glyph-digit n ∙ ap (λ (d : ℕ). 48 + d) whole))
@@ -117,18 +117,18 @@ leads-longer : (bs : List ℕ) (b : ℕ) → 49 ≤ get_or bs 0 0 → 49 ≤ get
 leads-longer [] b h = absurd (omega arith)
 leads-longer (c ∷ bs) b h = h
 
-digits-lead : (most n : ℕ) → 1 ≤ n → n < 10 ^ suc most → 49 ≤ get_or (last_digits 10 (placesWithin most n) n) 0 0
-unfolding placesWithin
+digits-lead : (most n : ℕ) → 1 ≤ n → n < 10 ^ suc most → 49 ≤ get_or (last_digits 10 (places_within most n) n) 0 0
+unfolding places_within
 digits-lead zero n some h = omega (arith, glyph-digit n)
 digits-lead (suc most) n some h =
     go (dec_lt n 10) (λ tenth. digits-lead most (n / 10) tenth (omega (arith, pow-suc 10 (suc most))))
   where
-    go : Dec (n < 10) → (1 ≤ n / 10 → 49 ≤ get_or (last_digits 10 (placesWithin most (n / 10)) (n / 10)) 0 0)
-        → 49 ≤ get_or (last_digits 10 (cond (ltb n 10) 1 (suc (placesWithin most (n / 10)))) n) 0 0
+    go : Dec (n < 10) → (1 ≤ n / 10 → 49 ≤ get_or (last_digits 10 (places_within most (n / 10)) (n / 10)) 0 0)
+        → 49 ≤ get_or (last_digits 10 (cond (ltb n 10) 1 (suc (places_within most (n / 10)))) n) 0 0
     go (yes l) shorter = rw (lt-ltb n 10 l) (omega (arith, glyph-digit n))
     go (no g) shorter =
         rw (le-ltb n 10 (omega arith))
-        (leads-longer (last_digits 10 (placesWithin most (n / 10)) (n / 10)) (hex_digit_ascii (n % 10)) (shorter (omega arith)))
+        (leads-longer (last_digits 10 (places_within most (n / 10)) (n / 10)) (hex_digit_ascii (n % 10)) (shorter (omega arith)))
 
 pub decimal-leads : (n : ℕ) → 1 ≤ n → n < 2 ^ 64 → 49 ≤ get_or (decimal n) 0 0
 decimal-leads n some h = digits-lead 19 n some (omega arith)
@@ -136,18 +136,18 @@ decimal-leads n some h = digits-lead 19 n some (omega arith)
 -- ---- the numbers of a text
 
 -- the numbers that bs shows; `inside` says that bs starts behind digits, which say n
-abbrev shownOn : Bool → ℕ → List ℕ → List ℕ
-shownOn inside n [] = cond inside (n ∷ []) []
-shownOn inside n (b ∷ bs) =
-    cond (leb 48 b && leb b 57) (shownOn true (10 * n + (b - 48)) bs)
-    (cond inside (n ∷ shownOn false 0 bs) (shownOn false 0 bs))
+abbrev shown_on : Bool → ℕ → List ℕ → List ℕ
+shown_on inside n [] = cond inside (n ∷ []) []
+shown_on inside n (b ∷ bs) =
+    cond (leb 48 b && leb b 57) (shown_on true (10 * n + (b - 48)) bs)
+    (cond inside (n ∷ shown_on false 0 bs) (shown_on false 0 bs))
 
 -- every run of digits is a number; all other bytes stand between
 abbrev pub shown : List ℕ → List ℕ
-shown text = shownOn false 0 text
+shown text = shown_on false 0 text
 
 digits-shown : (n : ℕ) (ds : List ℕ) (u : List ℕ) (c : ℕ) → AllDigits ds → c < 48
-    → shownOn true n (ds ++ c ∷ u) ≡ read_on n ds ∷ shown u
+    → shown_on true n (ds ++ c ∷ u) ≡ read_on n ds ∷ shown u
 digits-shown n [] u c all below = rw (lt-leb 48 c below)
 digits-shown n (d ∷ ds) u c all below =
     rw (le-leb 48 d all.0, le-leb d 57 all.1) (digits-shown (10 * n + (d - 48)) ds u c all.2 below)
@@ -158,12 +158,12 @@ number-shown [] u c all some below = absurd (omega arith)
 number-shown (d ∷ ds) u c all some below =
     rw (le-leb 48 d all.0, le-leb d 57 all.1) (digits-shown (10 * 0 + (d - 48)) ds u c all.2 below)
 
-places-some : (most n : ℕ) → 1 ≤ placesWithin most n
-unfolding placesWithin
+places-some : (most n : ℕ) → 1 ≤ places_within most n
+unfolding places_within
 places-some zero n = omega arith
 places-some (suc most) n = go (ltb n 10)
   where
-    go : (b : Bool) → 1 ≤ cond b 1 (suc (placesWithin most (n / 10)))
+    go : (b : Bool) → 1 ≤ cond b 1 (suc (places_within most (n / 10)))
     go true = omega arith
     go false = omega arith
 

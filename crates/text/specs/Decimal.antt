@@ -6,12 +6,12 @@ use Rattle.std.specs.Prelude.{ℕ, zero, suc, ◌/◌, cond, List, ltb}
 use Rattle.io.specs.Digits.{last_digits}
 
 -- The first number only makes the recursion end: 64 bits have 20 digits at most.
-unfoldable pub placesWithin : ℕ → ℕ → ℕ
-placesWithin zero n = 1
-placesWithin (suc most) n = let rest = placesWithin most (n / 10) in cond (ltb n 10) 1 (suc rest)
+unfoldable pub places_within : ℕ → ℕ → ℕ
+places_within zero n = 1
+places_within (suc most) n = let rest = places_within most (n / 10) in cond (ltb n 10) 1 (suc rest)
 
 abbrev pub places : ℕ → ℕ
-places n = placesWithin 19 n
+places n = places_within 19 n
 
 abbrev pub decimal : ℕ → List ℕ
 decimal n = last_digits 10 (places n) n

@@ -1,9 +1,10 @@
 // The closure for any count of tracks, for the comparison alone: a slice arrives as a pointer and a length. Nothing asks a
 // caller in C for what a `requires` says.
+#![tactic(auto)]
 ghost use Rattle.std.specs.Prelude.{◌≡◌, false, ◌*◌, ◌≤◌, length, replicate};
-ghost use Rattle.refining.specs.Columns.{columnsOf, Fit};
-ghost use Rattle.tracks.specs.Tracks.{marksOf};
-ghost use Rattle.tracks.specs.Engine.{booksOf};
+ghost use Rattle.refining.specs.Columns.{columns_of, Fit};
+ghost use Rattle.tracks.specs.Tracks.{marks_of};
+ghost use Rattle.tracks.specs.Engine.{books_of};
 ghost use Rattle.tracks.specs.Groups.{Groups, grouped};
 ghost use Rattle.track_doors.specs.Doors.{ClosedBy};
 
@@ -31,7 +32,7 @@ pub extern "C" fn close_tracks(
     sets: usize,
     capacity: usize,
 ) -> bool
-    requires fit { Fit (columnsOf left_a.now right_a.now left_b.now right_b.now reversed.now) }
+    requires fit { Fit (columns_of left_a.now right_a.now left_b.now right_b.now reversed.now) }
     requires reversed_len_bound { length reversed.now ≤ 4294967296 }
     requires straight_value { straight.now ≡ replicate (length reversed.now) false }
     requires groups { Groups groups.now count (length reversed.now) sets }
@@ -42,10 +43,10 @@ pub extern "C" fn close_tracks(
     requires capacity_in_bounds { 4 * capacity ≤ length work.old }
     ensures { ClosedBy
         (grouped
-        (columnsOf left_a.now right_a.now left_b.now right_b.now
+        (columns_of left_a.now right_a.now left_b.now right_b.now
         reversed.now)
-        groups.now count (marksOf mark_tracks.now mark_positions.now))
-        sets capacity work.new (booksOf book_a.new book_b.new) result }
+        groups.now count (marks_of mark_tracks.now mark_positions.now))
+        sets capacity work.new (books_of book_a.new book_b.new) result }
 {
     match close(
         left_a,

@@ -24,47 +24,47 @@ use Rattle.refinement.proofs.Geometry.{ends-span}
 use Rattle.refinement.proofs.Resolved.{has-cut}
 use Rattle.refinement.proofs.Count.{total, two-per-side, hits-bound, hits-all}
 use Rattle.refinement.proofs.Theorem.{table_resolved, table-cuts}
-use Rattle.refining.specs.Columns.{fromAt, fromRightAt, up_from}
-use Rattle.refining.specs.Refining.{leastOf}
+use Rattle.refining.specs.Columns.{from_at, from_right_at, up_from}
+use Rattle.refining.specs.Refining.{least_of}
 use Rattle.refining.specs.Demands.{EveryExceeds}
-use Rattle.carrying_match.specs.OneMatch.{hitsOn}
+use Rattle.carrying_match.specs.OneMatch.{hits_on}
 use Rattle.shelf.specs.Shelf.{Jammed}
-use Rattle.tracks.specs.Tracks.{Tracked, matchIn, matchCount, matchesIn, givenIn, On, SideCut}
-use Rattle.tracks.specs.Tracks.{Kind, over, along, Lane, lane, laneHits}
+use Rattle.tracks.specs.Tracks.{Tracked, match_in, match_count, matches_in, given_in, On, SideCut}
+use Rattle.tracks.specs.Tracks.{Kind, over, along, Lane, lane, lane_hits}
 use Rattle.tracks.specs.Engine.{FitTracks}
 use Rattle.tracks.proofs.Indexed.{∈-matches, matches-∈, matches-length, matches-good}
 use Rattle.tracks.proofs.Indexed.{lane-side, lane-right}
 
-pub hits-append : (i g : ℕ) (xs ys : List ℕ) → hitsOn i g (xs ++ ys) ≡ hitsOn i g xs + hitsOn i g ys
+pub hits-append : (i g : ℕ) (xs ys : List ℕ) → hits_on i g (xs ++ ys) ≡ hits_on i g xs + hits_on i g ys
 hits-append i g [] ys = omega arith
 hits-append i g (x ∷ xs) ys = omega (arith, hits-append i g xs ys)
 
-pub lane-none : (l : Lane) (n : ℕ) → laneHits l n (λ j. []) ≡ 0
+pub lane-none : (l : Lane) (n : ℕ) → lane_hits l n (λ j. []) ≡ 0
 lane-none l zero = refl
 lane-none l (suc k) = omega (arith, lane-none l k)
 
 pub lane-append :
-    (l : Lane) (n : ℕ) (f g : ℕ → List ℕ) → laneHits l n (λ j. f j ++ g j) ≡ laneHits l n f + laneHits l n g
+    (l : Lane) (n : ℕ) (f g : ℕ → List ℕ) → lane_hits l n (λ j. f j ++ g j) ≡ lane_hits l n f + lane_hits l n g
 lane-append l zero f g = refl
 lane-append l (suc k) f g =
     omega (
       arith,
       lane-append l k f g,
-      hits-append (fromAt l.columns k) (fromRightAt l.columns k) (f (l.from k)) (g (l.from k)),
+      hits-append (from_at l.columns k) (from_right_at l.columns k) (f (l.from k)) (g (l.from k)),
     )
 
 -- the hits of one match, as the theory counts them
 hits-filter :
     (m : Match) (u : Side) {g : ℕ} → g ≡ right m u → (xs : List ℕ)
-    → hitsOn (left m u) g xs ≡ length (filter (spans? m u) xs)
+    → hits_on (left m u) g xs ≡ length (filter (spans? m u) xs)
 hits-filter m u r [] = refl
 hits-filter m u {g} r (x ∷ xs) =
     go (spans? m u x) (between (left m u) g x) refl (hits-filter m u r xs)
   where
     go :
         (q : Dec (Spans m u x)) (s : Bool) → between (left m u) g x ≡ s
-        → hitsOn (left m u) g xs ≡ length (filter (spans? m u) xs)
-        → cond s 1 0 + hitsOn (left m u) g xs
+        → hits_on (left m u) g xs ≡ length (filter (spans? m u) xs)
+        → cond s 1 0 + hits_on (left m u) g xs
         ≡ length (ite {C = List ℕ} q (x ∷ filter (spans? m u) xs) (filter (spans? m u) xs))
     go (yes t) true e h = omega arith
     go (yes t) false e h = absurd (true≢false (sym ((ends-span m u x r).1 t) ∙ e))
@@ -77,28 +77,28 @@ within f v m = filter (spans? m v) (f (track m v))
 
 module _ {t : Tracked} {n : ℕ} (ft : FitTracks t n) where
   lane-at :
-      (w : Kind) (u : Side) (f : ℕ → List ℕ) {k : ℕ} → k < matchCount t
-      → hitsOn (fromAt (lane w t u).columns k) (fromRightAt (lane w t u).columns k) (f ((lane w t u).from k))
-      ≡ length (within f (lane-side w u) (matchIn t k))
-  lane-at over A f {k} l = hits-filter (matchIn t k) A (lane-right t ft.fit over A l) (f (t.tracks A k))
-  lane-at over B f {k} l = hits-filter (matchIn t k) B (lane-right t ft.fit over B l) (f (t.tracks B k))
-  lane-at along A f {k} l = hits-filter (matchIn t k) B (lane-right t ft.fit along A l) (f (t.tracks B k))
-  lane-at along B f {k} l = hits-filter (matchIn t k) A (lane-right t ft.fit along B l) (f (t.tracks A k))
+      (w : Kind) (u : Side) (f : ℕ → List ℕ) {k : ℕ} → k < match_count t
+      → hits_on (from_at (lane w t u).columns k) (from_right_at (lane w t u).columns k) (f ((lane w t u).from k))
+      ≡ length (within f (lane-side w u) (match_in t k))
+  lane-at over A f {k} l = hits-filter (match_in t k) A (lane-right t ft.fit over A l) (f (t.tracks A k))
+  lane-at over B f {k} l = hits-filter (match_in t k) B (lane-right t ft.fit over B l) (f (t.tracks B k))
+  lane-at along A f {k} l = hits-filter (match_in t k) B (lane-right t ft.fit along A l) (f (t.tracks B k))
+  lane-at along B f {k} l = hits-filter (match_in t k) A (lane-right t ft.fit along B l) (f (t.tracks A k))
 
   lane-from :
-      (w : Kind) (u : Side) (f : ℕ → List ℕ) (m count : ℕ) → m + count ≤ matchCount t
-      → laneHits (lane w t u) (m + count) f
-      ≡ laneHits (lane w t u) m f
-      + total (λ z. length (within f (lane-side w u) z)) (map (matchIn t) (up_from m count))
+      (w : Kind) (u : Side) (f : ℕ → List ℕ) (m count : ℕ) → m + count ≤ match_count t
+      → lane_hits (lane w t u) (m + count) f
+      ≡ lane_hits (lane w t u) m f
+      + total (λ z. length (within f (lane-side w u) z)) (map (match_in t) (up_from m count))
   unfolding up_from
-  lane-from w u f m zero l = omega (arith, ap (λ j. laneHits (lane w t u) j f) same)
+  lane-from w u f m zero l = omega (arith, ap (λ j. lane_hits (lane w t u) j f) same)
     where
       same : m + 0 ≡ m
       same = omega arith
   lane-from w u f m (suc count) l =
       omega (
         arith,
-        ap (λ j. laneHits (lane w t u) j f) same,
+        ap (λ j. lane_hits (lane w t u) j f) same,
         lane-from w u f (suc m) count (omega arith),
         lane-at w u f {k = m} (omega arith),
       )
@@ -108,20 +108,20 @@ module _ {t : Tracked} {n : ℕ} (ft : FitTracks t n) where
 
   lane-total :
       (w : Kind) (u : Side) (f : ℕ → List ℕ)
-      → laneHits (lane w t u) (matchCount t) f ≡ total (λ m. length (within f (lane-side w u) m)) (matchesIn t)
-  unfolding matchesIn
+      → lane_hits (lane w t u) (match_count t) f ≡ total (λ m. length (within f (lane-side w u) m)) (matches_in t)
+  unfolding matches_in
   lane-total w u f =
-      omega (arith, ap (λ j. laneHits (lane w t u) j f) same, lane-from w u f 0 (matchCount t) (omega arith))
+      omega (arith, ap (λ j. lane_hits (lane w t u) j f) same, lane-from w u f 0 (match_count t) (omega arith))
     where
-      same : 0 + matchCount t ≡ matchCount t
+      same : 0 + match_count t ≡ match_count t
       same = omega arith
 
   -- what the matches of the list name
-  named_in : {m : Match} → m ∈ matchesIn t → (u : Side) → track m u < n
+  named_in : {m : Match} → m ∈ matches_in t → (u : Side) → track m u < n
   named_in i u =
       let v = matches-∈ t i in subst (λ (z : Match). track z u < n) v.2 (at u v.1)
     where
-      at : (u : Side) {k : ℕ} → k < matchCount t → track (matchIn t k) u < n
+      at : (u : Side) {k : ℕ} → k < match_count t → track (match_in t k) u < n
       at A {k} l = ft.named A k l
       at B {k} l = ft.named B k l
 
@@ -130,10 +130,10 @@ module _ {t : Tracked} {n : ℕ} (ft : FitTracks t n) where
   place_of j x = record { track = j; position = x }
 
   pub lane-most :
-      {rs : List Match} → ResolvedRefinement (matchesIn t) t.marks rs
+      {rs : List Match} → ResolvedRefinement (matches_in t) t.marks rs
       → (w : Kind) (u : Side) (f : ℕ → List ℕ) → ((j : ℕ) → j < n → Distinct (f j))
-      → ((j : ℕ) → j < n → (x : ℕ) → x ∈ f j → Cut (matchesIn t) t.marks (place_of j x))
-      → laneHits (lane w t u) (matchCount t) f ≤ length rs + matchCount t
+      → ((j : ℕ) → j < n → (x : ℕ) → x ∈ f j → Cut (matches_in t) t.marks (place_of j x))
+      → lane_hits (lane w t u) (match_count t) f ≤ length rs + match_count t
   lane-most {rs} R w u f once cuts =
       let v = lane-side w u in
       let M = matches-good t ft.fit in
@@ -149,58 +149,58 @@ module _ {t : Tracked} {n : ℕ} (ft : FitTracks t n) where
 
   pub lane-exceed :
       {cap : ℕ} (w : Kind) (u : Side) (f : ℕ → List ℕ) → ((j : ℕ) → j < n → Distinct (f j))
-      → ((j : ℕ) → j < n → (x : ℕ) → x ∈ f j → Cut (matchesIn t) t.marks (place_of j x))
-      → cap + matchCount t < laneHits (lane w t u) (matchCount t) f → EveryExceeds (givenIn t) cap
+      → ((j : ℕ) → j < n → (x : ℕ) → x ∈ f j → Cut (matches_in t) t.marks (place_of j x))
+      → cap + match_count t < lane_hits (lane w t u) (match_count t) f → EveryExceeds (given_in t) cap
   lane-exceed w u f once cuts more rs R = omega (arith, lane-most R w u f once cuts)
 
   pub lane_whole :
       (u : Side) (f : ℕ → List ℕ) → ((j : ℕ) → j < n → Distinct (f j))
       → ((j : ℕ) → j < n → (x : ℕ) → (x ∈ f j) ↔ SideCut t u (place_of j x))
-      → laneHits (lane over t u) (matchCount t) f ≡ length (leastOf (givenIn t)) + matchCount t
+      → lane_hits (lane over t u) (match_count t) f ≡ length (least_of (given_in t)) + match_count t
   lane_whole u f once cuts =
       let M = matches-good t ft.fit in
       omega (
         arith,
         lane-total over u f,
         matches-length t,
-        hits-all M (table_resolved (matchesIn t) t.marks M) u (within f u)
+        hits-all M (table_resolved (matches_in t) t.marks M) u (within f u)
             (λ m i. rising-filter (spans? m u) _ (f (track m u)) (once (track m u) (named_in i u)))
             (λ m i x. (
               λ j.
                   let s = ∈-unfilter (spans? m u) (f (track m u)) j in (
                     s.1,
-                    (table-cuts (matchesIn t) t.marks M (place m u x)).1
+                    (table-cuts (matches_in t) t.marks M (place m u x)).1
                         ((cuts (track m u) (named_in i u) x).0 s.0).cut,
                   ),
               λ s.
                   ∈-filter (spans? m u)
                   ((cuts (track m u) (named_in i u) x).1
-                  (sided i u x s.0 ((table-cuts (matchesIn t) t.marks M (place m u x)).0 s.1)))
+                  (sided i u x s.0 ((table-cuts (matches_in t) t.marks M (place m u x)).0 s.1)))
                   s.0,
             )),
       )
     where
       sided :
-          {m : Match} → m ∈ matchesIn t → (u : Side) (x : ℕ) → Spans m u x
-          → Cut (matchesIn t) t.marks (place m u x) → SideCut t u (place_of (track m u) x)
+          {m : Match} → m ∈ matches_in t → (u : Side) (x : ℕ) → Spans m u x
+          → Cut (matches_in t) t.marks (place m u x) → SideCut t u (place_of (track m u) x)
       sided i u x s c =
           let v = matches-∈ t i in record {
             cut = c;
             index = v.0;
             on = record {
               below = v.1;
-              track-is = named-same u v.2;
+              track_is = named-same u v.2;
               spans = subst (λ (z : Match). Spans z u x) (sym v.2) s;
             };
           }
         where
-          named-same : {m : Match} {k : ℕ} (u : Side) → matchIn t k ≡ m → t.tracks u k ≡ track m u
+          named-same : {m : Match} {k : ℕ} (u : Side) → match_in t k ≡ m → t.tracks u k ≡ track m u
           named-same A e = ap (λ (z : Match). track z A) e
           named-same B e = ap (λ (z : Match). track z B) e
 
   pub jammed-exceeds :
       {cap places : ℕ} {Q : Place → Type 0} (u : Side) → places ≡ 2 * cap → Jammed Q places
-      → ((p : Place) → Q p → SideCut t u p) → EveryExceeds (givenIn t) cap
+      → ((p : Place) → Q p → SideCut t u p) → EveryExceeds (given_in t) cap
   jammed-exceeds {cap} u e o cuts rs R =
       let M = matches-good t ft.fit in
       omega (
@@ -208,7 +208,7 @@ module _ {t : Tracked} {n : ℕ} (ft : FitTracks t n) where
         o.more,
         two-per-side M R u o.list o.distinct (λ p i.
             let c = cuts p (o.all p i) in (
-              matchIn t c.index,
+              match_in t c.index,
               ∈-matches t c.on.below,
               track-of u c.on,
               c.on.spans,
@@ -216,6 +216,6 @@ module _ {t : Tracked} {n : ℕ} (ft : FitTracks t n) where
             )),
       )
     where
-      track-of : (u : Side) {k : ℕ} {p : Place} → On t u k p → track (matchIn t k) u ≡ p.track
-      track-of A o = o.track-is
-      track-of B o = o.track-is
+      track-of : (u : Side) {k : ℕ} {p : Place} → On t u k p → track (match_in t k) u ≡ p.track
+      track-of A o = o.track_is
+      track-of B o = o.track_is

@@ -1,1 +1,2 @@
 // The matches with the tracks that they join: what is said of them and proved.
+#![tactic(auto)]

@@ -1,7 +1,8 @@
 // The newly found cuts of one set are carried over matches to another set, cut by cut or match by match.
+#![tactic(auto)]
 ghost use Rattle.std.specs.Prelude.{◌≡◌, true, ◌≤◌, length};
-ghost use Rattle.cut_set.specs.Store.{Good, NothingAdded, FoundRun, foundIn};
-ghost use Rattle.refining.specs.Columns.{columnsOf, Fit};
+ghost use Rattle.cut_set.specs.Store.{Good, NothingAdded, FoundRun, found_in};
+ghost use Rattle.refining.specs.Columns.{columns_of, Fit};
 ghost use Rattle.carrying_match.specs.OneMatch.{Ready};
 ghost use Rattle.carrying_cuts.specs.Worker.{EndsKnown, Working};
 ghost use Rattle.counting_hits.specs.Counting.{MoreHits};
@@ -26,7 +27,7 @@ fn too_many(lefts: &[u32], rights: &[u32], work: &[u32], from: CutSet, room: usi
     requires lefts_len { length lefts.now ≡ length rights.now }
     requires good { Good work.now from }
     requires found_run { FoundRun work.now from }
-    ensures { result ≡ true → MoreHits lefts.now rights.now (foundIn work.now from) room }
+    ensures { result ≡ true → MoreHits lefts.now rights.now (found_in work.now from) room }
 {
     if lefts.len() < SAMPLED {
         return false;
@@ -59,19 +60,19 @@ pub fn carry_new(
     most: usize,
     ended: bool,
 ) -> Worked
-    requires fit { Fit (columnsOf lefts.now rights.now other_lefts.now other_rights.now reversed.now) }
+    requires fit { Fit (columns_of lefts.now rights.now other_lefts.now other_rights.now reversed.now) }
     requires usable { Usable index.now lefts.now rights.now }
     requires ready { Ready work.old from to }
     requires nothing_added { NothingAdded from }
     requires hits_le_most { hits ≤ most }
     requires ends_known { ended ≡ true
-        → EndsKnown (columnsOf lefts.now rights.now other_lefts.now other_rights.now reversed.now) work.old
+        → EndsKnown (columns_of lefts.now rights.now other_lefts.now other_rights.now reversed.now) work.old
         to }
     ensures { Working
-        (columnsOf lefts.now rights.now other_lefts.now
+        (columns_of lefts.now rights.now other_lefts.now
         other_rights.now reversed.now)
         (length reversed.now) work.old from to
-        (foundIn work.old from) hits most work.new result }
+        (found_in work.old from) hits most work.new result }
 {
     if 0 < index.len() {
         if reading_cuts::count_found(from) <= reversed.len() / MATCHES_TO_A_CUT {

@@ -4,14 +4,14 @@
 -- TO READ beside 01, "Small scripts at the edges", "Refused scripts and calls" and "One run, complete". All bytes are
 -- written out: the table says by itself in which order a number's bytes stand and how a number is printed.
 --     lines               the table; `specs/Kinds` has the kinds of lines
---     mostPass, oneMore, mostMarksPass, oneMarkMore     four more lines, which are too long to be computed
+--     most_pass, one_more, most_marks_pass, one_mark_more     four more lines, which are too long to be computed
 -- Assumes nothing.
 use Rattle.std.specs.Prelude.{ℕ, zero, suc, List, [], ◌∷◌, ◌++◌, replicate}
-use Rattle.vectors.specs.Kinds.{Line, Expected, refused, pieces, flat, refines, reads, refuses, finds, findsNone}
-use Rattle.vectors.specs.Kinds.{to, stays, carriesA, carriesB, stands, sums, covers, prints, hands}
-use Rattle.vectors.specs.Kinds.{carriesAllA, carriesAllB, carriesNoneA, carriesNoneB}
-use Rattle.vectors.specs.Kinds.{chains, chainsNone, writes, writesNone, lists, listsNone}
-use Rattle.vectors.specs.Kinds.{readsMarked, writesMarked, writesMarkedNone, listsMarked, listsMarkedNone}
+use Rattle.vectors.specs.Kinds.{Line, Expected, refused, pieces, flat, refines, reads, refuses, finds, finds_none}
+use Rattle.vectors.specs.Kinds.{to, stays, carries_a, carries_b, stands, sums, covers, prints, hands}
+use Rattle.vectors.specs.Kinds.{carries_all_a, carries_all_b, carries_none_a, carries_none_b}
+use Rattle.vectors.specs.Kinds.{chains, chains_none, writes, writes_none, lists, lists_none}
+use Rattle.vectors.specs.Kinds.{reads_marked, writes_marked, writes_marked_none, lists_marked, lists_marked_none}
 
 -- ---- scripts
 
@@ -39,20 +39,20 @@ abbrev pub end : List ℕ
 end = 0x45 ∷ []
 
 -- lengths of all four bytes each
-abbrev lengthsIn : List ℕ → List ℕ → List ℕ
-lengthsIn p q = 0x4C ∷ p ++ q
+abbrev lengths_in : List ℕ → List ℕ → List ℕ
+lengths_in p q = 0x4C ∷ p ++ q
 
 abbrev billion : List ℕ
 billion = 0x00 ∷ 0xCA ∷ 0x9A ∷ 0x3B ∷ []
 
-abbrev billionAndOne : List ℕ
-billionAndOne = 0x01 ∷ 0xCA ∷ 0x9A ∷ 0x3B ∷ []
+abbrev billion_and_one : List ℕ
+billion_and_one = 0x01 ∷ 0xCA ∷ 0x9A ∷ 0x3B ∷ []
 
 -- each number of four different bytes, least byte first: p is 975771399, and so on as in the table
-abbrev fourBytes : List ℕ
-fourBytes =
+abbrev four_bytes : List ℕ
+four_bytes =
     flat
-    (lengthsIn (0x07 ∷ 0x17 ∷ 0x29 ∷ 0x3A ∷ []) (0x08 ∷ 0x18 ∷ 0x2A ∷ 0x3B ∷ [])
+    (lengths_in (0x07 ∷ 0x17 ∷ 0x29 ∷ 0x3A ∷ []) (0x08 ∷ 0x18 ∷ 0x2A ∷ 0x3B ∷ [])
     ∷ (0x44 ∷ 0x0D ∷ 0x0C ∷ 0x0B ∷ 0x0A ∷ [])
     ∷ (0x11 ∷ 0x10 ∷ 0x0F ∷ 0x0E ∷ [])
     ∷ (0x15 ∷ 0x14 ∷ 0x13 ∷ 0x12 ∷ [])
@@ -63,11 +63,11 @@ fourBytes =
     ∷ [])
 
 -- its matches as records, and those of the run below
-abbrev fourRecords : List ℕ
-fourRecords = 168496141 ∷ 235868177 ∷ 303240213 ∷ 0 ∷ 67305985 ∷ 134678021 ∷ 202050057 ∷ 1 ∷ []
+abbrev four_records : List ℕ
+four_records = 168496141 ∷ 235868177 ∷ 303240213 ∷ 0 ∷ 67305985 ∷ 134678021 ∷ 202050057 ∷ 1 ∷ []
 
-abbrev runRecords : List ℕ
-runRecords = 0 ∷ 0 ∷ 6 ∷ 0 ∷ 2 ∷ 3 ∷ 5 ∷ 1 ∷ []
+abbrev run_records : List ℕ
+run_records = 0 ∷ 0 ∷ 6 ∷ 0 ∷ 2 ∷ 3 ∷ 5 ∷ 1 ∷ []
 
 -- two matches, each with another left-A than left-B
 abbrev pairs : List ℕ
@@ -76,8 +76,8 @@ pairs = lengths 30 40 ++ direct 3 11 6 ++ backward 12 20 5 ++ end
 abbrev run : List ℕ
 run = lengths 10 10 ++ direct 0 0 6 ++ backward 2 3 5 ++ end
 
-abbrev runRows : List (List ℕ)
-runRows =
+abbrev run_rows : List (List ℕ)
+run_rows =
     (1 ∷ 0 ∷ 0 ∷ 2 ∷ 0 ∷ [])
     ∷ (1 ∷ 2 ∷ 2 ∷ 1 ∷ 0 ∷ [])
     ∷ (1 ∷ 3 ∷ 3 ∷ 1 ∷ 0 ∷ [])
@@ -88,15 +88,15 @@ runRows =
     ∷ (2 ∷ 6 ∷ 3 ∷ 1 ∷ 1 ∷ [])
     ∷ []
 
-abbrev runPieces : Expected
-runPieces = pieces runRows 8
+abbrev run_pieces : Expected
+run_pieces = pieces run_rows 8
 
 -- the run with a mark in the middle, and its rows with a cut at A 1, which match 1 carries to B 1
-abbrev runWith : List ℕ → List ℕ
-runWith m = lengths 10 10 ++ direct 0 0 6 ++ m ++ backward 2 3 5 ++ end
+abbrev run_with : List ℕ → List ℕ
+run_with m = lengths 10 10 ++ direct 0 0 6 ++ m ++ backward 2 3 5 ++ end
 
-abbrev markedRows : List (List ℕ)
-markedRows =
+abbrev marked_rows : List (List ℕ)
+marked_rows =
     (1 ∷ 0 ∷ 0 ∷ 1 ∷ 0 ∷ [])
     ∷ (1 ∷ 1 ∷ 1 ∷ 1 ∷ 0 ∷ [])
     ∷ (1 ∷ 2 ∷ 2 ∷ 1 ∷ 0 ∷ [])
@@ -109,12 +109,12 @@ markedRows =
     ∷ []
 
 -- one match of four letters from 0 on, and a mark behind it
-abbrev fourWith : List ℕ → List ℕ
-fourWith m = lengths 10 10 ++ direct 0 0 4 ++ m ++ end
+abbrev four_with : List ℕ → List ℕ
+four_with m = lengths 10 10 ++ direct 0 0 4 ++ m ++ end
 
 -- one match from A 0 to B 4, where a side's positions tell which side it is
-abbrev shiftedWith : List ℕ → List ℕ
-shiftedWith m = lengths 10 10 ++ direct 0 4 4 ++ m ++ end
+abbrev shifted_with : List ℕ → List ℕ
+shifted_with m = lengths 10 10 ++ direct 0 4 4 ++ m ++ end
 
 -- marks and matches in this order, and with the matches first
 abbrev mixed : List ℕ
@@ -124,8 +124,8 @@ abbrev sorted : List ℕ
 sorted = lengths 10 12 ++ direct 0 0 6 ++ backward 2 3 5 ++ mark 1 12 ++ mark 0 1 ++ end
 
 -- the text of the run above, letter by letter
-abbrev runText : List ℕ
-runText =
+abbrev run_text : List ℕ
+run_text =
     flat
     -- lengths 10 10
     ((108 ∷ 101 ∷ 110 ∷ 103 ∷ 116 ∷ 104 ∷ 115 ∷ 32 ∷ 49 ∷ 48 ∷ 32 ∷ 49 ∷ 48 ∷ 10 ∷ [])
@@ -159,8 +159,8 @@ runText =
 abbrev apart : List ℕ
 apart = lengths 20 30 ++ direct 0 0 1 ++ direct 2 3 4 ++ backward 7 9 5 ++ end
 
-abbrev apartText : List ℕ
-apartText =
+abbrev apart_text : List ℕ
+apart_text =
     flat
     -- lengths 20 30
     ((108 ∷ 101 ∷ 110 ∷ 103 ∷ 116 ∷ 104 ∷ 115 ∷ 32 ∷ 50 ∷ 48 ∷ 32 ∷ 51 ∷ 48 ∷ 10 ∷ [])
@@ -184,8 +184,8 @@ apartText =
 abbrev ways : List ℕ
 ways = lengths 30 30 ++ direct 0 6 2 ++ direct 6 0 2 ++ direct 9 3 2 ++ direct 3 9 2 ++ direct 20 20 2 ++ end
 
-abbrev waysRows : List (List ℕ)
-waysRows =
+abbrev ways_rows : List (List ℕ)
+ways_rows =
     (1 ∷ 0 ∷ 6 ∷ 2 ∷ 0 ∷ [])
     ∷ (2 ∷ 6 ∷ 0 ∷ 2 ∷ 0 ∷ [])
     ∷ (3 ∷ 9 ∷ 3 ∷ 2 ∷ 0 ∷ [])
@@ -197,8 +197,8 @@ waysRows =
 abbrev beyond : List ℕ
 beyond = lengths 10 10 ++ direct 1 0 10 ++ end
 
-abbrev beyondText : List ℕ
-beyondText = 114 ∷ 101 ∷ 102 ∷ 117 ∷ 115 ∷ 101 ∷ 100 ∷ 32 ∷ 56 ∷ 32 ∷ 57 ∷ 10 ∷ []
+abbrev beyond_text : List ℕ
+beyond_text = 114 ∷ 101 ∷ 102 ∷ 117 ∷ 115 ∷ 101 ∷ 100 ∷ 32 ∷ 56 ∷ 32 ∷ 57 ∷ 10 ∷ []
 
 -- SCOPE, "Any contents": the run of 2 broken off and resumed, lengths in no class, directions of 7, a piece twice,
 -- numbers at the end that form no row
@@ -242,9 +242,9 @@ lines =
       expected = refused 8 9;
     })
     -- the run above
-    ∷ refines (record { script = run; table = 60; work = 50; expected = runPieces })
+    ∷ refines (record { script = run; table = 60; work = 50; expected = run_pieces })
     -- that run with 40 numbers of table gives 8 rows; with 39, and 28 of work or more, refusal 12
-    ∷ refines (record { script = run; table = 40; work = 32; expected = runPieces })
+    ∷ refines (record { script = run; table = 40; work = 32; expected = run_pieces })
     ∷ refines (record { script = run; table = 39; work = 28; expected = refused 12 0 })
     -- (not M) with 40 numbers of table, 32 of work pass and 31 give 11
     ∷ refines (record { script = run; table = 40; work = 31; expected = refused 11 0 })
@@ -305,13 +305,13 @@ lines =
           11;
     })
     -- the program on the run above, and on direct 1 0 10
-    ∷ prints run runText
-    ∷ prints beyond beyondText
+    ∷ prints run run_text
+    ∷ prints beyond beyond_text
     -- (from here on not M) a class of one piece is printed, an empty one between others is not; p before q
-    ∷ prints apart apartText
+    ∷ prints apart apart_text
     -- the same text in a lent buffer: the bytes behind it are kept; one byte too few gives 16 and alters none
-    ∷ hands beyond 14 0 12 (beyondText ++ (99 ∷ 99 ∷ []))
-    ∷ hands beyond 12 0 12 beyondText
+    ∷ hands beyond 14 0 12 (beyond_text ++ (99 ∷ 99 ∷ []))
+    ∷ hands beyond 12 0 12 beyond_text
     ∷ hands beyond 11 16 12 (replicate 11 99)
     -- 1 at 0: first byte isn't 4C
     ∷ refuses (direct 0 0 1 ++ end) 1 0
@@ -331,10 +331,10 @@ lines =
     ∷ refuses (lengths 0 1 ++ end) 5 0
     ∷ refuses (lengths 1 0 ++ end) 5 0
     -- 1000000000 passes as p and as q, and 1000000001 gives 5 at 0
-    ∷ reads (lengthsIn billion (small 1) ++ end) 1000000000 1 0
-    ∷ reads (lengthsIn (small 1) billion ++ end) 1 1000000000 0
-    ∷ refuses (lengthsIn billionAndOne (small 1) ++ end) 5 0
-    ∷ refuses (lengthsIn (small 1) billionAndOne ++ end) 5 0
+    ∷ reads (lengths_in billion (small 1) ++ end) 1000000000 1 0
+    ∷ reads (lengths_in (small 1) billion ++ end) 1 1000000000 0
+    ∷ refuses (lengths_in billion_and_one (small 1) ++ end) 5 0
+    ∷ refuses (lengths_in (small 1) billion_and_one ++ end) 5 0
     -- 7 at its command byte, behind a match; before 8 and 9
     ∷ refuses (lengths 10 10 ++ direct 0 0 6 ++ backward 0 0 0 ++ end) 7 22
     ∷ refuses (lengths 10 10 ++ direct 11 11 0 ++ end) 7 9
@@ -345,74 +345,74 @@ lines =
     -- and 8 by p and not by q
     ∷ refuses (lengths 10 30 ++ direct 0 0 6 ++ backward 5 5 6 ++ end) 8 22
     -- the order of a number's bytes, in every operand
-    ∷ reads fourBytes 975771399 992614408 2
-    ∷ finds fourBytes 1 168496141 235868177 303240213 0
-    ∷ finds fourBytes 2 67305985 134678021 202050057 1
+    ∷ reads four_bytes 975771399 992614408 2
+    ∷ finds four_bytes 1 168496141 235868177 303240213 0
+    ∷ finds four_bytes 2 67305985 134678021 202050057 1
     -- a match by its number; 13 for 0 and above the count; the script's own refusal before
     ∷ finds pairs 1 3 11 6 0
     ∷ finds pairs 2 12 20 5 1
-    ∷ findsNone pairs 0 13 0
-    ∷ findsNone pairs 3 13 0
-    ∷ findsNone (lengths 10 10 ++ direct 0 0 6) 2 3 22
+    ∷ finds_none pairs 0 13 0
+    ∷ finds_none pairs 3 13 0
+    ∷ finds_none (lengths 10 10 ++ direct 0 0 6) 2 3 22
     -- carrying over a direct match, from A and from B, and over a reversed one
-    ∷ carriesA pairs 1 5 (to 13)
-    ∷ carriesB pairs 1 13 (to 5)
-    ∷ carriesA pairs 2 13 (to 24)
-    ∷ carriesB pairs 2 24 (to 13)
+    ∷ carries_a pairs 1 5 (to 13)
+    ∷ carries_b pairs 1 13 (to 5)
+    ∷ carries_a pairs 2 13 (to 24)
+    ∷ carries_b pairs 2 24 (to 13)
     -- a span's own ends are carried
-    ∷ carriesA pairs 1 3 (to 11)
-    ∷ carriesA pairs 2 17 (to 20)
-    ∷ carriesB pairs 1 17 (to 9)
-    ∷ carriesB pairs 2 20 (to 17)
+    ∷ carries_a pairs 1 3 (to 11)
+    ∷ carries_a pairs 2 17 (to 20)
+    ∷ carries_b pairs 1 17 (to 9)
+    ∷ carries_b pairs 2 20 (to 17)
     -- 14: what lies on the other side's span alone, and next to the ends
-    ∷ carriesA pairs 1 13 (stays 14 0)
-    ∷ carriesB pairs 1 5 (stays 14 0)
-    ∷ carriesA pairs 2 11 (stays 14 0)
-    ∷ carriesA pairs 2 18 (stays 14 0)
-    ∷ carriesB pairs 2 19 (stays 14 0)
-    ∷ carriesB pairs 2 26 (stays 14 0)
+    ∷ carries_a pairs 1 13 (stays 14 0)
+    ∷ carries_b pairs 1 5 (stays 14 0)
+    ∷ carries_a pairs 2 11 (stays 14 0)
+    ∷ carries_a pairs 2 18 (stays 14 0)
+    ∷ carries_b pairs 2 19 (stays 14 0)
+    ∷ carries_b pairs 2 26 (stays 14 0)
     -- 13 before 14, and the script before both
-    ∷ carriesA pairs 0 99 (stays 13 0)
-    ∷ carriesB pairs 3 99 (stays 13 0)
-    ∷ carriesA (lengths 10 10 ++ direct 0 0 6) 2 99 (stays 3 22)
-    ∷ carriesB [] 0 99 (stays 1 0)
+    ∷ carries_a pairs 0 99 (stays 13 0)
+    ∷ carries_b pairs 3 99 (stays 13 0)
+    ∷ carries_a (lengths 10 10 ++ direct 0 0 6) 2 99 (stays 3 22)
+    ∷ carries_b [] 0 99 (stays 1 0)
     -- positions together: each as singly, in the order of the list, from A and from B; the ends, and one twice
-    ∷ carriesAllA run 2 (2 ∷ 3 ∷ 7 ∷ []) 3 (8 ∷ 7 ∷ 3 ∷ [])
-    ∷ carriesAllB run 2 (3 ∷ 8 ∷ []) 2 (7 ∷ 2 ∷ [])
-    ∷ carriesAllA pairs 1 (9 ∷ 3 ∷ 5 ∷ 5 ∷ []) 4 (17 ∷ 11 ∷ 13 ∷ 13 ∷ [])
-    ∷ carriesAllB pairs 1 (17 ∷ 13 ∷ 11 ∷ []) 3 (9 ∷ 5 ∷ 3 ∷ [])
-    ∷ carriesAllA mixed 2 (7 ∷ 2 ∷ []) 2 (3 ∷ 8 ∷ [])
+    ∷ carries_all_a run 2 (2 ∷ 3 ∷ 7 ∷ []) 3 (8 ∷ 7 ∷ 3 ∷ [])
+    ∷ carries_all_b run 2 (3 ∷ 8 ∷ []) 2 (7 ∷ 2 ∷ [])
+    ∷ carries_all_a pairs 1 (9 ∷ 3 ∷ 5 ∷ 5 ∷ []) 4 (17 ∷ 11 ∷ 13 ∷ 13 ∷ [])
+    ∷ carries_all_b pairs 1 (17 ∷ 13 ∷ 11 ∷ []) 3 (9 ∷ 5 ∷ 3 ∷ [])
+    ∷ carries_all_a mixed 2 (7 ∷ 2 ∷ []) 2 (3 ∷ 8 ∷ [])
     -- 14 for one that is off, in the middle, first and last, next to either end or on the other side's span alone
-    ∷ carriesNoneA run 2 (2 ∷ 8 ∷ 3 ∷ []) 3 14 0
-    ∷ carriesNoneA pairs 2 (11 ∷ 12 ∷ []) 2 14 0
-    ∷ carriesNoneA pairs 2 (17 ∷ 18 ∷ []) 2 14 0
-    ∷ carriesNoneB pairs 2 (19 ∷ 20 ∷ []) 2 14 0
-    ∷ carriesNoneB pairs 2 (25 ∷ 26 ∷ []) 2 14 0
-    ∷ carriesNoneA pairs 1 (5 ∷ 13 ∷ []) 2 14 0
-    ∷ carriesNoneB pairs 1 (5 ∷ 13 ∷ []) 2 14 0
+    ∷ carries_none_a run 2 (2 ∷ 8 ∷ 3 ∷ []) 3 14 0
+    ∷ carries_none_a pairs 2 (11 ∷ 12 ∷ []) 2 14 0
+    ∷ carries_none_a pairs 2 (17 ∷ 18 ∷ []) 2 14 0
+    ∷ carries_none_b pairs 2 (19 ∷ 20 ∷ []) 2 14 0
+    ∷ carries_none_b pairs 2 (25 ∷ 26 ∷ []) 2 14 0
+    ∷ carries_none_a pairs 1 (5 ∷ 13 ∷ []) 2 14 0
+    ∷ carries_none_b pairs 1 (5 ∷ 13 ∷ []) 2 14 0
     -- an empty list passes
-    ∷ carriesAllA run 2 [] 0 []
-    ∷ carriesAllB run 1 [] 0 []
+    ∷ carries_all_a run 2 [] 0 []
+    ∷ carries_all_b run 1 [] 0 []
     -- 22 for a longer buffer and for a shorter one, before 14
-    ∷ carriesNoneA run 2 (99 ∷ []) 2 22 0
-    ∷ carriesNoneB run 2 (3 ∷ 8 ∷ []) 1 22 0
-    ∷ carriesNoneA run 2 [] 1 22 0
-    ∷ carriesNoneB run 2 (3 ∷ []) 0 22 0
+    ∷ carries_none_a run 2 (99 ∷ []) 2 22 0
+    ∷ carries_none_b run 2 (3 ∷ 8 ∷ []) 1 22 0
+    ∷ carries_none_a run 2 [] 1 22 0
+    ∷ carries_none_b run 2 (3 ∷ []) 0 22 0
     -- 13 before 22, and the script before both
-    ∷ carriesNoneA run 3 [] 1 13 0
-    ∷ carriesNoneB run 0 (99 ∷ []) 0 13 0
-    ∷ carriesNoneA (lengths 10 10 ++ direct 0 0 6) 2 (99 ∷ []) 2 3 22
-    ∷ carriesNoneB [] 0 [] 0 1 0
+    ∷ carries_none_a run 3 [] 1 13 0
+    ∷ carries_none_b run 0 (99 ∷ []) 0 13 0
+    ∷ carries_none_a (lengths 10 10 ++ direct 0 0 6) 2 (99 ∷ []) 2 3 22
+    ∷ carries_none_b [] 0 [] 0 1 0
     -- the backbone of the run above at the lowest and the highest gap price, in buffers of the least length: 6
     ∷ chains (record { script = run; price = 0; table = 40; work = 32; chain = 8; scores = 8 })
-    runRows 6 (1 ∷ 2 ∷ 3 ∷ 4 ∷ [])
+    run_rows 6 (1 ∷ 2 ∷ 3 ∷ 4 ∷ [])
     ∷ chains (record { script = run; price = 1000; table = 40; work = 32; chain = 8; scores = 8 })
-    runRows 6 (1 ∷ 2 ∷ 3 ∷ 4 ∷ [])
+    run_rows 6 (1 ∷ 2 ∷ 3 ∷ 4 ∷ [])
     -- of equals the lower row number first; longer buffers
     ∷ chains (record { script = ways; price = 0; table = 28; work = 22; chain = 7; scores = 6 })
-    waysRows 6 (1 ∷ 4 ∷ 5 ∷ [])
+    ways_rows 6 (1 ∷ 4 ∷ 5 ∷ [])
     ∷ chains (record { script = ways; price = 1; table = 28; work = 22; chain = 6; scores = 7 })
-    waysRows 2 (1 ∷ [])
+    ways_rows 2 (1 ∷ [])
     -- a link of exactly 0 isn't taken
     ∷ chains
     (record {
@@ -464,52 +464,52 @@ lines =
     ((1 ∷ 0 ∷ 0 ∷ 3 ∷ 1 ∷ []) ∷ (2 ∷ 4 ∷ 4 ∷ 3 ∷ 1 ∷ []) ∷ []) 0 []
     ∷ chains (record { script = lengths 1 1 ++ end; price = 0; table = 4; work = 0; chain = 0; scores = 0 }) [] 0 []
     -- two faults or more at once: the order is script, 11, 17, 18, 12
-    ∷ chainsNone
+    ∷ chains_none
     (record { script = lengths 10 10 ++ direct 0 0 6; price = 1001; table = 40; work = 31; chain = 7; scores = 7 })
     3 22
-    ∷ chainsNone (record { script = run; price = 1001; table = 40; work = 31; chain = 8; scores = 8 }) 11 0
-    ∷ chainsNone (record { script = run; price = 1001; table = 40; work = 32; chain = 7; scores = 8 }) 17 0
-    ∷ chainsNone (record { script = run; price = 1001; table = 39; work = 28; chain = 7; scores = 7 }) 17 0
-    ∷ chainsNone (record { script = run; price = 1000; table = 39; work = 28; chain = 6; scores = 7 }) 18 0
-    ∷ chainsNone (record { script = run; price = 1000; table = 39; work = 28; chain = 7; scores = 6 }) 18 0
+    ∷ chains_none (record { script = run; price = 1001; table = 40; work = 31; chain = 8; scores = 8 }) 11 0
+    ∷ chains_none (record { script = run; price = 1001; table = 40; work = 32; chain = 7; scores = 8 }) 17 0
+    ∷ chains_none (record { script = run; price = 1001; table = 39; work = 28; chain = 7; scores = 7 }) 17 0
+    ∷ chains_none (record { script = run; price = 1000; table = 39; work = 28; chain = 6; scores = 7 }) 18 0
+    ∷ chains_none (record { script = run; price = 1000; table = 39; work = 28; chain = 7; scores = 6 }) 18 0
     -- 18 by the capacity of 9, though the 8 rows have a number each
-    ∷ chainsNone (record { script = run; price = 0; table = 45; work = 36; chain = 8; scores = 9 }) 18 0
-    ∷ chainsNone (record { script = run; price = 0; table = 45; work = 36; chain = 9; scores = 8 }) 18 0
+    ∷ chains_none (record { script = run; price = 0; table = 45; work = 36; chain = 8; scores = 9 }) 18 0
+    ∷ chains_none (record { script = run; price = 0; table = 45; work = 36; chain = 9; scores = 8 }) 18 0
     -- 12 last of all, with a number for each row of the capacity: work and scores are zero, table and chain kept
-    ∷ chainsNone (record { script = run; price = 1000; table = 39; work = 28; chain = 7; scores = 7 }) 12 0
+    ∷ chains_none (record { script = run; price = 1000; table = 39; work = 28; chain = 7; scores = 7 }) 12 0
     -- a list as a script: the bytes behind it are kept; one byte too few gives 16 at 0 and alters none
-    ∷ writes 10 10 runRecords 36 run
-    ∷ writes 10 10 runRecords 39 run
-    ∷ writesNone 10 10 runRecords 35 16 0
-    ∷ writes 975771399 992614408 fourRecords 36 fourBytes
+    ∷ writes 10 10 run_records 36 run
+    ∷ writes 10 10 run_records 39 run
+    ∷ writes_none 10 10 run_records 35 16 0
+    ∷ writes 975771399 992614408 four_records 36 four_bytes
     -- an empty one
     ∷ writes 1 1 [] 10 (lengths 1 1 ++ end)
-    ∷ writesNone 1 1 [] 9 16 0
+    ∷ writes_none 1 1 [] 9 16 0
     -- 5 before 15 for the count, and that before 6 and before a record's fault
-    ∷ writesNone 0 10 (1 ∷ 2 ∷ 3 ∷ []) 40 5 0
-    ∷ writesNone 10 1000000001 (1 ∷ 2 ∷ 3 ∷ []) 40 5 0
-    ∷ writesNone 10 10 (1 ∷ 2 ∷ 3 ∷ []) 40 15 0
-    ∷ writesNone 10 10 (0 ∷ 0 ∷ 0 ∷ 2 ∷ 7 ∷ []) 40 15 0
-    ∷ writesNone 10 10 (replicate 8197 2) 4 15 0
+    ∷ writes_none 0 10 (1 ∷ 2 ∷ 3 ∷ []) 40 5 0
+    ∷ writes_none 10 1000000001 (1 ∷ 2 ∷ 3 ∷ []) 40 5 0
+    ∷ writes_none 10 10 (1 ∷ 2 ∷ 3 ∷ []) 40 15 0
+    ∷ writes_none 10 10 (0 ∷ 0 ∷ 0 ∷ 2 ∷ 7 ∷ []) 40 15 0
+    ∷ writes_none 10 10 (replicate 8197 2) 4 15 0
     -- 6 before a record's fault
-    ∷ writesNone 10 10 (replicate 8196 2) 4 6 0
+    ∷ writes_none 10 10 (replicate 8196 2) 4 6 0
     -- at a record, counted from 1: 15 for its direction, 7, 8, 9
-    ∷ writesNone 10 10 (0 ∷ 0 ∷ 0 ∷ 2 ∷ []) 40 15 1
-    ∷ writesNone 10 10 (runRecords ++ (11 ∷ 11 ∷ 11 ∷ 4294967295 ∷ [])) 60 15 3
-    ∷ writesNone 10 10 (11 ∷ 11 ∷ 0 ∷ 1 ∷ []) 40 7 1
-    ∷ writesNone 10 10 (0 ∷ 0 ∷ 6 ∷ 0 ∷ 1 ∷ 0 ∷ 4294967295 ∷ 0 ∷ []) 40 8 2
-    ∷ writesNone 10 10 (0 ∷ 0 ∷ 6 ∷ 0 ∷ 5 ∷ 5 ∷ 6 ∷ 1 ∷ []) 40 8 2
-    ∷ writesNone 30 10 (0 ∷ 0 ∷ 6 ∷ 0 ∷ 5 ∷ 5 ∷ 6 ∷ 1 ∷ []) 40 9 2
+    ∷ writes_none 10 10 (0 ∷ 0 ∷ 0 ∷ 2 ∷ []) 40 15 1
+    ∷ writes_none 10 10 (run_records ++ (11 ∷ 11 ∷ 11 ∷ 4294967295 ∷ [])) 60 15 3
+    ∷ writes_none 10 10 (11 ∷ 11 ∷ 0 ∷ 1 ∷ []) 40 7 1
+    ∷ writes_none 10 10 (0 ∷ 0 ∷ 6 ∷ 0 ∷ 1 ∷ 0 ∷ 4294967295 ∷ 0 ∷ []) 40 8 2
+    ∷ writes_none 10 10 (0 ∷ 0 ∷ 6 ∷ 0 ∷ 5 ∷ 5 ∷ 6 ∷ 1 ∷ []) 40 8 2
+    ∷ writes_none 30 10 (0 ∷ 0 ∷ 6 ∷ 0 ∷ 5 ∷ 5 ∷ 6 ∷ 1 ∷ []) 40 9 2
     -- the first faulty record counts, and 16 comes last of all
-    ∷ writesNone 10 10 (0 ∷ 0 ∷ 0 ∷ 0 ∷ 0 ∷ 0 ∷ 6 ∷ 2 ∷ []) 40 7 1
-    ∷ writesNone 10 10 (0 ∷ 0 ∷ 6 ∷ 0 ∷ 0 ∷ 0 ∷ 0 ∷ 0 ∷ []) 0 7 2
+    ∷ writes_none 10 10 (0 ∷ 0 ∷ 0 ∷ 0 ∷ 0 ∷ 0 ∷ 6 ∷ 2 ∷ []) 40 7 1
+    ∷ writes_none 10 10 (0 ∷ 0 ∷ 6 ∷ 0 ∷ 0 ∷ 0 ∷ 0 ∷ 0 ∷ []) 0 7 2
     -- and back: the numbers behind the records are kept; one number too few gives 16 at 0, the script before it
-    ∷ lists run 8 10 10 2 runRecords
-    ∷ lists run 11 10 10 2 runRecords
-    ∷ listsNone run 7 16 0
-    ∷ lists fourBytes 8 975771399 992614408 2 fourRecords
+    ∷ lists run 8 10 10 2 run_records
+    ∷ lists run 11 10 10 2 run_records
+    ∷ lists_none run 7 16 0
+    ∷ lists four_bytes 8 975771399 992614408 2 four_records
     ∷ lists (lengths 1 2 ++ end) 0 1 2 0 []
-    ∷ listsNone (lengths 10 10 ++ direct 0 0 6) 0 3 22
+    ∷ lists_none (lengths 10 10 ++ direct 0 0 6) 0 3 22
     -- the rows of a match: up to the first break; none; and none by the numbers that form no row
     ∷ stands anything 2 5 15
     ∷ stands anything 9 15 20
@@ -543,9 +543,9 @@ lines =
     ∷ covers (lengths 10 20 ++ direct 0 0 3 ++ direct 2 10 3 ++ backward 7 19 1 ++ end) 5 6 7
     ∷ covers (lengths 1 1 ++ end) 0 0 0
     -- a spanned mark is a cut, and is carried on; one that no match spans changes nothing
-    ∷ refines (record { script = runWith (mark 0 1); table = 45; work = 36; expected = pieces markedRows 9 })
-    ∷ refines (record { script = runWith (mark 1 1); table = 45; work = 36; expected = pieces markedRows 9 })
-    ∷ refines (record { script = runWith (mark 0 9); table = 40; work = 32; expected = runPieces })
+    ∷ refines (record { script = run_with (mark 0 1); table = 45; work = 36; expected = pieces marked_rows 9 })
+    ∷ refines (record { script = run_with (mark 1 1); table = 45; work = 36; expected = pieces marked_rows 9 })
+    ∷ refines (record { script = run_with (mark 0 9); table = 40; work = 32; expected = run_pieces })
     -- .. nor takes a place: one row and four numbers of work
     ∷ refines (record {
       script = lengths 10 10 ++ direct 0 0 1 ++ mark 0 5 ++ mark 0 6 ++ mark 1 7 ++ end;
@@ -555,50 +555,50 @@ lines =
     })
     -- 12 by the pieces that a mark adds; a mark at an end, or twice, adds none
     ∷ refines (record {
-      script = fourWith (mark 0 2);
+      script = four_with (mark 0 2);
       table = 10;
       work = 8;
       expected = pieces ((1 ∷ 0 ∷ 0 ∷ 2 ∷ 0 ∷ []) ∷ (1 ∷ 2 ∷ 2 ∷ 2 ∷ 0 ∷ []) ∷ []) 2;
     })
-    ∷ refines (record { script = fourWith (mark 0 2); table = 9; work = 8; expected = refused 12 0 })
+    ∷ refines (record { script = four_with (mark 0 2); table = 9; work = 8; expected = refused 12 0 })
     ∷ refines (record {
-      script = fourWith (mark 0 4 ++ mark 1 0 ++ mark 0 0);
+      script = four_with (mark 0 4 ++ mark 1 0 ++ mark 0 0);
       table = 9;
       work = 4;
       expected = pieces ((1 ∷ 0 ∷ 0 ∷ 4 ∷ 0 ∷ []) ∷ []) 1;
     })
     ∷ refines (record {
-      script = fourWith (mark 1 2 ++ mark 0 2 ++ mark 1 2);
+      script = four_with (mark 1 2 ++ mark 0 2 ++ mark 1 2);
       table = 10;
       work = 8;
       expected = pieces ((1 ∷ 0 ∷ 0 ∷ 2 ∷ 0 ∷ []) ∷ (1 ∷ 2 ∷ 2 ∷ 2 ∷ 0 ∷ []) ∷ []) 2;
     })
     -- on its own side alone
     ∷ refines (record {
-      script = shiftedWith (mark 1 2 ++ mark 0 6);
+      script = shifted_with (mark 1 2 ++ mark 0 6);
       table = 9;
       work = 4;
       expected = pieces ((1 ∷ 0 ∷ 4 ∷ 4 ∷ 0 ∷ []) ∷ []) 1;
     })
     ∷ refines (record {
-      script = shiftedWith (mark 1 6);
+      script = shifted_with (mark 1 6);
       table = 10;
       work = 8;
       expected = pieces ((1 ∷ 0 ∷ 4 ∷ 2 ∷ 0 ∷ []) ∷ (1 ∷ 2 ∷ 6 ∷ 2 ∷ 0 ∷ []) ∷ []) 2;
     })
     -- matches keep their numbers among marks; p, q and both counts
-    ∷ readsMarked mixed 10 12 2 2
+    ∷ reads_marked mixed 10 12 2 2
     ∷ finds mixed 2 2 3 5 1
-    ∷ findsNone mixed 3 13 0
-    ∷ carriesA mixed 2 2 (to 8)
+    ∷ finds_none mixed 3 13 0
+    ∷ carries_a mixed 2 2 (to 8)
     ∷ refuses (mark 0 1 ++ end) 1 0
     -- 20 and 21 at the mark's command: by p on A, by q on B; the last position passes
     ∷ refuses (lengths 10 10 ++ mark 2 0 ++ end) 20 9
     ∷ refuses (lengths 10 10 ++ mark 255 0 ++ end) 20 9
     ∷ refuses (lengths 10 10 ++ mark 0 11 ++ end) 21 9
-    ∷ readsMarked (lengths 10 10 ++ mark 0 10 ++ end) 10 10 0 1
+    ∷ reads_marked (lengths 10 10 ++ mark 0 10 ++ end) 10 10 0 1
     ∷ refuses (lengths 10 12 ++ direct 0 0 6 ++ mark 0 12 ++ end) 21 22
-    ∷ readsMarked (lengths 10 12 ++ mark 1 12 ++ end) 10 12 0 1
+    ∷ reads_marked (lengths 10 12 ++ mark 1 12 ++ end) 10 12 0 1
     ∷ refuses (lengths 12 10 ++ mark 1 12 ++ end) 21 9
     -- 20 before 21, and 3 before both
     ∷ refuses (lengths 10 10 ++ mark 2 11 ++ end) 20 9
@@ -606,26 +606,26 @@ lines =
     -- the order of a position's bytes
     ∷ refuses (lengths 10 10 ++ (0x4D ∷ 0 ∷ 0 ∷ 0 ∷ 0 ∷ 1 ∷ []) ++ end) 21 9
     -- both lists as a script, matches first; one byte too few gives 16 at 0
-    ∷ writesMarked 10 12 runRecords (1 ∷ 12 ∷ 0 ∷ 1 ∷ []) 50 sorted
-    ∷ writesMarkedNone 10 12 runRecords (1 ∷ 12 ∷ 0 ∷ 1 ∷ []) 47 16 0
+    ∷ writes_marked 10 12 run_records (1 ∷ 12 ∷ 0 ∷ 1 ∷ []) 50 sorted
+    ∷ writes_marked_none 10 12 run_records (1 ∷ 12 ∷ 0 ∷ 1 ∷ []) 47 16 0
     -- 15 for an odd count, after 5 and before 6; 19 behind 6, and before a record's fault
-    ∷ writesMarkedNone 0 10 [] (0 ∷ []) 40 5 0
-    ∷ writesMarkedNone 10 10 [] (0 ∷ []) 40 15 0
-    ∷ writesMarkedNone 10 10 (replicate 8196 2) (0 ∷ []) 4 15 0
-    ∷ writesMarkedNone 10 10 (replicate 8196 2) (replicate 1026 2) 4 6 0
-    ∷ writesMarkedNone 10 10 (0 ∷ 0 ∷ 0 ∷ 2 ∷ []) (replicate 1026 2) 4 19 0
+    ∷ writes_marked_none 0 10 [] (0 ∷ []) 40 5 0
+    ∷ writes_marked_none 10 10 [] (0 ∷ []) 40 15 0
+    ∷ writes_marked_none 10 10 (replicate 8196 2) (0 ∷ []) 4 15 0
+    ∷ writes_marked_none 10 10 (replicate 8196 2) (replicate 1026 2) 4 6 0
+    ∷ writes_marked_none 10 10 (0 ∷ 0 ∷ 0 ∷ 2 ∷ []) (replicate 1026 2) 4 19 0
     -- at a mark, counted on from the records: 20, 21; a record's fault before a mark's
-    ∷ writesMarkedNone 10 10 runRecords (0 ∷ 1 ∷ 2 ∷ 11 ∷ []) 60 20 4
-    ∷ writesMarkedNone 10 10 runRecords (256 ∷ 0 ∷ []) 60 20 3
-    ∷ writesMarkedNone 10 12 runRecords (1 ∷ 12 ∷ 0 ∷ 11 ∷ []) 0 21 4
-    ∷ writesMarkedNone 10 10 (0 ∷ 0 ∷ 0 ∷ 0 ∷ []) (2 ∷ 0 ∷ []) 60 7 1
+    ∷ writes_marked_none 10 10 run_records (0 ∷ 1 ∷ 2 ∷ 11 ∷ []) 60 20 4
+    ∷ writes_marked_none 10 10 run_records (256 ∷ 0 ∷ []) 60 20 3
+    ∷ writes_marked_none 10 12 run_records (1 ∷ 12 ∷ 0 ∷ 11 ∷ []) 0 21 4
+    ∷ writes_marked_none 10 10 (0 ∷ 0 ∷ 0 ∷ 0 ∷ []) (2 ∷ 0 ∷ []) 60 7 1
     -- and back, also of a script that has them mixed; 16 for either buffer
-    ∷ listsMarked sorted 9 5
-    (record { p = 10; q = 12; count = 2; records = runRecords; mark-count = 2; marks = 1 ∷ 12 ∷ 0 ∷ 1 ∷ [] })
-    ∷ listsMarked mixed 8 4
-    (record { p = 10; q = 12; count = 2; records = runRecords; mark-count = 2; marks = 1 ∷ 12 ∷ 0 ∷ 1 ∷ [] })
-    ∷ listsMarkedNone mixed 8 3 16 0
-    ∷ listsMarkedNone mixed 7 4 16 0
+    ∷ lists_marked sorted 9 5
+    (record { p = 10; q = 12; count = 2; records = run_records; mark_count = 2; marks = 1 ∷ 12 ∷ 0 ∷ 1 ∷ [] })
+    ∷ lists_marked mixed 8 4
+    (record { p = 10; q = 12; count = 2; records = run_records; mark_count = 2; marks = 1 ∷ 12 ∷ 0 ∷ 1 ∷ [] })
+    ∷ lists_marked_none mixed 8 3 16 0
+    ∷ lists_marked_none mixed 7 4 16 0
     ∷ []
 
 -- ---- the limits of matches and marks: so many bytes are too many to compute with, so `proofs/Most` goes command by
@@ -637,17 +637,17 @@ many command zero = []
 many command (suc n) = command ++ many command n
 
 -- SCOPE, "The edge lines": 2,048 matches pass the reader
-abbrev pub mostPass : Line
-mostPass = reads (lengths 1 1 ++ (many (direct 0 0 1) 2048 ++ end)) 1 1 2048
+abbrev pub most_pass : Line
+most_pass = reads (lengths 1 1 ++ (many (direct 0 0 1) 2048 ++ end)) 1 1 2048
 
 -- SCOPE, "The edge lines": one match more is 6, where its command stands
-abbrev pub oneMore : Line
-oneMore = refuses (lengths 1 1 ++ (many (direct 0 0 1) 2048 ++ (direct 0 0 1 ++ end))) 6 26633
+abbrev pub one_more : Line
+one_more = refuses (lengths 1 1 ++ (many (direct 0 0 1) 2048 ++ (direct 0 0 1 ++ end))) 6 26633
 
 -- SCOPE, "The edge lines": so do 512 marks
-abbrev pub mostMarksPass : Line
-mostMarksPass = readsMarked (lengths 1 1 ++ (many (mark 1 0) 512 ++ end)) 1 1 0 512
+abbrev pub most_marks_pass : Line
+most_marks_pass = reads_marked (lengths 1 1 ++ (many (mark 1 0) 512 ++ end)) 1 1 0 512
 
 -- SCOPE, "The edge lines": one mark more is 19, where its command stands, also if it is cut short
-abbrev pub oneMarkMore : Line
-oneMarkMore = refuses (lengths 1 1 ++ (many (mark 1 0) 512 ++ (0x4D ∷ []))) 19 3081
+abbrev pub one_mark_more : Line
+one_mark_more = refuses (lengths 1 1 ++ (many (mark 1 0) 512 ++ (0x4D ∷ []))) 19 3081

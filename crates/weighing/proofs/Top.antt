@@ -15,8 +15,8 @@ use native.Mathlib.Decide.{dec_le, dec_lt}
 use native.Mathlib.Nat.{mul-add}
 use native.Mathlib.Omega.{arith}
 use Rattle.rows.specs.declared.Row.{Row}
-use Rattle.backbone.specs.Chains.{rowNumbered}
-use Rattle.weighing.specs.Weighing.{scoreAt, farAt, NoWorse, betterOf, Top}
+use Rattle.backbone.specs.Chains.{row_numbered}
+use Rattle.weighing.specs.Weighing.{score_at, far_at, NoWorse, better_of, Top}
 use Rattle.weighing.proofs.Choosing.{
   against,
   first-none,
@@ -48,29 +48,29 @@ total x y j k =
 
 module _ {price : ℕ} {rs : List Row} {scores : List ℕ} where
   pub no-worse-refl : (j : ℕ) → NoWorse price rs scores j j
-  no-worse-refl j = record { no-worse = inr (omega arith, omega arith) }
+  no-worse-refl j = record { no_worse = inr (omega arith, omega arith) }
 
   pub no-worse-trans : {i j k : ℕ} → NoWorse price rs scores i j → NoWorse price rs scores j k
       → NoWorse price rs scores i k
   no-worse-trans {i} {j} {k} a b = record {
-    no-worse =
-        trans (scoreAt scores i) (scoreAt scores j) (scoreAt scores k) (farAt price rs i) (farAt price rs j)
-        (farAt price rs k) a.no-worse b.no-worse;
+    no_worse =
+        trans (score_at scores i) (score_at scores j) (score_at scores k) (far_at price rs i) (far_at price rs j)
+        (far_at price rs k) a.no_worse b.no_worse;
   }
 
   pub no-worse-total : (j k : ℕ) → NoWorse price rs scores j k ⊎ NoWorse price rs scores k j
   no-worse-total j k =
-      ⊎_elim (λ h. inl (record { no-worse = h })) (λ h. inr (record { no-worse = h }))
+      ⊎_elim (λ h. inl (record { no_worse = h })) (λ h. inr (record { no_worse = h }))
       (total (against price rs scores k j) (against price rs scores j k) j k)
 
   pub link-no-worse : {j k : ℕ} → NoWorse price rs scores j k → (base u v : ℕ)
-      → (rowNumbered rs j).left_a + (rowNumbered rs j).left_b ≡ base + u
-      → (rowNumbered rs k).left_a + (rowNumbered rs k).left_b ≡ base + v
-      → (scoreAt scores k + price * u < scoreAt scores j + price * v)
-      ⊎ ((scoreAt scores k + price * u ≡ scoreAt scores j + price * v) × (j ≤ k))
+      → (row_numbered rs j).left_a + (row_numbered rs j).left_b ≡ base + u
+      → (row_numbered rs k).left_a + (row_numbered rs k).left_b ≡ base + v
+      → (score_at scores k + price * u < score_at scores j + price * v)
+      ⊎ ((score_at scores k + price * u ≡ score_at scores j + price * v) × (j ≤ k))
   link-no-worse w base u v e f =
       ⊎_elim (λ l. inl (omega arith)) (λ h. inr (omega arith, h.1))
-      (rw (e, f, mul-add price base u, mul-add price base v) at w.no-worse)
+      (rw (e, f, mul-add price base u, mul-add price base v) at w.no_worse)
 
   pub top-same : {P Q : ℕ → Type 0} {v : ℕ} → ((k : ℕ) → P k ↔ Q k) → Top price rs scores P v → Top price rs scores Q v
   top-same same (Top.none f) = Top.none (λ k q. f k ((same k).1 q))
@@ -80,22 +80,22 @@ module _ {price : ℕ} {rs : List Row} {scores : List ℕ} where
   top-single {j} h = Top.some h refl (λ k e. subst (NoWorse price rs scores j) (sym e) (no-worse-refl j))
 
   -- the one that is no worse is chosen
-  first-kept : {j k : ℕ} → 1 ≤ j → 1 ≤ k → NoWorse price rs scores j k → j ≡ betterOf price rs scores j k
+  first-kept : {j k : ℕ} → 1 ≤ j → 1 ≤ k → NoWorse price rs scores j k → j ≡ better_of price rs scores j k
   first-kept {j} {k} hj hk w =
       ⊎_elim (first-better price rs scores j k hj hk) (λ h. first-lower price rs scores j k hj hk (sym h.0) h.1)
-      w.no-worse
+      w.no_worse
 
-  second-kept : {j k : ℕ} → 1 ≤ j → 1 ≤ k → NoWorse price rs scores k j → k ≡ betterOf price rs scores j k
+  second-kept : {j k : ℕ} → 1 ≤ j → 1 ≤ k → NoWorse price rs scores k j → k ≡ better_of price rs scores j k
   second-kept {j} {k} hj hk w =
       ⊎_elim (second-better price rs scores j k hj hk) (λ h. second-lower price rs scores j k hj hk h.0 h.1)
-      w.no-worse
+      w.no_worse
 
   -- a number that is equal names the same row
   named : {P : ℕ → Type 0} {v w : ℕ} → v ≡ w → Top price rs scores P v → Top price rs scores P w
   named {P} e t = subst (Top price rs scores P) e t
 
   pub better-top : (P Q : ℕ → Type 0) {j k : ℕ} → Top price rs scores P j → Top price rs scores Q k
-      → Top price rs scores (λ i. P i ⊎ Q i) (betterOf price rs scores j k)
+      → Top price rs scores (λ i. P i ⊎ Q i) (better_of price rs scores j k)
   better-top P Q {k = k} (Top.none f) t =
       named (first-none price rs scores 0 k refl) (top-same (λ i. (inr, ⊎_elim (λ p. absurd (f i p)) (λ q. q))) t)
   better-top P Q {j} (Top.some h p f) (Top.none g) =
@@ -108,7 +108,7 @@ module _ {price : ℕ} {rs : List Row} {scores : List ℕ} where
       (no-worse-total j k)
 
 pub top-scores : {price : ℕ} {rs : List Row} {scores scores' : List ℕ} {P : ℕ → Type 0} {v : ℕ}
-    → ((k : ℕ) → P k → scoreAt scores k ≡ scoreAt scores' k) → Top price rs scores P v → Top price rs scores' P v
+    → ((k : ℕ) → P k → score_at scores k ≡ score_at scores' k) → Top price rs scores P v → Top price rs scores' P v
 top-scores same (Top.none f) = Top.none f
 top-scores {v = j} same (Top.some h p f) =
-    Top.some h p (λ k q. record { no-worse = rw (← same j p, ← same k q) (f k q).no-worse })
+    Top.some h p (λ k q. record { no_worse = rw (← same j p, ← same k q) (f k q).no_worse })

@@ -1,7 +1,8 @@
 // Which of two rows a chain had better go on with, by signed numbers.
+#![tactic(auto)]
 ghost use Rattle.std.specs.Prelude.{◌≡◌, ◌+◌, ◌≤◌, length, ltb, pos, ◌-ℤ◌};
 ghost use Rattle.rows.specs.Rows.{rows_of};
-ghost use Rattle.weighing.specs.Weighing.{farAt, Scored, betterOf};
+ghost use Rattle.weighing.specs.Weighing.{far_at, Scored, better_of};
 
 use rows::row_at;
 
@@ -34,7 +35,7 @@ pub fn worse(score: u32, cost: u64, other: u32, other_cost: u64) -> bool
 fn far(table: &[u32], price: u32, number: u32) -> u64
     requires price_bound { price ≤ 1000 }
     requires le_number { (1 ≤ number) × (number ≤ length (rows_of table.now)) }
-    ensures value { result ≡ farAt price (rows_of table.now) number }
+    ensures value { result ≡ far_at price (rows_of table.now) number }
     ensures upper_bound { result ≤ 9000000000000 }
 {
     let row = row_at(table, number as usize - 1);
@@ -46,7 +47,7 @@ pub fn better(table: &[u32], scores: &[u32], price: u32, j: u32, k: u32) -> u32
     requires scored { Scored (rows_of table.now) scores.now price }
     requires j_in_bounds { j ≤ length (rows_of table.now) }
     requires k_in_bounds { k ≤ length (rows_of table.now) }
-    ensures { result ≡ betterOf price (rows_of table.now) scores.now j k }
+    ensures { result ≡ better_of price (rows_of table.now) scores.now j k }
 {
     if j == 0 {
         return k;

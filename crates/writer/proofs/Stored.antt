@@ -15,17 +15,17 @@ use native.Mathlib.Omega.{arith}
 use borrow.Author.Tests.{lt-ltb, le-ltb}
 use lib.Dec.{eqb}
 use lib.ListN.{length, get_or, length-append, length-map, get_or-map}
-use Rattle.script.specs.Commands.{lengthsWidth, matchWidth, markWidth}
+use Rattle.script.specs.Commands.{lengths_width, match_width, mark_width}
 use Rattle.script.specs.declared.refusal.Refusal.{Refusal}
 use Rattle.script.specs.declared.refusal.Refusal.TheVariants.{BufferTooShort}
 use Rattle.script.specs.declared.step.Judgement.{Judgement}
 use Rattle.script.specs.declared.step.Judgement.TheVariants.{Sound, Faulty}
-use Rattle.records.specs.Records.{recordWidth, recordsOf, noRecord, recordAt, match_of, matchesOf}
-use Rattle.records.specs.Records.{markNumbers, points_of}
-use Rattle.records.specs.Bytes.{numberBytes, lengthsBytes, code_of, matchBytes, markBytes, bytes_of}
+use Rattle.records.specs.Records.{record_width, records_of, no_record, record_at, match_of, matches_of}
+use Rattle.records.specs.Records.{mark_numbers, points_of}
+use Rattle.records.specs.Bytes.{number_bytes, lengths_bytes, code_of, match_bytes, mark_bytes, bytes_of}
 use Rattle.records.specs.Storing.{Stored}
-use Rattle.records.specs.Writing.{judgementOf, Writing, writingOf}
-use Rattle.records.specs.Demands.{writtenAnswer, WritingDemand}
+use Rattle.records.specs.Writing.{judgement_of, Writing, writing_of}
+use Rattle.records.specs.Demands.{written_answer, WritingDemand}
 use Rattle.records.specs.declared.Record.{Record}
 use Rattle.records.specs.declared.Written.{Written}
 use Rattle.writer.specs.Directed.{Directed, Sided}
@@ -42,18 +42,18 @@ code-reckoned (suc (suc n)) h = absurd (omega arith)
 
 pub match-stored : {out : List ℕ} {at : ℕ} (r : Record) {code : ℕ} {o o' o'' o''' : List ℕ}
     → code ≡ code_of (eqb r.direction 1) → Stored out at (code ∷ []) o
-    → Stored o (at + 1) (numberBytes r.left_a) o' → Stored o' (at + 5) (numberBytes r.left_b) o''
-    → Stored o'' (at + 9) (numberBytes r.length) o''' → Stored out at (matchBytes (match_of r)) o'''
+    → Stored o (at + 1) (number_bytes r.left_a) o' → Stored o' (at + 5) (number_bytes r.left_b) o''
+    → Stored o'' (at + 9) (number_bytes r.length) o''' → Stored out at (match_bytes (match_of r)) o'''
 match-stored r is byte a b d =
     stored-behind (stored-behind (stored-behind (rw is at byte) refl a) (omega arith) b) (omega arith) d
 
 pub mark-stored : (side position : ℕ) {out : List ℕ} {at : ℕ} {o o' o'' : List ℕ} → Stored out at (0x4D ∷ []) o
-    → Stored o (at + 1) (side ∷ []) o' → Stored o' (at + 2) (numberBytes position) o''
-    → Stored out at (markBytes (record { side = side; position = position })) o''
+    → Stored o (at + 1) (side ∷ []) o' → Stored o' (at + 2) (number_bytes position) o''
+    → Stored out at (mark_bytes (record { side = side; position = position })) o''
 mark-stored side position byte a b = stored-behind (stored-behind byte refl a) (omega arith) b
 
-pub lengths-stored : (p q : ℕ) {out o o' o'' : List ℕ} → Stored out 0 (0x4C ∷ []) o → Stored o 1 (numberBytes p) o'
-    → Stored o' 5 (numberBytes q) o'' → Stored out 0 (lengthsBytes p q) o''
+pub lengths-stored : (p q : ℕ) {out o o' o'' : List ℕ} → Stored out 0 (0x4C ∷ []) o → Stored o 1 (number_bytes p) o'
+    → Stored o' 5 (number_bytes q) o'' → Stored out 0 (lengths_bytes p q) o''
 lengths-stored p q byte a b = stored-behind (stored-behind byte (omega arith) a) (omega arith) b
 
 -- ---- the loops
@@ -81,40 +81,40 @@ module _ {X : Type 0} (f : X → List ℕ) (width from : ℕ) (xs : List X) (bef
     putting-ends all = laid-ends f from xs before h.laid all
 
 -- the records
-module _ (ns : List ℕ) {count : ℕ} (counted : count ≡ length (recordsOf ns)) where
-  pub matches-counted : count ≡ length (matchesOf ns)
-  matches-counted = counted ∙ sym (length-map (recordsOf ns) match_of)
+module _ (ns : List ℕ) {count : ℕ} (counted : count ≡ length (records_of ns)) where
+  pub matches-counted : count ≡ length (matches_of ns)
+  matches-counted = counted ∙ sym (length-map (records_of ns) match_of)
 
   module _ {k : ℕ} (below : k < count) where
-    pub record-directed : {r : Record} → Directed ns → r ≡ recordAt (recordsOf ns) k → r.direction ≤ 1
+    pub record-directed : {r : Record} → Directed ns → r ≡ record_at (records_of ns) k → r.direction ≤ 1
     record-directed all read = rw read (all.few k (omega arith))
 
-    pub match-held : {r : Record} → r ≡ recordAt (recordsOf ns) k
-        → match_of r ≡ get_or (matchesOf ns) k (match_of noRecord)
-    match-held read = ap match_of read ∙ sym (get_or-map match_of (recordsOf ns) k noRecord)
+    pub match-held : {r : Record} → r ≡ record_at (records_of ns) k
+        → match_of r ≡ get_or (matches_of ns) k (match_of no_record)
+    match-held read = ap match_of read ∙ sym (get_or-map match_of (records_of ns) k no_record)
 
 -- the marks
 pub mark-sided : (zs : List ℕ) {count k : ℕ} → count ≡ length (points_of zs) → k < count → Sided zs
-    → get_or zs (markNumbers * k) 0 ≤ 1
+    → get_or zs (mark_numbers * k) 0 ≤ 1
 mark-sided zs {k = k} counted below all =
     rw (point-held zs k (point-inside zs counted below)) at (all.few k (omega arith))
 
 -- ---- the whole script
 
-pub script-stored : (p q : ℕ) (ns zs : List ℕ) {count marked : ℕ} → count ≡ length (recordsOf ns)
-    → marked ≡ length (points_of zs) → {before o o' o'' out : List ℕ} → Stored before 0 (lengthsBytes p q) o
-    → Stored o lengthsWidth (flat_map matchBytes (matchesOf ns)) o'
-    → Stored o' (lengthsWidth + matchWidth * count) (flat_map markBytes (points_of zs)) o''
-    → Stored o'' (lengthsWidth + matchWidth * count + markWidth * marked) (0x45 ∷ []) out
-    → Stored before 0 (bytes_of p q (matchesOf ns) (points_of zs)) out
+pub script-stored : (p q : ℕ) (ns zs : List ℕ) {count marked : ℕ} → count ≡ length (records_of ns)
+    → marked ≡ length (points_of zs) → {before o o' o'' out : List ℕ} → Stored before 0 (lengths_bytes p q) o
+    → Stored o lengths_width (flat_map match_bytes (matches_of ns)) o'
+    → Stored o' (lengths_width + match_width * count) (flat_map mark_bytes (points_of zs)) o''
+    → Stored o'' (lengths_width + match_width * count + mark_width * marked) (0x45 ∷ []) out
+    → Stored before 0 (bytes_of p q (matches_of ns) (points_of zs)) out
 unfolding bytes_of
-script-stored p q ns zs counted counted-marks lengths ms ks end =
-    let m = flat_map matchBytes (matchesOf ns) in
-    let k = flat_map markBytes (points_of zs) in
-    let wide = flat-length matchBytes 13 (λ x. refl) (matchesOf ns) in
-    let wide-marks = flat-length markBytes 6 (λ x. refl) (points_of zs) in
-    let long = length-append (lengthsBytes p q) m in
-    let long-marks = length-append (lengthsBytes p q ++ m) k in
+script-stored p q ns zs counted counted_marks lengths ms ks end =
+    let m = flat_map match_bytes (matches_of ns) in
+    let k = flat_map mark_bytes (points_of zs) in
+    let wide = flat-length match_bytes 13 (λ x. refl) (matches_of ns) in
+    let wide-marks = flat-length mark_bytes 6 (λ x. refl) (points_of zs) in
+    let long = length-append (lengths_bytes p q) m in
+    let long-marks = length-append (lengths_bytes p q ++ m) k in
     let many = matches-counted ns counted in
     stored-behind (stored-behind (stored-behind lengths (omega arith) ms) (omega arith) ks) (omega arith) end
 
@@ -124,48 +124,48 @@ module _ (p q : ℕ) (ns zs out : List ℕ) where
   -- what the contract says of a reply and a buffer
   abbrev Contract : Written → List ℕ → Type 0
   Contract reply out' =
-      (reply ≡ (writingOf p q ns zs out).reply)
-      × ((out' ≡ (writingOf p q ns zs out).script) × WritingDemand p q ns zs out out' (writtenAnswer reply))
+      (reply ≡ (writing_of p q ns zs out).reply)
+      × ((out' ≡ (writing_of p q ns zs out).script) × WritingDemand p q ns zs out out' (written_answer reply))
 
-  contract : {reply : Written} {out' : List ℕ} → record { reply = reply; script = out' } ≡ writingOf p q ns zs out
+  contract : {reply : Written} {out' : List ℕ} → record { reply = reply; script = out' } ≡ writing_of p q ns zs out
       → Contract reply out'
   contract e =
       let is = ap (λ (w : Writing). w.reply) e in
       let is' = ap (λ (w : Writing). w.script) e in
       (is, (is', writing-demand p q ns zs out is is'))
 
-  module _ {j : Judgement} (judged : j ≡ judgementOf p q ns zs) where
+  module _ {j : Judgement} (judged : j ≡ judgement_of p q ns zs) where
     pub faulty-written : {f : Refusal} → j ≡ Faulty f → Contract (Written.Refused f) out
     faulty-written is = contract (rw (sym judged ∙ is))
 
-    module _ (is : j ≡ Sound) {count marked : ℕ} (counted : count ≡ length ns / recordWidth)
-        (counted-marks : marked ≡ length zs / markNumbers) where
-      script-long : length (bytes_of p q (matchesOf ns) (points_of zs))
-          ≡ lengthsWidth + matchWidth * count + markWidth * marked + 1
+    module _ (is : j ≡ Sound) {count marked : ℕ} (counted : count ≡ length ns / record_width)
+        (counted_marks : marked ≡ length zs / mark_numbers) where
+      script-long : length (bytes_of p q (matches_of ns) (points_of zs))
+          ≡ lengths_width + match_width * count + mark_width * marked + 1
       script-long =
           omega (
             arith,
-            bytes-length p q (matchesOf ns) (points_of zs),
-            length-map (recordsOf ns) match_of,
+            bytes-length p q (matches_of ns) (points_of zs),
+            length-map (records_of ns) match_of,
             records-length ns,
             points-length zs,
           )
 
-      pub short-written : length out < lengthsWidth + matchWidth * count + markWidth * marked + 1
+      pub short-written : length out < lengths_width + match_width * count + mark_width * marked + 1
           → Contract (Written.Refused BufferTooShort) out
       short-written short =
           contract (rw (
             sym judged ∙ is,
-            lt-ltb (length out) (length (bytes_of p q (matchesOf ns) (points_of zs))) (omega (arith, script-long)),
+            lt-ltb (length out) (length (bytes_of p q (matches_of ns) (points_of zs))) (omega (arith, script-long)),
           ))
 
-      pub whole-written : {out' : List ℕ} → lengthsWidth + matchWidth * count + markWidth * marked + 1 ≤ length out
-          → Stored out 0 (bytes_of p q (matchesOf ns) (points_of zs)) out'
-          → Contract (Written.Bytes (lengthsWidth + matchWidth * count + markWidth * marked + 1)) out'
+      pub whole-written : {out' : List ℕ} → lengths_width + match_width * count + mark_width * marked + 1 ≤ length out
+          → Stored out 0 (bytes_of p q (matches_of ns) (points_of zs)) out'
+          → Contract (Written.Bytes (lengths_width + match_width * count + mark_width * marked + 1)) out'
       whole-written room stored =
           contract (rw (
             sym judged ∙ is,
-            le-ltb (length out) (length (bytes_of p q (matchesOf ns) (points_of zs))) (omega (arith, script-long)),
+            le-ltb (length out) (length (bytes_of p q (matches_of ns) (points_of zs))) (omega (arith, script-long)),
             stored-front stored (omega (arith, script-long)),
             ← script-long,
           ))

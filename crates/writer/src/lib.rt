@@ -1,12 +1,13 @@
 // The writer of scripts: from a list of records and a list of marks to the bytes of a script in a lent buffer.
+#![tactic(auto)]
 ghost use Rattle.std.specs.Prelude.{◌≡◌, ◌+◌, ◌*◌, ◌≤◌, ◌<◌, eqb, length};
 ghost use mathlib.Core.List.{[], ◌∷◌, flat_map};
-ghost use Rattle.script.specs.Commands.{lengthsWidth, matchWidth, markWidth};
-ghost use Rattle.records.specs.Records.{recordsOf, match_of, matchesOf, points_of};
-ghost use Rattle.records.specs.Bytes.{numberBytes, lengthsBytes, code_of, matchBytes, markBytes, bytes_of};
+ghost use Rattle.script.specs.Commands.{lengths_width, match_width, mark_width};
+ghost use Rattle.records.specs.Records.{records_of, match_of, matches_of, points_of};
+ghost use Rattle.records.specs.Bytes.{number_bytes, lengths_bytes, code_of, match_bytes, mark_bytes, bytes_of};
 ghost use Rattle.records.specs.Storing.{Stored};
-ghost use Rattle.records.specs.Writing.{writingOf};
-ghost use Rattle.records.specs.Demands.{writtenAnswer, WritingDemand};
+ghost use Rattle.records.specs.Writing.{writing_of};
+ghost use Rattle.records.specs.Demands.{written_answer, WritingDemand};
 ghost use Rattle.writer.specs.Directed.{Directed, Sided};
 
 use judging_records::{judge_records, record_at};
@@ -25,7 +26,7 @@ fn put_byte(out: &mut [u8], at: usize, byte: u8)
 // Puts the four bytes of a number, the least first.
 fn put_number(out: &mut [u8], at: usize, number: u32)
     requires { at + 4 ≤ length out.old }
-    ensures { Stored out.old at (numberBytes number) out.new }
+    ensures { Stored out.old at (number_bytes number) out.new }
 {
     out[at] = (number % 256) as u8;
     out[at + 1] = (number / 256 % 256) as u8;
@@ -35,8 +36,8 @@ fn put_number(out: &mut [u8], at: usize, number: u32)
 
 // Puts the lengths command.
 fn put_lengths(out: &mut [u8], p: u32, q: u32)
-    requires { lengthsWidth ≤ length out.old }
-    ensures { Stored out.old 0 (lengthsBytes p q) out.new }
+    requires { lengths_width ≤ length out.old }
+    ensures { Stored out.old 0 (lengths_bytes p q) out.new }
 {
     put_byte(out, 0, 0x4C);
     put_number(out, 1, p);
@@ -54,9 +55,9 @@ fn code_of(direction: u32) -> u8
 
 // Puts the match command of a record.
 fn put_match(out: &mut [u8], at: usize, item: Record)
-    requires match_width_in_bounds { at + matchWidth ≤ length out.old }
+    requires match_width_in_bounds { at + match_width ≤ length out.old }
     requires direction_bound { item.direction ≤ 1 }
-    ensures { Stored out.old at (matchBytes (match_of item)) out.new }
+    ensures { Stored out.old at (match_bytes (match_of item)) out.new }
 {
     put_byte(out, at, code_of(item.direction));
     put_number(out, at + 1, item.left_a);
@@ -66,9 +67,9 @@ fn put_match(out: &mut [u8], at: usize, item: Record)
 
 // Puts the commands of all records behind the lengths.
 fn put_matches(out: &mut [u8], records: &[u32], count: usize)
-    requires count_value { (count ≡ length (recordsOf records.now)) × (lengthsWidth + matchWidth * count ≤ length out.old) }
+    requires count_value { (count ≡ length (records_of records.now)) × (lengths_width + match_width * count ≤ length out.old) }
     requires directed { Directed records.now }
-    ensures { Stored out.old lengthsWidth (flat_map matchBytes (matchesOf records.now))
+    ensures { Stored out.old lengths_width (flat_map match_bytes (matches_of records.now))
         out.new }
 {
     let mut k = 0;
@@ -80,9 +81,9 @@ fn put_matches(out: &mut [u8], records: &[u32], count: usize)
 
 // Puts the mark command of a side and a position.
 fn put_mark(out: &mut [u8], at: usize, side: u32, position: u32)
-    requires mark_width_in_bounds { at + markWidth ≤ length out.old }
+    requires mark_width_in_bounds { at + mark_width ≤ length out.old }
     requires side_bound { side ≤ 1 }
-    ensures { Stored out.old at (markBytes (record { side = side; position = position })) out.new }
+    ensures { Stored out.old at (mark_bytes (record { side = side; position = position })) out.new }
 {
     put_byte(out, at, 0x4D);
     put_byte(out, at + 1, side as u8);
@@ -91,9 +92,9 @@ fn put_mark(out: &mut [u8], at: usize, side: u32, position: u32)
 
 // Puts the commands of all marks from an offset on.
 fn put_marks(out: &mut [u8], from: usize, marks: &[u32], count: usize)
-    requires count_value { (count ≡ length (points_of marks.now)) × (from + markWidth * count ≤ length out.old) }
+    requires count_value { (count ≡ length (points_of marks.now)) × (from + mark_width * count ≤ length out.old) }
     requires sided { Sided marks.now }
-    ensures { Stored out.old from (flat_map markBytes (points_of marks.now)) out.new }
+    ensures { Stored out.old from (flat_map mark_bytes (points_of marks.now)) out.new }
 {
     let mut k = 0;
     while k < count {
@@ -113,11 +114,11 @@ fn put_script(
     marks: &[u32],
     marked: usize,
 )
-    requires count_value { (count ≡ length (recordsOf records.now)) × (marked ≡ length (points_of marks.now)) }
-    requires marked_in_bounds { lengthsWidth + matchWidth * count + markWidth * marked + 1 ≤ length out.old }
+    requires count_value { (count ≡ length (records_of records.now)) × (marked ≡ length (points_of marks.now)) }
+    requires marked_in_bounds { lengths_width + match_width * count + mark_width * marked + 1 ≤ length out.old }
     requires directed { Directed records.now × Sided marks.now }
     ensures { Stored out.old 0
-        (bytes_of p q (matchesOf records.now) (points_of marks.now)) out.new }
+        (bytes_of p q (matches_of records.now) (points_of marks.now)) out.new }
 {
     put_lengths(out, p, q);
     put_matches(out, records, count);
@@ -132,10 +133,10 @@ fn put_script(
 // Writes the script of p, q, the records, four numbers each, and the marks, two each, to the start of the lent buffer.
 // All are judged before a byte is written, so that a refusal leaves the buffer as it was.
 pub fn write(p: u32, q: u32, records: &[u32], marks: &[u32], out: &mut [u8]) -> Written
-    ensures reply { result ≡ (writingOf p q records.now marks.now out.old).reply }
-    ensures script { out.new ≡ (writingOf p q records.now marks.now out.old).script }
+    ensures reply { result ≡ (writing_of p q records.now marks.now out.old).reply }
+    ensures script { out.new ≡ (writing_of p q records.now marks.now out.old).script }
     ensures demand { WritingDemand p q records.now marks.now out.old out.new
-        (writtenAnswer result) }
+        (written_answer result) }
 {
     match judge_records(p, q, records, marks) {
         Judgement::Faulty(refusal) => Written::Refused(refusal),

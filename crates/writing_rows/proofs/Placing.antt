@@ -13,32 +13,32 @@ use lib.ListN.{length, get_or, set, length-append}
 use lib.Seq.{slice, slice-cons, slice_empty, sets, length-sets}
 use Rattle.script.specs.Commands.{bit_of}
 use Rattle.script.proofs.Stores.{sets-append}
-use Rattle.rows.specs.Rows.{rowWidth, rowNumbers, numbersOf}
+use Rattle.rows.specs.Rows.{row_width, row_numbers, numbers_of}
 use Rattle.rows.proofs.Numbers.{numbers-append}
-use Rattle.refinement.specs.Match.{Match, matchAB, carryOver, carryTo}
-use Rattle.refinement.specs.Least.{piece_of, piecesBetween}
+use Rattle.refinement.specs.Match.{Match, match_ab, carry_over, carry_to}
+use Rattle.refinement.specs.Least.{piece_of, pieces_between}
 use Rattle.refinement.proofs.Geometry.{carry-ends}
 use Rattle.runs.specs.Runs.{Bound}
-use Rattle.refining.specs.Columns.{Columns, count_of, fromAt, fromRightAt, to_at, toRightAt, lettersAt, wayAt}
-use Rattle.refining.specs.Columns.{Fit, matchAt}
-use Rattle.refining.specs.Rows.{rowOfPiece, pieceNumbers, within, piecesCut}
+use Rattle.refining.specs.Columns.{Columns, count_of, from_at, from_right_at, to_at, to_right_at, letters_at, way_at}
+use Rattle.refining.specs.Columns.{Fit, match_at}
+use Rattle.refining.specs.Rows.{row_of_piece, piece_numbers, within, pieces_cut}
 use Rattle.refining.proofs.Standing.{length-numbers}
 use Rattle.writing_rows.specs.Writing.{Stretch, Cutting, Placed, Writable, Written}
 use Rattle.writing_rows.proofs.Within.{cutting, within-bounds, stretch}
 
 -- Rows as numbers.
-pieces-append : (rs qs : List Match) → pieceNumbers (rs ++ qs) ≡ pieceNumbers rs ++ pieceNumbers qs
+pieces-append : (rs qs : List Match) → piece_numbers (rs ++ qs) ≡ piece_numbers rs ++ piece_numbers qs
 pieces-append rs qs =
-    ap numbersOf (map-append rowOfPiece rs qs) ∙ numbers-append (map rowOfPiece rs) (map rowOfPiece qs)
+    ap numbers_of (map-append row_of_piece rs qs) ∙ numbers-append (map row_of_piece rs) (map row_of_piece qs)
 
 sets_rows :
     (rs qs : List Match) (xs : List ℕ)
-    → sets (sets xs 0 (pieceNumbers rs)) (rowWidth * length rs) (pieceNumbers qs) ≡ sets xs 0 (pieceNumbers (rs ++ qs))
+    → sets (sets xs 0 (piece_numbers rs)) (row_width * length rs) (piece_numbers qs) ≡ sets xs 0 (piece_numbers (rs ++ qs))
 sets_rows rs qs xs =
-    let e : 0 + length (pieceNumbers rs) ≡ rowWidth * length rs = omega (arith, length-numbers rs) in
+    let e : 0 + length (piece_numbers rs) ≡ row_width * length rs = omega (arith, length-numbers rs) in
     sym
-    (ap (sets xs 0) (pieces-append rs qs) ∙ sets-append (pieceNumbers rs) (pieceNumbers qs) xs 0
-    ∙ ap (λ n. sets (sets xs 0 (pieceNumbers rs)) n (pieceNumbers qs)) e)
+    (ap (sets xs 0) (pieces-append rs qs) ∙ sets-append (piece_numbers rs) (piece_numbers qs) xs 0
+    ∙ ap (λ n. sets (sets xs 0 (piece_numbers rs)) n (piece_numbers qs)) e)
 
 -- One piece.
 pub low-on :
@@ -48,13 +48,13 @@ low-on true s = (omega (arith, s.from, s.some), s.to)
 
 low-of-ends :
     (b : Bool) {i k l x y : ℕ} → Stretch i k l x y
-    → carryTo b i k l (cond b y x) ≡ min (carryTo b i k l x) (carryTo b i k l y)
+    → carry_to b i k l (cond b y x) ≡ min (carry_to b i k l x) (carry_to b i k l y)
 low-of-ends false s = omega (arith, s.some)
 low-of-ends true s = omega (arith, s.some)
 
 low_end :
     (b : Bool) {i k l x y : ℕ} → Stretch i k l x y
-    → carryTo b i k l (cond b y x) ≡ min (carryOver b i k (l - k) x) (carryOver b i k (l - k) y)
+    → carry_to b i k l (cond b y x) ≡ min (carry_over b i k (l - k) x) (carry_over b i k (l - k) y)
 low_end b {i} {k} {l} {x} {y} s =
     let e : l ≡ k + (l - k) = omega (arith, s.to) in
     low-of-ends b s ∙ ap₂ min (carry-ends b i k (l - k) x e) (carry-ends b i k (l - k) y e)
@@ -65,41 +65,41 @@ way true = refl
 
 pub five-stores :
     (xs : List ℕ) (at n : ℕ) (b : Bool) {i k l x y low image turn : ℕ} → Stretch i k l x y → low ≡ cond b y x
-    → image ≡ carryTo b i k l low → turn ≡ cond b 1 0
+    → image ≡ carry_to b i k l low → turn ≡ cond b 1 0
     → set (set (set (set (set xs at n) (at + 1) x) (at + 2) image) (at + 3) (y - x)) (at + 4) turn
-    ≡ sets xs at (rowNumbers (rowOfPiece (piece_of (matchAB n i k (l - k) b) x y)))
+    ≡ sets xs at (row_numbers (row_of_piece (piece_of (match_ab n i k (l - k) b) x y)))
 unfolding piece_of
 five-stores xs at n b {i} {k} {l} {x} {y} s is-low is-image is-turn =
     let e₁ : at + 1 ≡ suc at = omega arith in
     let e₂ : at + 2 ≡ suc (suc at) = omega arith in
     let e₃ : at + 3 ≡ suc (suc (suc at)) = omega arith in
     let e₄ : at + 4 ≡ suc (suc (suc (suc at))) = omega arith in
-    let to = is-image ∙ ap (carryTo b i k l) is-low ∙ low_end b s in
+    let to = is-image ∙ ap (carry_to b i k l) is-low ∙ low_end b s in
     let turned = is-turn ∙ way b in
     λ j. set (set (set (set (set xs at n) (e₁ j) x) (e₂ j) (to j)) (e₃ j) (y - x)) (e₄ j) (turned j)
 
 -- One match: the rows between its cuts from `at` to `last`.
 abbrev rows_from : Match → List ℕ → ℕ → ℕ → List Match
-rows_from m work last at = piecesBetween m (slice at (suc last) work)
+rows_from m work last at = pieces_between m (slice at (suc last) work)
 
 -- the rows from the row `next` on are those between the cuts from `at` on, with what is written before them
 pub record Remaining (m : Match) (l : ℕ) (work : List ℕ) (first last row : ℕ) (before table : List ℕ)
     (at next : ℕ) : Type 0 where
-  pub cuts : Cutting work first last m.leftA (m.leftA + m.length)
-  pub facing : m.leftB + m.length ≡ l
-  pub room : rowWidth * (row + length (rows_from m work last first)) ≤ length before
+  pub cuts : Cutting work first last m.left_a (m.left_a + m.length)
+  pub facing : m.left_b + m.length ≡ l
+  pub room : row_width * (row + length (rows_from m work last first)) ≤ length before
   pub from : first ≤ at
   pub to : at ≤ last
   pub count : row + length (rows_from m work last first) ≡ next + length (rows_from m work last at)
   pub long : length table ≡ length before
   pub is :
-      sets before (rowWidth * row) (pieceNumbers (rows_from m work last first))
-      ≡ sets table (rowWidth * next) (pieceNumbers (rows_from m work last at))
+      sets before (row_width * row) (piece_numbers (rows_from m work last first))
+      ≡ sets table (row_width * next) (piece_numbers (rows_from m work last at))
 
 pub remaining-start :
     {m : Match} {l : ℕ} {work : List ℕ} {first last row : ℕ} {before : List ℕ}
-    → Cutting work first last m.leftA (m.leftA + m.length) → m.leftB + m.length ≡ l
-    → rowWidth * (row + length (rows_from m work last first)) ≤ length before
+    → Cutting work first last m.left_a (m.left_a + m.length) → m.left_b + m.length ≡ l
+    → row_width * (row + length (rows_from m work last first)) ≤ length before
     → Remaining m l work first last row before before first row
 remaining-start cuts facing room = record {
   cuts = cuts;
@@ -117,42 +117,42 @@ module _ {m : Match} {l : ℕ} {work : List ℕ} {first last row : ℕ} {before 
   rows_step :
       at < last
       → rows_from m work last at ≡ piece_of m (get_or work at 0) (get_or work (suc at) 0) ∷ rows_from m work last (suc at)
-  unfolding piecesBetween
+  unfolding pieces_between
   rows_step h =
       let x = get_or work at 0 in
       let y = get_or work (suc at) 0 in
       let inside = left.cuts.run.within in
       let e = slice-cons (suc at) (suc last) work 0 (omega arith) inside in
-      ap (piecesBetween m) (slice-cons at (suc last) work 0 (omega arith) inside ∙ ap (λ zs. x ∷ zs) e)
-      ∙ ap (λ zs. piece_of m x y ∷ piecesBetween m zs) (sym e)
+      ap (pieces_between m) (slice-cons at (suc last) work 0 (omega arith) inside ∙ ap (λ zs. x ∷ zs) e)
+      ∙ ap (λ zs. piece_of m x y ∷ pieces_between m zs) (sym e)
 
   rows_end : last ≤ at → rows_from m work last at ≡ []
-  unfolding piecesBetween
+  unfolding pieces_between
   rows_end h =
       let e : at ≡ last = omega (arith, left.to) in
       ap (rows_from m work last) e
-      ∙ ap (piecesBetween m)
+      ∙ ap (pieces_between m)
       (slice-cons last (suc last) work 0 (omega arith) left.cuts.run.within
       ∙ ap (λ zs. get_or work last 0 ∷ zs) (slice_empty (suc last) work))
 
   pub remaining-stretch :
-      at < last → Stretch m.leftA m.leftB l (get_or work at 0) (get_or work (at + 1) 0)
-  remaining-stretch = stretch m.leftB l at left.cuts (omega (arith, left.facing)) left.from
+      at < last → Stretch m.left_a m.left_b l (get_or work at 0) (get_or work (at + 1) 0)
+  remaining-stretch = stretch m.left_b l at left.cuts (omega (arith, left.facing)) left.from
 
-  pub remaining-room : at < last → rowWidth * next + rowWidth ≤ length table
+  pub remaining-room : at < last → row_width * next + row_width ≤ length table
   remaining-room h = omega (arith, left.room, left.count, left.long, ap length (rows_step h))
 
   pub remaining-step :
       at < last → {after : List ℕ}
       → after
-      ≡ sets table (rowWidth * next) (rowNumbers (rowOfPiece (piece_of m (get_or work at 0) (get_or work (at + 1) 0))))
+      ≡ sets table (row_width * next) (row_numbers (row_of_piece (piece_of m (get_or work at 0) (get_or work (at + 1) 0))))
       → Remaining m l work first last row before after (at + 1) (next + 1)
-  unfolding numbersOf
+  unfolding numbers_of
   remaining-step h {after} is =
       let e : at + 1 ≡ suc at = omega arith in
-      let written = rowNumbers (rowOfPiece (piece_of m (get_or work at 0) (get_or work (at + 1) 0))) in
-      let rest = pieceNumbers (rows_from m work last (at + 1)) in
-      let n : rowWidth * next + length written ≡ rowWidth * (next + 1) = omega arith in
+      let written = row_numbers (row_of_piece (piece_of m (get_or work at 0) (get_or work (at + 1) 0))) in
+      let rest = piece_numbers (rows_from m work last (at + 1)) in
+      let n : row_width * next + length written ≡ row_width * (next + 1) = omega arith in
       record {
         cuts = left.cuts;
         facing = left.facing;
@@ -160,17 +160,17 @@ module _ {m : Match} {l : ℕ} {work : List ℕ} {first last row : ℕ} {before 
         from = omega (arith, left.from);
         to = omega arith;
         count = rw e (omega (arith, left.count, ap length (rows_step h)));
-        long = ap length is ∙ length-sets table (rowWidth * next) written ∙ left.long;
+        long = ap length is ∙ length-sets table (row_width * next) written ∙ left.long;
         is =
-            left.is ∙ ap (λ rs. sets table (rowWidth * next) (pieceNumbers rs)) (rows_step h)
-            ∙ rw (← e) (sets-append written rest table (rowWidth * next) ∙ rw (is, ← n) refl);
+            left.is ∙ ap (λ rs. sets table (row_width * next) (piece_numbers rs)) (rows_step h)
+            ∙ rw (← e) (sets-append written rest table (row_width * next) ∙ rw (is, ← n) refl);
       }
 
   pub remaining-end : last ≤ at → Placed (rows_from m work last first) row before table next
-  unfolding numbersOf
+  unfolding numbers_of
   remaining-end h = record {
     count = omega (arith, left.count, ap length (rows_end h));
-    table = sym (left.is ∙ ap (λ rs. sets table (rowWidth * next) (pieceNumbers rs)) (rows_end h));
+    table = sym (left.is ∙ ap (λ rs. sets table (row_width * next) (piece_numbers rs)) (rows_end h));
   }
 
 -- All matches: the rows of the first k are written.
@@ -179,67 +179,67 @@ pub record Done (columns : Columns) (work : List ℕ) (lo hi : ℕ) (before tabl
   pub fit : Fit columns
   pub writable : Writable columns work lo hi before
   pub to : k ≤ count_of columns
-  pub count : row ≡ length (piecesCut columns (slice lo hi work) k)
-  pub is : table ≡ sets before 0 (pieceNumbers (piecesCut columns (slice lo hi work) k))
+  pub count : row ≡ length (pieces_cut columns (slice lo hi work) k)
+  pub is : table ≡ sets before 0 (piece_numbers (pieces_cut columns (slice lo hi work) k))
 
 rows_grow :
     (columns : Columns) (run : List ℕ) (n k : ℕ) → k + n ≡ count_of columns
-    → length (piecesCut columns run k) ≤ length (piecesCut columns run (count_of columns))
-unfolding piecesCut
+    → length (pieces_cut columns run k) ≤ length (pieces_cut columns run (count_of columns))
+unfolding pieces_cut
 rows_grow columns run zero k e = let same : k ≡ count_of columns = omega arith in rw same (omega arith)
 rows_grow columns run (suc n) k e =
-    let here = piecesBetween (matchAt columns k) (within (fromAt columns k) (fromRightAt columns k) run) in
-    omega (arith, rows_grow columns run n (suc k) (omega arith), length-append (piecesCut columns run k) here)
+    let here = pieces_between (match_at columns k) (within (from_at columns k) (from_right_at columns k) run) in
+    omega (arith, rows_grow columns run n (suc k) (omega arith), length-append (pieces_cut columns run k) here)
 
 module _ {columns : Columns} {work : List ℕ} {lo hi : ℕ} {before : List ℕ} where
   pub done-start : Fit columns → Writable columns work lo hi before → Done columns work lo hi before before 0 0
-  unfolding piecesCut numbersOf
+  unfolding pieces_cut numbers_of
   done-start fit writable =
       record { fit = fit; writable = writable; to = omega arith; count = refl; is = refl }
 
   module _ {table : List ℕ} {row k : ℕ} (done : Done columns work lo hi before table row k) where
     pub done-long : length table ≡ length before
-    done-long = ap length done.is ∙ length-sets before 0 (pieceNumbers (piecesCut columns (slice lo hi work) k))
+    done-long = ap length done.is ∙ length-sets before 0 (piece_numbers (pieces_cut columns (slice lo hi work) k))
 
     pub done_end : count_of columns ≤ k → Written columns (slice lo hi work) before table row
     done_end l =
         let run = slice lo hi work in
         let e : k ≡ count_of columns = omega (arith, done.to) in
         record {
-          count = done.count ∙ ap (λ n. length (piecesCut columns run n)) e;
-          table = done.is ∙ ap (λ n. sets before 0 (pieceNumbers (piecesCut columns run n))) e;
+          count = done.count ∙ ap (λ n. length (pieces_cut columns run n)) e;
+          table = done.is ∙ ap (λ n. sets before 0 (piece_numbers (pieces_cut columns run n))) e;
         }
 
     -- the match at k, with the lower bounds of its ends
-    module _ (less : k < count_of columns) {first last : ℕ} (left : Bound work lo hi (fromAt columns k) first)
-        (right : Bound work lo hi (fromRightAt columns k) last) where
-      ends : fromAt columns k ≤ fromRightAt columns k
-      ends = omega (arith, done.fit.from-right k less)
+    module _ (less : k < count_of columns) {first last : ℕ} (left : Bound work lo hi (from_at columns k) first)
+        (right : Bound work lo hi (from_right_at columns k) last) where
+      ends : from_at columns k ≤ from_right_at columns k
+      ends = omega (arith, done.fit.from_right k less)
 
-      pub done-cuts : Cutting work first last (fromAt columns k) (fromAt columns k + lettersAt columns k)
+      pub done-cuts : Cutting work first last (from_at columns k) (from_at columns k + letters_at columns k)
       done-cuts =
           let w = done.writable in
-          rw (done.fit.from-right k less) at
-          (cutting ends w.run (w.left_in k less) (w.right-in k less) left right)
+          rw (done.fit.from_right k less) at
+          (cutting ends w.run (w.left_in k less) (w.right_in k less) left right)
 
-      pub done-ends : to_at columns k ≤ toRightAt columns k
-      done-ends = omega (arith, done.fit.to-right k less)
+      pub done-ends : to_at columns k ≤ to_right_at columns k
+      done-ends = omega (arith, done.fit.to_right k less)
 
       -- its rows, numbered as the code does
       abbrev here : List Match
       here =
-          piecesBetween (matchAB (k + 1) (fromAt columns k) (to_at columns k) (lettersAt columns k) (wayAt columns k))
+          pieces_between (match_ab (k + 1) (from_at columns k) (to_at columns k) (letters_at columns k) (way_at columns k))
           (slice first (suc last) work)
 
-      rows-here : piecesCut columns (slice lo hi work) (k + 1) ≡ piecesCut columns (slice lo hi work) k ++ here
-      unfolding piecesCut
+      rows-here : pieces_cut columns (slice lo hi work) (k + 1) ≡ pieces_cut columns (slice lo hi work) k ++ here
+      unfolding pieces_cut
       rows-here =
           let w = done.writable in
           let e : k + 1 ≡ suc k = omega arith in
-          let are = within-bounds ends w.run (w.left_in k less) (w.right-in k less) left right in
+          let are = within-bounds ends w.run (w.left_in k less) (w.right_in k less) left right in
           rw (e, are) refl
 
-      pub done-room : rowWidth * (row + length here) ≤ length table
+      pub done-room : row_width * (row + length here) ≤ length table
       done-room =
           let run = slice lo hi work in
           omega (
@@ -249,14 +249,14 @@ module _ {columns : Columns} {work : List ℕ} {lo hi : ℕ} {before : List ℕ}
             done.writable.room,
             rows_grow columns run (count_of columns - (k + 1)) (k + 1) (omega arith),
             ap length rows-here,
-            length-append (piecesCut columns run k) here,
+            length-append (pieces_cut columns run k) here,
           )
 
       pub done-step :
           {after : List ℕ} {next : ℕ} → Placed here row table after next
           → Done columns work lo hi before after next (k + 1)
       done-step placed =
-          let rows = piecesCut columns (slice lo hi work) k in
+          let rows = pieces_cut columns (slice lo hi work) k in
           record {
             fit = done.fit;
             writable = done.writable;
@@ -265,7 +265,7 @@ module _ {columns : Columns} {work : List ℕ} {lo hi : ℕ} {before : List ℕ}
                 placed.count ∙ ap (λ n. n + length here) done.count ∙ sym (length-append rows here)
                 ∙ ap length (sym rows-here);
             is =
-                placed.table ∙ ap (λ n. sets table (rowWidth * n) (pieceNumbers here)) done.count
-                ∙ ap (λ t. sets t (rowWidth * length rows) (pieceNumbers here)) done.is
-                ∙ sets_rows rows here before ∙ ap (λ rs. sets before 0 (pieceNumbers rs)) (sym rows-here);
+                placed.table ∙ ap (λ n. sets table (row_width * n) (piece_numbers here)) done.count
+                ∙ ap (λ t. sets t (row_width * length rows) (piece_numbers here)) done.is
+                ∙ sets_rows rows here before ∙ ap (λ rs. sets before 0 (piece_numbers rs)) (sym rows-here);
           }

@@ -69,7 +69,7 @@ module _ {work : List ℕ} {lo hi i g first last : ℕ} (ends : i ≤ g) (run : 
           rising = λ p q l n h. run.rising p q (omega (arith, left-bound.from)) n (omega arith);
         };
         left_at = at_left.1;
-        right-at = at_right.1;
+        right_at = at_right.1;
       }
 
   within-until : (n p : ℕ) → p + n ≡ hi → first ≤ p → within i g (slice p hi work) ≡ slice p (suc last) work
@@ -113,21 +113,21 @@ pub stretch :
     → at < last → Stretch i k l (get_or work at 0) (get_or work (at + 1) 0)
 stretch {work} {first} {last} {i} {g} k l at cuts facing from to =
     record {
-      from = from-left;
+      from = from_left;
       some = cuts.run.rising at (at + 1) from (omega arith) (omega arith);
-      to = omega (arith, to-right);
+      to = omega (arith, to_right);
     }
   where
-    from-left : i ≤ get_or work at 0
-    from-left = elim (dec_lt first at) [
+    from_left : i ≤ get_or work at 0
+    from_left = elim (dec_lt first at) [
       | yes l ↦ omega (arith, cuts.run.rising first at (omega arith) l (omega arith), cuts.left_at)
       | no n ↦
           let same : first ≡ at = omega arith in
           let e : get_or work at 0 ≡ i = rw same at cuts.left_at in omega arith
     ]
 
-    to-right : get_or work (at + 1) 0 ≤ g
-    to-right = elim (dec_lt (at + 1) last) [
-      | yes l ↦ omega (arith, cuts.run.rising (at + 1) last (omega arith) l (omega arith), cuts.right-at)
-      | no n ↦ let same : at + 1 ≡ last = omega arith in rw same (omega (arith, cuts.right-at))
+    to_right : get_or work (at + 1) 0 ≤ g
+    to_right = elim (dec_lt (at + 1) last) [
+      | yes l ↦ omega (arith, cuts.run.rising (at + 1) last (omega arith) l (omega arith), cuts.right_at)
+      | no n ↦ let same : at + 1 ≡ last = omega arith in rw same (omega (arith, cuts.right_at))
     ]

@@ -1,12 +1,13 @@
 // The rows of the table: a piece between each two neighbouring cuts of a match.
+#![tactic(auto)]
 ghost use Rattle.std.specs.Prelude.{◌≡◌, cond, suc, ◌+◌, ◌-◌, ◌*◌, ◌≤◌, length};
 ghost use Rattle.std.proofs.Math.Seq.{slice};
 ghost use Rattle.std.proofs.lemmas.List.Edits.{sets};
-ghost use Rattle.rows.specs.Rows.{rowWidth, rowNumbers};
-ghost use Rattle.refinement.specs.Match.{matchAB};
-ghost use Rattle.refinement.specs.Least.{piece_of, piecesBetween};
-ghost use Rattle.refining.specs.Columns.{columnsOf, Fit};
-ghost use Rattle.refining.specs.Rows.{rowOfPiece};
+ghost use Rattle.rows.specs.Rows.{row_width, row_numbers};
+ghost use Rattle.refinement.specs.Match.{match_ab};
+ghost use Rattle.refinement.specs.Least.{piece_of, pieces_between};
+ghost use Rattle.refining.specs.Columns.{columns_of, Fit};
+ghost use Rattle.refining.specs.Rows.{row_of_piece};
 ghost use Rattle.writing_rows.specs.Writing.{Stretch, Cutting, Placed, Writable, Written};
 
 use rows::ROW_WIDTH;
@@ -36,11 +37,11 @@ fn write_piece(
     y: u32,
 )
     requires stretch { Stretch left_a left_b right_b x y }
-    requires row_width_in_bounds { at + rowWidth ≤ length table.old }
+    requires row_width_in_bounds { at + row_width ≤ length table.old }
     ensures { table.new
         ≡ sets table.old at
-        (rowNumbers
-        (rowOfPiece (piece_of (matchAB number left_a left_b (right_b - left_b) reversed) x y))) }
+        (row_numbers
+        (row_of_piece (piece_of (match_ab number left_a left_b (right_b - left_b) reversed) x y))) }
 {
     let low = by_direction(reversed, y, x);
     let image = refinement::carry(left_a, left_b, right_b, reversed, low);
@@ -67,12 +68,12 @@ fn write_match(
 ) -> usize
     requires cutting { Cutting work.now first last left_a (left_a + (right_b - left_b)) }
     requires left_b_le_right_b { left_b ≤ right_b }
-    requires work_in_bounds { rowWidth * (row + length
-        (piecesBetween (matchAB number left_a left_b (right_b - left_b) reversed)
+    requires work_in_bounds { row_width * (row + length
+        (pieces_between (match_ab number left_a left_b (right_b - left_b) reversed)
         (slice first (suc last) work.now)))
         ≤ length table.old }
     ensures { Placed
-        (piecesBetween (matchAB number left_a left_b (right_b - left_b) reversed)
+        (pieces_between (match_ab number left_a left_b (right_b - left_b) reversed)
         (slice first (suc last) work.now))
         row table.old table.new result }
 {
@@ -108,11 +109,11 @@ pub fn write_rows(
     hi: usize,
     table: &mut [u32],
 ) -> usize
-    requires fit { Fit (columnsOf left_a.now right_a.now left_b.now right_b.now reversed.now) }
-    requires writable { Writable (columnsOf left_a.now right_a.now left_b.now right_b.now reversed.now) work.now
+    requires fit { Fit (columns_of left_a.now right_a.now left_b.now right_b.now reversed.now) }
+    requires writable { Writable (columns_of left_a.now right_a.now left_b.now right_b.now reversed.now) work.now
         lo hi table.old }
     ensures { Written
-        (columnsOf left_a.now right_a.now left_b.now right_b.now
+        (columns_of left_a.now right_a.now left_b.now right_b.now
         reversed.now)
         (slice lo hi work.now) table.old table.new result }
 {

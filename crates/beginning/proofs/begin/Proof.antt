@@ -2,8 +2,8 @@
 use native.Mathlib.Omega.{arith}
 use mathlib.Core.Path.{sym, ◌∙◌}
 use borrow.Author.Tests.{not-true, not-false}
-use Rattle.refining.specs.Columns.{columnsOf}
-use Rattle.tracks.specs.Tracks.{marksOf}
+use Rattle.refining.specs.Columns.{columns_of}
+use Rattle.tracks.specs.Tracks.{marks_of}
 use Rattle.driving.proofs.Drives.{going-driving}
 use Rattle.seeding.proofs.Wanting.{groups-naming}
 use Rattle.beginning.proofs.Beginning.{sown-open, none-usable, no-hits, given_by}
@@ -108,9 +108,9 @@ a-step-requires c κs =
     let pre = start.pre in
     let a = start.args in
     let begun = rw (not-false sown.sow-all.result test.if1.left) at sown.sow-all.ensures in (
-      given_by pre.0 pre.1.0 pre.1.1.0 (none-usable a.groups.now a.count a.left-a.now a.right-a.now)
-          (none-usable a.groups.now a.count a.left-b.now a.right-b.now),
-      (marksOf a.mark-tracks.now a.mark-positions.now, rw (sym no-hits) begun),
+      given_by pre.0 pre.1.0 pre.1.1.0 (none-usable a.groups.now a.count a.left_a.now a.right_a.now)
+          (none-usable a.groups.now a.count a.left_b.now a.right_b.now),
+      (marks_of a.mark-tracks.now a.mark-positions.now, rw (sym no-hits) begun),
     )
 
 same-length-4 : tie.Need-same-length-4
@@ -138,9 +138,9 @@ returns-2 c =
     let a = start.args in
     let begun = sown-open _ _ _ _ _ _ _ (not-false sown.sow-all.result test.if1.left)
     sown.sow-all.ensures in
-    let marks = marksOf a.mark-tracks.now a.mark-positions.now in
+    let marks = marks_of a.mark-tracks.now a.mark-positions.now in
     going-driving
-    (columnsOf a.left-a.now a.right-a.now a.left-b.now a.right-b.now a.reversed.now) a.groups.now
+    (columns_of a.left_a.now a.right_a.now a.left_b.now a.right_b.now a.reversed.now) a.groups.now
     a.count a.sets a.capacity _ _ _ _ marks stepped.a-step.result
     (stepped.a-step.ensures marks (rw (sym no-hits) begun))
 

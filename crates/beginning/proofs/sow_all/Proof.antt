@@ -145,17 +145,17 @@ gather-sets-requires c κs =
     let last : tie.Else3 = search in
     let planted : tie.After-plant = search in
     let other : tie.After-plant2 = search in
-    let on-a = rw (not-false planted.plant.result again.if2.left) at planted.plant.ensures in
-    let on-b = rw (not-false other.plant2.result last.if3.left) at other.plant2.ensures in
-    shelf-apart on-a.shelf (Halves.behind (omega arith)) _ on-b.outside other.plant2.kept.1.1.1.1.1.0
+    let on_a = rw (not-false planted.plant.result again.if2.left) at planted.plant.ensures in
+    let on_b = rw (not-false other.plant2.result last.if3.left) at other.plant2.ensures in
+    shelf-apart on_a.shelf (Halves.behind (omega arith)) _ on_b.outside other.plant2.kept.1.1.1.1.1.0
 
 gather-sets-requires-2 : tie.Need-gather-sets-requires-2
 gather-sets-requires-2 c κs =
     let last : tie.Else3 = search in
     let other : tie.After-plant2 = search in
     let gathered : tie.After-gather-sets = search in
-    let on-b = rw (not-false other.plant2.result last.if3.left) at other.plant2.ensures in
-    shelf-apart on-b.shelf (Halves.before (omega arith)) _ gathered.gather-sets.ensures.grown.outside
+    let on_b = rw (not-false other.plant2.result last.if3.left) at other.plant2.ensures in
+    shelf-apart on_b.shelf (Halves.before (omega arith)) _ gathered.gather-sets.ensures.grown.outside
     gathered.gather-sets.kept.0
 
 same-length-8 : tie.Need-same-length-8

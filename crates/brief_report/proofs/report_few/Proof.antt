@@ -5,7 +5,7 @@ use native.Mathlib.Omega.{arith}
 use lib.ListN.{length-take}
 use borrow.Author.Rules.{rules}
 use Rattle.rows.proofs.TableRows.{rows-length}
-use Rattle.brief_report.specs.Few.{fewRows}
+use Rattle.brief_report.specs.Few.{few_rows}
 use Rattle.brief_report.proofs.Trying.{rows-room, report-few}
 use Rattle.brief_report.proofs.report_few.Statement.{statement}
 use Rattle.brief_report.proofs.report_few.Tie as tie
@@ -35,21 +35,21 @@ enum-known-n : tie.Need-enum-known-n
 enum-known-n c = search rules
 
 mul-table : tie.Need-overflow-mul-table
-mul-table c = let few : c.before.n.given.0.0 ≤ fewRows = search (rules, rows-room fewRows) in omega arith
+mul-table c = let few : c.before.n.given.0.0 ≤ few_rows = search (rules, rows-room few_rows) in omega arith
 
 array-share-prefix-table : tie.Need-array-share-prefix-table
 array-share-prefix-table c =
-    let few : c.before.n.given.0.0 ≤ fewRows = search (rules, rows-room fewRows) in omega arith
+    let few : c.before.n.given.0.0 ≤ few_rows = search (rules, rows-room few_rows) in omega arith
 
 slice-aggregate-print-table : tie.Need-slice-aggregate-print-table
 slice-aggregate-print-table c =
-    let few : c.before.before.n.given.0.0 ≤ fewRows = search (rules, rows-room fewRows) in
+    let few : c.before.before.n.given.0.0 ≤ few_rows = search (rules, rows-room few_rows) in
     simp length-take (omega arith)
 
 print-table-requires : tie.Need-print-table-requires
 print-table-requires c κs =
     let lent : tie.After-n = search in
-    let few : lent.n.given.0.0 ≤ fewRows = search (rules, rows-room fewRows) in
+    let few : lent.n.given.0.0 ≤ few_rows = search (rules, rows-room few_rows) in
     simp (rows-length, length-take) (omega arith)
 
 returns-2 : tie.Need-returns-2

@@ -4,7 +4,7 @@ use Prim.Native.Nat.{◌-◌}
 use native.Mathlib.Omega.{arith}
 use lib.ListN.{length}
 use borrow.Author.Rules.{rules}
-use Rattle.refinement.specs.Match.{between, carryTo}
+use Rattle.refinement.specs.Match.{between, carry_to}
 use Rattle.refinement.proofs.Geometry.{carry-room}
 use Rattle.carrying_all.proofs.Loops.{Writing, writing_start, writing-next, writing_step, writing-end}
 use Rattle.carrying_all.proofs.carry_each.Statement.{statement}
@@ -12,7 +12,7 @@ use Rattle.carrying_all.proofs.carry_each.Tie as tie
 
 abbrev invariant-loop : tie.invariant-loop
 invariant-loop way positions carried₀ k₀ carried k =
-    Writing (between way.from way.from_right) (carryTo way.reversed way.from way.to way.to_right)
+    Writing (between way.from way.from_right) (carry_to way.reversed way.from way.to way.to_right)
     positions carried₀ carried k
 
 abbrev decreases-loop : tie.decreases-loop

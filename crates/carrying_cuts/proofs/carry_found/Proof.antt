@@ -3,7 +3,7 @@ use Prim.Native.Nat.{◌-◌}
 use mathlib.Core.Path.{sym, ◌∙◌}
 use native.Mathlib.Omega.{arith}
 use lib.ListN as List
-use Rattle.refining.specs.Columns.{columnsOf}
+use Rattle.refining.specs.Columns.{columns_of}
 use Rattle.refining.proofs.RightEnds.{facing}
 use Rattle.carrying_cuts.proofs.Passing.{Passed, pass-start, pass_step, pass-full, pass-excess, pass-end}
 use Rattle.carrying_cuts.proofs.Passing.{pass-ready, pass-run, pass-ends, pass-over, pass-none}
@@ -13,7 +13,7 @@ use Rattle.carrying_cuts.proofs.carry_found.Tie as tie
 
 abbrev invariant-loop : tie.invariant-loop
 invariant-loop lefts rights other-lefts other-rights reversed work₀ from hits most ended low high set₀ count₀ k₀ work set count k =
-    Passed (columnsOf lefts rights other-lefts other-rights reversed) work₀ from set₀ hits most work set count k
+    Passed (columns_of lefts rights other-lefts other-rights reversed) work₀ from set₀ hits most work set count k
 
 abbrev decreases-loop : tie.decreases-loop
 decreases-loop lefts rights other-lefts other-rights reversed work₀ from hits most ended low high set₀ count₀ k₀ work set count k =
@@ -37,7 +37,7 @@ lowest-found-requires : tie.Need-lowest-found-requires invariant-loop decreases-
 lowest-found-requires c κs =
     let start : tie.Start invariant-loop decreases-loop = search in
     let some = c.before.before.None-found.ensures.unless c.before.if1.false in
-    record { good = start.pre.1.0.from-good; run = start.pre.1.1.0; some = some }
+    record { good = start.pre.1.0.from_good; run = start.pre.1.1.0; some = some }
 
 highest-found-requires : tie.Need-highest-found-requires invariant-loop decreases-loop
 highest-found-requires c κs = search rules
@@ -50,7 +50,7 @@ loop-holds c =
     let low : tie.After-lowest-found invariant-loop decreases-loop = search in
     let start : tie.Start invariant-loop decreases-loop = search in
     pass-over start.pre.1.0 (pass-start start.pre.1.0 start.pre.1.1.1.0) low.lowest-found.ensures
-    c.before.highest-found.ensures start.pre.0.from-length c.next-near.ensures
+    c.before.highest-found.ensures start.pre.0.from_length c.next-near.ensures
 
 mul-carry-match : tie.Need-overflow-mul-carry-match invariant-loop decreases-loop
 mul-carry-match c = search rules
@@ -136,7 +136,7 @@ next-near-requires-2 c κs =
     let in-loop : tie.In-loop invariant-loop decreases-loop = search in
     let test : tie.After-none-found invariant-loop decreases-loop = search in
     let start : tie.Start invariant-loop decreases-loop = search in
-    (start.pre.0.from-length ∙ sym start.pre.0.from-right-length, search rules)
+    (start.pre.0.from_length ∙ sym start.pre.0.from_right_length, search rules)
 
 loop-less : tie.Need-loop-smaller invariant-loop decreases-loop
 loop-less c =
@@ -155,7 +155,7 @@ loop-again c =
     let held = rw counted.h.given.1 at called.carry-match.ensures in
     let passed = pass_step start.pre.1.0 in-loop.before.loop.inv (search rules) (search rules) held in
     pass-over start.pre.1.0 passed low.lowest-found.ensures high.highest-found.ensures
-    start.pre.0.from-length c.next-near2.ensures
+    start.pre.0.from_length c.next-near2.ensures
 
 same-length-3 : tie.Need-same-length-3 invariant-loop decreases-loop
 same-length-3 c = search rules

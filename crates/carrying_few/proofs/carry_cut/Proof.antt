@@ -2,7 +2,7 @@
 -- Assumes nothing.
 use Prim.Native.Nat.{◌-◌}
 use native.Mathlib.Omega.{arith}
-use Rattle.refining.specs.Columns.{columnsOf}
+use Rattle.refining.specs.Columns.{columns_of}
 use Rattle.carrying_few.proofs.Placing.{PlacesPassed, places-start, places-step, places-end}
 use Rattle.carrying_few.proofs.Placing.{place-full, place-excess}
 use borrow.Author.Rules.{rules}
@@ -10,11 +10,11 @@ use Rattle.carrying_few.proofs.carry_cut.Statement.{statement}
 use Rattle.carrying_few.proofs.carry_cut.Tie as tie
 
 abbrev invariant-loop : tie.invariant-loop
-invariant-loop lefts rights to-lefts to-rights ways index work₀ cut hits most n set₀ count₀ k₀ work set count k =
-    PlacesPassed (columnsOf lefts rights to-lefts to-rights ways) index work₀ set₀ cut hits most work set count k
+invariant-loop lefts rights to_lefts to_rights ways index work₀ cut hits most n set₀ count₀ k₀ work set count k =
+    PlacesPassed (columns_of lefts rights to_lefts to_rights ways) index work₀ set₀ cut hits most work set count k
 
 abbrev decreases-loop : tie.decreases-loop
-decreases-loop lefts rights to-lefts to-rights ways index work₀ cut hits most n set₀ count₀ k₀ work set count k = n - k
+decreases-loop lefts rights to_lefts to_rights ways index work₀ cut hits most n set₀ count₀ k₀ work set count k = n - k
 
 -- the start, from the loop
 start_of : tie.In-loop invariant-loop decreases-loop → tie.Start invariant-loop decreases-loop
@@ -50,7 +50,7 @@ carry-over-requires c κs =
     let loop = in-loop.before.loop in
     let pre = start.pre in
     let below = pre.1.0.order.below loop.k in-loop.loop-test.taken in
-    (pre.0, (omega (arith, below, pre.0.from-length), (loop.inv.stored.good, loop.inv.few)))
+    (pre.0, (omega (arith, below, pre.0.from_length), (loop.inv.stored.good, loop.inv.few)))
 
 enum-known-h : tie.Need-enum-known-h invariant-loop decreases-loop
 enum-known-h c = search rules

@@ -1,18 +1,18 @@
 -- `carry_few` meets its contract. The loop keeps `CutsPassed`; its measure is what is left of the run. Assumes nothing.
 use Prim.Native.Nat.{◌-◌}
 use borrow.Author.Rules.{rules}
-use Rattle.refining.specs.Columns.{columnsOf}
+use Rattle.refining.specs.Columns.{columns_of}
 use Rattle.carrying_few.proofs.CutByCut.{CutsPassed, cuts-start, cuts-good, cuts-place, cuts-step, cuts-full}
 use Rattle.carrying_few.proofs.CutByCut.{cuts-excess, cuts-end}
 use Rattle.carrying_few.proofs.carry_few.Statement.{statement}
 use Rattle.carrying_few.proofs.carry_few.Tie as tie
 
 abbrev invariant-loop : tie.invariant-loop
-invariant-loop lefts rights to-lefts to-rights ways index work₀ from hits most end set₀ count₀ at₀ work set count at =
-    CutsPassed (columnsOf lefts rights to-lefts to-rights ways) work₀ from set₀ hits most end work set count at
+invariant-loop lefts rights to_lefts to_rights ways index work₀ from hits most end set₀ count₀ at₀ work set count at =
+    CutsPassed (columns_of lefts rights to_lefts to_rights ways) work₀ from set₀ hits most end work set count at
 
 abbrev decreases-loop : tie.decreases-loop
-decreases-loop lefts rights to-lefts to-rights ways index work₀ from hits most end set₀ count₀ at₀ work set count at =
+decreases-loop lefts rights to_lefts to_rights ways index work₀ from hits most end set₀ count₀ at₀ work set count at =
     end - at
 
 -- the start, from the loop

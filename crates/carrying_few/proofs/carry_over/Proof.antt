@@ -4,7 +4,7 @@ use native.Mathlib.Omega.{arith}
 use borrow.Author.Rules.{rules}
 use borrow.Author.Tests.{not-true, not-false}
 use Rattle.refinement.proofs.Geometry.{carry-room}
-use Rattle.refining.specs.Columns.{Columns, columnsOf, fromAt, fromRightAt, to_at, toRightAt}
+use Rattle.refining.specs.Columns.{Columns, columns_of, from_at, from_right_at, to_at, to_right_at}
 use Rattle.refining.proofs.RightEnds.{facing}
 use Rattle.carrying_few.proofs.OneCut.{over-missed, over-held, over-full, over-excess}
 use Rattle.carrying_few.proofs.carry_over.Statement.{statement}
@@ -15,10 +15,10 @@ start_of : tie.Else1 → tie.Start
 start_of test = search
 
 -- the columns that the slices hold
-abbrev columns_of : tie.Start → Columns
-columns_of start =
+abbrev the_columns : tie.Start → Columns
+the_columns start =
     let a = start.args in
-    columnsOf a.lefts.now a.rights.now a.other-lefts.now a.other-rights.now a.reversed.now
+    columns_of a.lefts.now a.rights.now a.other-lefts.now a.other-rights.now a.reversed.now
 
 mul-spans : tie.Need-overflow-mul-spans
 mul-spans c = search rules
@@ -40,7 +40,7 @@ returns c =
     let start : tie.Start = search in
     let a = start.args in
     let spans = c.before.spans in
-    over-missed (columns_of start) a.m a.cut a.hits start.pre.1.1.0
+    over-missed (the_columns start) a.m a.cut a.hits start.pre.1.1.0
     (sym spans.ensures.0 ∙ not-true spans.result c.if1.true) start.pre.1.1.1
 
 returns-2 : tie.Need-returns-2
@@ -49,7 +49,7 @@ returns-2 c =
     let test : tie.Else1 = search in
     let a = start.args in
     let spans = test.before.spans in
-    over-excess (columns_of start) a.m a.cut
+    over-excess (the_columns start) a.m a.cut
     (sym spans.ensures.0 ∙ not-false spans.result test.if1.left) a.hits
     (omega (arith, c.if2.true))
 
@@ -80,8 +80,8 @@ carry-requires c κs =
     let test : tie.Else1 = search in
     let a = start.args in
     let spans = test.before.spans in
-    let columns = columns_of start in
-    carry-room (fromAt columns a.m) (fromRightAt columns a.m) (to_at columns a.m) (toRightAt columns a.m)
+    let columns = the_columns start in
+    carry-room (from_at columns a.m) (from_right_at columns a.m) (to_at columns a.m) (to_right_at columns a.m)
     a.cut (facing start.pre.0 start.pre.1.0)
     (sym spans.ensures.0 ∙ not-false spans.result test.if1.left)
 
@@ -114,7 +114,7 @@ returns-3 c =
     let a = start.args in
     let spans = test.before.spans in
     let added = rw c.before.s.given.1 at called.add.ensures in
-    over-held (columns_of start) a.m a.cut
+    over-held (the_columns start) a.m a.cut
     (sym spans.ensures.0 ∙ not-false spans.result test.if1.left) a.hits carried.carry.ensures
     (omega (arith, fewer.if2.left, start.pre.1.1.1)) added
 
@@ -131,7 +131,7 @@ returns-4 c =
     let a = start.args in
     let spans = test.before.spans in
     let full = rw c.before.s2.given.1 at called.add.ensures in
-    over-full (columns_of start) a.m a.cut
+    over-full (the_columns start) a.m a.cut
     (sym spans.ensures.0 ∙ not-false spans.result test.if1.left) carried.carry.ensures full
 
 pub carry-over-spec : {M : Type 1} → statement M

@@ -5,7 +5,7 @@ use mathlib.Core.Path.{sym, ◌∙◌}
 use mathlib.Core.Logic.{inl, inr}
 use lib.ListN as List
 use Rattle.cut_set.specs.Store.{Found}
-use Rattle.refining.specs.Columns.{columnsOf}
+use Rattle.refining.specs.Columns.{columns_of}
 use Rattle.carrying_cuts.specs.Worker.{Images}
 use Rattle.shelf.proofs.Filling.{Going, left, going_start, going_less, going_step, gone-jammed}
 use Rattle.carrying_group.proofs.Going.{going-clear, going-ends, going-crammed, carried-all, gone-excess}
@@ -17,7 +17,7 @@ use Rattle.carrying_group.proofs.carry_group.Tie as tie
 abbrev invariant-loop : tie.invariant-loop
 invariant-loop lefts rights other-lefts other-rights reversed index work₀ book₀ from sets lo hi j hits most ended work book =
     Going
-    (Images (columnsOf lefts rights other-lefts other-rights reversed) (List.length reversed) (Found work₀ from))
+    (Images (columns_of lefts rights other-lefts other-rights reversed) (List.length reversed) (Found work₀ from))
     sets lo hi j work₀ book₀ work book
 
 abbrev decreases-loop : tie.decreases-loop

@@ -1,8 +1,8 @@
 -- `carry_lane` meets its contract. The invariant: Going, the groups before g are done. The measure: the groups that are
 -- left. Assumes nothing.
 use Prim.Native.Nat.{◌-◌}
-use Rattle.refining.specs.Columns.{columnsOf}
-use Rattle.tracks.specs.Groups.{laneBy}
+use Rattle.refining.specs.Columns.{columns_of}
+use Rattle.tracks.specs.Groups.{lane_by}
 use Rattle.carrying_lane.proofs.Lanes.{made-ready, Going, going_start, going-ready, going-ends}
 use Rattle.carrying_lane.proofs.Lanes.{going_step, going-not, going_end}
 use borrow.Author.Rules.{rules}
@@ -12,7 +12,7 @@ use Rattle.carrying_lane.proofs.carry_lane.Tie as tie
 abbrev invariant-loop : tie.invariant-loop
 invariant-loop lefts rights other-lefts other-rights reversed index groups from-book work₀ book₀ count from_at to_at sets lo
     hi hits most ended total₀ g₀ work book total g =
-    Going (laneBy (columnsOf lefts rights other-lefts other-rights reversed) groups count from_at to_at) groups
+    Going (lane_by (columns_of lefts rights other-lefts other-rights reversed) groups count from_at to_at) groups
     from-book count sets lo hi work₀ book₀ hits most g work book total
 
 abbrev decreases-loop : tie.decreases-loop

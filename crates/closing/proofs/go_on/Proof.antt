@@ -1,7 +1,7 @@
 -- `go_on` meets its contract: `drive` does all, with indexes of the groups or with none. Assumes nothing.
 use native.Mathlib.Omega.{arith}
 use mathlib.Core.Path.{sym, ◌∙◌}
-use Rattle.tracks.specs.Tracks.{marksOf}
+use Rattle.tracks.specs.Tracks.{marks_of}
 use Rattle.beginning.proofs.Beginning.{lent-a, lent-b, none-usable, given_by}
 use borrow.Author.Rules.{rules}
 use Rattle.closing.proofs.go_on.Statement.{statement}
@@ -39,7 +39,7 @@ index-groups-requires c κs =
     let side = lent-a lent in (
       side.same_length,
       (
-        omega (arith, lent.fit.from-length, start.pre.1.0),
+        omega (arith, lent.fit.from_length, start.pre.1.0),
         (record { sets = start.args.sets; groups = side.groups }, omega (arith, roomy.0, at_room.index-room.ensures)),
       ),
     )
@@ -54,10 +54,10 @@ index-groups-requires-2 c κs =
     let side = lent-b lent in (
       side.same_length,
       (
-        omega (arith, lent.fit.to-length, start.pre.1.0),
+        omega (arith, lent.fit.to_length, start.pre.1.0),
         (
           record { sets = start.args.sets; groups = side.groups },
-          rw (lent.fit.to-length ∙ sym lent.fit.from-length) (omega (arith, roomy.1, at_room.index-room.ensures)),
+          rw (lent.fit.to_length ∙ sym lent.fit.from_length) (omega (arith, roomy.1, at_room.index-room.ensures)),
         ),
       ),
     )
@@ -70,7 +70,7 @@ drive-requires c κs =
     let pre = start.pre in
     let a = start.args in (
       given_by pre.0 pre.1.0 pre.1.1.0 made-a.index-groups.ensures made-b.index-groups2.ensures,
-      (marksOf a.mark-tracks.now a.mark-positions.now, pre.1.1.1),
+      (marks_of a.mark-tracks.now a.mark-positions.now, pre.1.1.1),
     )
 
 same_length : tie.Need-same-length
@@ -94,7 +94,7 @@ returns c =
     let driven : tie.After-drive = search in
     let start = start_of (asked_of (made_of (both_of driven))) in
     let a = start.args in
-    driven.drive.ensures (marksOf a.mark-tracks.now a.mark-positions.now) start.pre.1.1.1
+    driven.drive.ensures (marks_of a.mark-tracks.now a.mark-positions.now) start.pre.1.1.1
 
 slice-aggregate-drive : tie.Need-slice-aggregate-drive
 slice-aggregate-drive c = search rules
@@ -107,9 +107,9 @@ drive-requires-2 c κs =
     let start : tie.Start = search in
     let pre = start.pre in
     let a = start.args in (
-      given_by pre.0 pre.1.0 pre.1.1.0 (none-usable a.groups.now a.count a.left-a.now a.right-a.now)
-          (none-usable a.groups.now a.count a.left-b.now a.right-b.now),
-      (marksOf a.mark-tracks.now a.mark-positions.now, pre.1.1.1),
+      given_by pre.0 pre.1.0 pre.1.1.0 (none-usable a.groups.now a.count a.left_a.now a.right_a.now)
+          (none-usable a.groups.now a.count a.left_b.now a.right_b.now),
+      (marks_of a.mark-tracks.now a.mark-positions.now, pre.1.1.1),
     )
 
 same-length-6 : tie.Need-same-length-6
@@ -127,7 +127,7 @@ returns-2 c =
     let driven : tie.After-drive2 = search in
     let start = start_of (asked-for driven) in
     let a = start.args in
-    driven.drive2.ensures (marksOf a.mark-tracks.now a.mark-positions.now) start.pre.1.1.1
+    driven.drive2.ensures (marks_of a.mark-tracks.now a.mark-positions.now) start.pre.1.1.1
 
 pub go-on-spec : {M : Type 1} → statement M
 go-on-spec =

@@ -2,7 +2,7 @@
 -- match. Assumes nothing.
 use borrow.Author.Rules.{rules}
 use Rattle.script.proofs.Tests.{tests}
-use Rattle.commands.proofs.Codes.{match-command, mark-command, end-command, unknown-command}
+use Rattle.commands.proofs.Codes.{match-command, mark-command, end-command, unknown_command}
 use Rattle.commands.proofs.read_command.Statement.{statement}
 use Rattle.commands.proofs.read_command.Tie as tie
 
@@ -43,7 +43,7 @@ returns-5 : tie.Need-returns-5
 returns-5 c = search (rules, end-command)
 
 returns-6 : tie.Need-returns-6
-returns-6 c = search (rules, unknown-command)
+returns-6 c = search (rules, unknown_command)
 
 pub read-command-spec : {M : Type 1} → statement M
 read-command-spec =

@@ -3,14 +3,14 @@ use Prim.Native.Nat.{◌-◌}
 use mathlib.Core.Bool.{true≢false}
 use mathlib.Core.Path.{sym}
 use lib.ListN as List
-use Rattle.cut_set.specs.Store.{foundIn}
+use Rattle.cut_set.specs.Store.{found_in}
 use Rattle.counting_hits.proofs.Exceeding.{Spent, spend-start, spend-step, spend-over}
 use borrow.Author.Rules.{rules}
 use Rattle.counting_hits.proofs.exceed.Statement.{statement}
 use Rattle.counting_hits.proofs.exceed.Tie as tie
 
 abbrev invariant-loop : tie.invariant-loop
-invariant-loop lefts rights work from step room free₀ k₀ free k = Spent lefts rights (foundIn work from) room free k
+invariant-loop lefts rights work from step room free₀ k₀ free k = Spent lefts rights (found_in work from) room free k
 
 abbrev decreases-loop : tie.decreases-loop
 decreases-loop lefts rights work from step room free₀ k₀ free k = List.length lefts - k

@@ -5,7 +5,7 @@ use mathlib.Core.Path.{◌≡◌}
 use native.Mathlib.Omega.{arith}
 use borrow.Author.Rules.{rules}
 use Rattle.rows.specs.Rows.{rows_of}
-use Rattle.table.specs.Tally.{isCovered, tally}
+use Rattle.table.specs.Tally.{is_covered, tally}
 use Rattle.row_stretches.specs.Passes.{end}
 use Rattle.covered_letters.proofs.Counting.{counted_next, counted-fits, cover-counted}
 use Rattle.covered_letters.proofs.count_on.Statement.{statement}
@@ -13,7 +13,7 @@ use Rattle.covered_letters.proofs.count_on.Tie as tie
 
 abbrev invariant-loop : tie.invariant-loop
 invariant-loop table side letters₀ from₀ letters from =
-    (from ≤ end) × (letters ≡ tally (isCovered side (rows_of table)) from)
+    (from ≤ end) × (letters ≡ tally (is_covered side (rows_of table)) from)
 
 abbrev decreases-loop : tie.decreases-loop
 decreases-loop table side letters₀ from₀ letters from = end - from

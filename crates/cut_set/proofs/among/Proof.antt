@@ -36,9 +36,9 @@ returns-4 c =
     let at-short : tie.After-has = search in
     let at-middle : tie.After-has2 = search in
     let at_long : tie.After-has3 = search in
-    answers-later start.pre.finished-long.order (at_long.has3.ensures.unless (search rules))
-    (answers-later start.pre.finished-middle.order (at-middle.has2.ensures.unless (search rules))
-    (answers-later start.pre.finished-short.order (at-short.has.ensures.unless (search rules)) c.has4.ensures))
+    answers-later start.pre.finished_long.order (at_long.has3.ensures.unless (search rules))
+    (answers-later start.pre.finished_middle.order (at-middle.has2.ensures.unless (search rules))
+    (answers-later start.pre.finished_short.order (at-short.has.ensures.unless (search rules)) c.has4.ensures))
 
 pub among-spec : {M : Type 1} → statement M
 among-spec =

@@ -11,7 +11,7 @@ without-requires-2 : tie.Need-without-requires-2
 without-requires-2 c κs =
     let start : tie.Start = search in
     let at-short : tie.After-without = search in
-    sieve-siftable (sieve-first at-short.without.ensures) (search rules) start.pre.standing.finished-middle
+    sieve-siftable (sieve-first at-short.without.ensures) (search rules) start.pre.standing.finished_middle
     start.pre.added (search rules)
 
 without-requires-3 : tie.Need-without-requires-3
@@ -20,7 +20,7 @@ without-requires-3 c κs =
     let at-short : tie.After-without = search in
     let at-middle : tie.After-without2 = search in
     sieve-siftable (sieve-then (sieve-first at-short.without.ensures) (search rules) at-middle.without2.ensures)
-    (search rules) start.pre.standing.finished-long start.pre.added (search rules)
+    (search rules) start.pre.standing.finished_long start.pre.added (search rules)
 
 without-requires-4 : tie.Need-without-requires-4
 without-requires-4 c κs =
@@ -31,7 +31,7 @@ without-requires-4 c κs =
     sieve-siftable
     (sieve-then (sieve-then (sieve-first at-short.without.ensures) (search rules) at-middle.without2.ensures)
     (search rules) at_long.without3.ensures)
-    (search rules) start.pre.standing.found-run start.pre.added (search rules)
+    (search rules) start.pre.standing.found_run start.pre.added (search rules)
 
 same_length : tie.Need-same-length
 same_length c = search rules

@@ -1,18 +1,18 @@
 -- `drive` meets its contract. The loop keeps `Driving`, what a step promises of its answer, with the marks that it had
 -- at the start. The measure is the number of unused places where a step is due. Assumes nothing.
 use borrow.Author.Rules.{rules}
-use Rattle.refining.specs.Columns.{columnsOf}
+use Rattle.refining.specs.Columns.{columns_of}
 use Rattle.driving.proofs.Drives.{pending, Kept, kept-start, kept_step, step_less}
 use Rattle.driving.proofs.drive.Statement.{statement}
 use Rattle.driving.proofs.drive.Tie as tie
 
 abbrev invariant-loop : tie.invariant-loop
-invariant-loop left-a right-a left-b right-b reversed straight index-a index-b groups work₀ book-a₀ book-b₀ count sets capacity closing₀ work book-a book-b closing =
-    Kept (columnsOf left-a right-a left-b right-b reversed) groups count sets capacity work₀ book-a₀ book-b₀ closing₀ work
+invariant-loop left_a right_a left_b right_b reversed straight index-a index-b groups work₀ book-a₀ book-b₀ count sets capacity closing₀ work book-a book-b closing =
+    Kept (columns_of left_a right_a left_b right_b reversed) groups count sets capacity work₀ book-a₀ book-b₀ closing₀ work
     book-a book-b closing
 
 abbrev decreases-loop : tie.decreases-loop
-decreases-loop left-a right-a left-b right-b reversed straight index-a index-b groups work₀ book-a₀ book-b₀ count sets capacity closing₀ work book-a book-b closing =
+decreases-loop left_a right_a left_b right_b reversed straight index-a index-b groups work₀ book-a₀ book-b₀ count sets capacity closing₀ work book-a book-b closing =
     pending sets capacity book-a book-b closing
 
 loop-holds : tie.Need-loop-init invariant-loop decreases-loop
@@ -26,17 +26,17 @@ enum_told c = search rules
 same_length : tie.Need-same-length invariant-loop decreases-loop
 same_length c =
     let at-loop : tie.At-loop invariant-loop decreases-loop = search in
-    at-loop.loop.inv.same-work
+    at-loop.loop.inv.same_work
 
 same-length-2 : tie.Need-same-length-2 invariant-loop decreases-loop
 same-length-2 c =
     let at-loop : tie.At-loop invariant-loop decreases-loop = search in
-    at-loop.loop.inv.same-a
+    at-loop.loop.inv.same_a
 
 same-length-3 : tie.Need-same-length-3 invariant-loop decreases-loop
 same-length-3 c =
     let at-loop : tie.At-loop invariant-loop decreases-loop = search in
-    at-loop.loop.inv.same-b
+    at-loop.loop.inv.same_b
 
 returns : tie.Need-returns invariant-loop decreases-loop
 returns c =
@@ -49,17 +49,17 @@ enum-told-2 c = search rules
 same-length-4 : tie.Need-same-length-4 invariant-loop decreases-loop
 same-length-4 c =
     let at-loop : tie.At-loop invariant-loop decreases-loop = search in
-    at-loop.loop.inv.same-work
+    at-loop.loop.inv.same_work
 
 same-length-5 : tie.Need-same-length-5 invariant-loop decreases-loop
 same-length-5 c =
     let at-loop : tie.At-loop invariant-loop decreases-loop = search in
-    at-loop.loop.inv.same-a
+    at-loop.loop.inv.same_a
 
 same-length-6 : tie.Need-same-length-6 invariant-loop decreases-loop
 same-length-6 c =
     let at-loop : tie.At-loop invariant-loop decreases-loop = search in
-    at-loop.loop.inv.same-b
+    at-loop.loop.inv.same_b
 
 returns-2 : tie.Need-returns-2 invariant-loop decreases-loop
 returns-2 c =

@@ -1,7 +1,7 @@
 -- `put_carried` meets its contract: the heading, and the answer behind it. Assumes nothing.
 use native.Mathlib.Omega.{arith}
 use Rattle.text.proofs.Stores.{put_then}
-use Rattle.edge_answers.specs.Lines.{carriedText}
+use Rattle.edge_answers.specs.Lines.{carried_text}
 use Rattle.edge_answers.proofs.Putting.{put-answered}
 use borrow.Author.Rules.{rules}
 use Rattle.edge_answers.proofs.put_carried.Statement.{statement}
@@ -38,13 +38,13 @@ same_length : tie.Need-same-length
 same_length c = search rules
 
 returns : tie.Need-returns
-returns c = (search (rules, put-answered carriedText, put_then), omega arith)
+returns c = (search (rules, put-answered carried_text, put_then), omega arith)
 
 same-length-2 : tie.Need-same-length-2
 same-length-2 c = search rules
 
 returns-2 : tie.Need-returns-2
-returns-2 c = (search (rules, put-answered carriedText), omega arith)
+returns-2 c = (search (rules, put-answered carried_text), omega arith)
 
 pub put-carried-spec : {M : Type 1} → statement M
 put-carried-spec =

@@ -1,7 +1,7 @@
 -- `put_refined` meets its contract: the heading, and the answer behind it. Assumes nothing.
 use native.Mathlib.Omega.{arith}
 use Rattle.text.proofs.Stores.{put_then}
-use Rattle.edge_answers.specs.Lines.{refinedText}
+use Rattle.edge_answers.specs.Lines.{refined_text}
 use Rattle.edge_answers.proofs.Putting.{put-answered}
 use borrow.Author.Rules.{rules}
 use Rattle.edge_answers.proofs.put_refined.Statement.{statement}
@@ -41,7 +41,7 @@ same-length-2 : tie.Need-same-length-2
 same-length-2 c = search rules
 
 returns : tie.Need-returns
-returns c = (search (rules, put-answered refinedText, put_then), (omega arith, search rules))
+returns c = (search (rules, put-answered refined_text, put_then), (omega arith, search rules))
 
 same-length-3 : tie.Need-same-length-3
 same-length-3 c = search rules
@@ -50,7 +50,7 @@ same-length-4 : tie.Need-same-length-4
 same-length-4 c = search rules
 
 returns-2 : tie.Need-returns-2
-returns-2 c = (search (rules, put-answered refinedText), (omega arith, search rules))
+returns-2 c = (search (rules, put-answered refined_text), (omega arith, search rules))
 
 pub put-refined-spec : {M : Type 1} → statement M
 put-refined-spec =

@@ -2,10 +2,10 @@
 -- Assumes nothing.
 use mathlib.Core.Path.{ap}
 use native.Mathlib.Omega.{arith}
-use Rattle.text.specs.Decimal.{placesWithin}
+use Rattle.text.specs.Decimal.{places_within}
 use Rattle.text.proofs.Stores.{put_then, put_same}
-use Rattle.edge_answers.specs.Lines.{entry, readLine}
-use Rattle.edge_lines.specs.AllLines.{matchesWord}
+use Rattle.edge_answers.specs.Lines.{entry, read_line}
+use Rattle.edge_lines.specs.AllLines.{matches_word}
 use borrow.Author.Rules.{rules}
 use Rattle.edge_lines.proofs.put_many_lines.Statement.{statement}
 use Rattle.edge_lines.proofs.put_many_lines.Tie as tie
@@ -44,7 +44,7 @@ same_length : tie.Need-same-length
 same_length c = search rules
 
 returns : tie.Need-returns
-unfolding placesWithin
+unfolding places_within
 returns c =
     let last = c.before.before in
     let behind-first = last.before.before in
@@ -56,8 +56,8 @@ returns c =
     let after-most = more.before.before in
     let most = after-most.before in (
       put_then
-          (put_same (ap (readLine (entry matchesWord 2048)) most.put-many.ensures) first.put-read.ensures.0)
-          (put_same (ap (readLine (entry matchesWord 2049)) more.put-many2.ensures) last.put-read2.ensures.0),
+          (put_same (ap (read_line (entry matches_word 2048)) most.put-many.ensures) first.put-read.ensures.0)
+          (put_same (ap (read_line (entry matches_word 2049)) more.put-many2.ensures) last.put-read2.ensures.0),
       omega (arith, first.put-read.ensures.1),
     )
 

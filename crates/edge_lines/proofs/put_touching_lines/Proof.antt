@@ -1,6 +1,6 @@
 -- `put_touching_lines` meets its contract: one line behind the other. Assumes nothing.
 use native.Mathlib.Omega.{arith}
-use Rattle.text.specs.Decimal.{placesWithin}
+use Rattle.text.specs.Decimal.{places_within}
 use Rattle.text.proofs.Stores.{put_then}
 use borrow.Author.Rules.{rules}
 use Rattle.edge_lines.proofs.put_touching_lines.Statement.{statement}
@@ -37,7 +37,7 @@ same_length : tie.Need-same-length
 same_length c = search rules
 
 returns : tie.Need-returns
-unfolding placesWithin
+unfolding places_within
 returns c = (search (rules, put_then), omega arith)
 
 pub put-touching-lines-spec : {M : Type 1} → statement M

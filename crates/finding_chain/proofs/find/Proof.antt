@@ -36,8 +36,8 @@ link-all-requires c κs =
       pre.apart,
       (
         pre.priced,
-        linked-none call.ensures (omega (arith, call.kept.1.0, pre.work-room))
-            (omega (arith, call.kept.1.1.0, pre.score-room)),
+        linked-none call.ensures (omega (arith, call.kept.1.0, pre.work_room))
+            (omega (arith, call.kept.1.1.0, pre.score_room)),
       ),
     )
 
@@ -62,7 +62,7 @@ write-chain-requires c κs =
     let counted : tie.After-row-count = search in
     let linked : tie.After-link-all = search in
     links-lead (told start.pre.apart linked.link-all.ensures) counted.row_count.ensures
-    start.pre.chain-room
+    start.pre.chain_room
 
 points-requires : tie.Need-points-requires
 points-requires c κs =
@@ -74,7 +74,7 @@ points-requires c κs =
       (told start.pre.apart linked.link-all.ensures).there,
       arranged.arrange.kept.1.1.0,
       linked.link-all.kept.1.1.1.1.0,
-      start.pre.score-room,
+      start.pre.score_room,
     )
 
 clear-requires : tie.Need-clear-requires
@@ -104,7 +104,7 @@ returns c =
     let counted : tie.After-row-count = search in
     let start : tie.Start = search in
     chain-found (told start.pre.apart linked.link-all.ensures) counted.row_count.ensures
-    (record { score = scored.points.result; length = written.write-chain.result }) start.pre.chain-room
+    (record { score = scored.points.result; length = written.write-chain.result }) start.pre.chain_room
     written.write-chain.ensures scored.points.ensures
     (one.clear.ensures
     ∙ ap (λ n. replicate n 0) (linked.link-all.kept.1.1.1.0 ∙ arranged.arrange.kept.1.0))

@@ -23,7 +23,7 @@ slice-aggregate-find c =
     let counted : tie.After-row-count = search in
     let n = counted.row_count.result in
     sym (length-take-le (4 * n) start.args.work.now
-    (omega (arith, counted.row_count.ensures, start.pre.work-room)))
+    (omega (arith, counted.row_count.ensures, start.pre.work_room)))
 
 find-requires : tie.Need-find-requires
 find-requires c κs =

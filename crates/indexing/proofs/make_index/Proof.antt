@@ -6,7 +6,7 @@ use mathlib.Core.Path.{◌≡◌, sym}
 use native.Mathlib.Omega.{arith}
 use lib.ListN.{length}
 use lib.Seq.{length-take-le}
-use Rattle.arrangement.specs.Index.{indexRoom}
+use Rattle.arrangement.specs.Index.{index_room}
 use Rattle.indexing.proofs.Listing.{arranged}
 use Rattle.indexing.proofs.Raising.{indexed}
 use borrow.Author.Rules.{rules}
@@ -52,7 +52,7 @@ returns c =
     let start : tie.Start = search in
     let listed : tie.After-list-ends = search in
     let raised : tie.After-raise = search in
-    let room : indexRoom (length start.args.lefts.now) ≤ length raised.raise.last.0 =
+    let room : index_room (length start.args.lefts.now) ≤ length raised.raise.last.0 =
     omega (arith, same_length c, start.pre.1.1) in
     indexed room listed.list-ends.ensures raised.raise.ensures
 

@@ -2,7 +2,7 @@
 use mathlib.Core.Path.{sym, ◌∙◌}
 use borrow.Author.Tests.{lt-leb}
 use borrow.Author.Rules.{rules}
-use Rattle.script.specs.Limits.{mostMarks}
+use Rattle.script.specs.Limits.{most_marks}
 use Rattle.script.proofs.Tests.{tests}
 use Rattle.judging.proofs.judge_mark.Statement.{statement}
 use Rattle.judging.proofs.judge_mark.Tie as tie
@@ -26,13 +26,13 @@ returns-2 : tie.Need-returns-2
 returns-2 c =
     let passed : tie.Else1 = search in
     let judged : tie.After-judge-point = search in
-    rw (lt-leb mostMarks _ passed.if1.left, sym judged.judge-point.ensures ∙ c.enum_told.given.1)
+    rw (lt-leb most_marks _ passed.if1.left, sym judged.judge-point.ensures ∙ c.enum_told.given.1)
 
 returns-3 : tie.Need-returns-3
 returns-3 c =
     let passed : tie.Else1 = search in
     let judged : tie.After-judge-point = search in
-    rw (lt-leb mostMarks _ passed.if1.left, sym judged.judge-point.ensures ∙ c.before.refusal.given.1)
+    rw (lt-leb most_marks _ passed.if1.left, sym judged.judge-point.ensures ∙ c.before.refusal.given.1)
 
 pub judge-mark-spec : {M : Type 1} → statement M
 judge-mark-spec =

@@ -4,15 +4,15 @@ use Prim.Native.Nat.{◌-◌}
 use mathlib.Core.Path.{sym}
 use native.Mathlib.Omega.{arith}
 use borrow.Author.Rules.{rules}
-use Rattle.records.specs.Records.{recordsOf, noRecord}
-use Rattle.records.specs.Writing.{recordJudgement}
+use Rattle.records.specs.Records.{records_of, no_record}
+use Rattle.records.specs.Writing.{record_judgement}
 use Rattle.records.proofs.Lists.{records-length, record-inside}
 use Rattle.judging_records.proofs.Each.{Onward, onward-start, onward-next, onward-ends, fault-found}
 use Rattle.judging_records.proofs.judge_each.Statement.{statement}
 use Rattle.judging_records.proofs.judge_each.Tie as tie
 
 abbrev invariant-loop : tie.invariant-loop
-invariant-loop records p q count k₀ k = Onward (recordJudgement p q) 1 (recordsOf records) count k
+invariant-loop records p q count k₀ k = Onward (record_judgement p q) 1 (records_of records) count k
 
 abbrev decreases-loop : tie.decreases-loop
 decreases-loop records p q count k₀ k = count - k
@@ -37,7 +37,7 @@ returns c =
     let loop : tie.In-loop invariant-loop decreases-loop = search in
     let read : tie.After-record-at invariant-loop decreases-loop = search in
     let judged : tie.After-judge-record invariant-loop decreases-loop = search in
-    fault-found loop.before.loop.inv noRecord loop.loop-test.taken read.record-at.ensures (omega arith)
+    fault-found loop.before.loop.inv no_record loop.loop-test.taken read.record-at.ensures (omega arith)
     judged.judge-record.ensures c.enum_told.given.1
 
 enum-told-2 : tie.Need-enum-told-2 invariant-loop decreases-loop
@@ -54,7 +54,7 @@ loop-again c =
     let loop : tie.In-loop invariant-loop decreases-loop = search in
     let read : tie.After-record-at invariant-loop decreases-loop = search in
     let judged : tie.After-judge-record invariant-loop decreases-loop = search in
-    onward-next loop.before.loop.inv noRecord loop.loop-test.taken read.record-at.ensures (omega arith)
+    onward-next loop.before.loop.inv no_record loop.loop-test.taken read.record-at.ensures (omega arith)
     judged.judge-record.ensures c.enum-told2.given.1
 
 returns-2 : tie.Need-returns-2 invariant-loop decreases-loop

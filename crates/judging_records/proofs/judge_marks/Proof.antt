@@ -4,15 +4,15 @@ use Prim.Native.Nat.{◌+◌, ◌-◌}
 use mathlib.Core.Path.{sym}
 use native.Mathlib.Omega.{arith}
 use borrow.Author.Rules.{rules}
-use Rattle.script.specs.Steps.{markJudgement}
-use Rattle.records.specs.Records.{points_of, noMark}
+use Rattle.script.specs.Steps.{mark_judgement}
+use Rattle.records.specs.Records.{points_of, no_mark}
 use Rattle.records.proofs.Lists.{points-length, point-held, point-inside}
 use Rattle.judging_records.proofs.Each.{Onward, onward-start, onward-next, onward-ends, fault-found}
 use Rattle.judging_records.proofs.judge_marks.Statement.{statement}
 use Rattle.judging_records.proofs.judge_marks.Tie as tie
 
 abbrev invariant-loop : tie.invariant-loop
-invariant-loop marks p q count all n₀ n = Onward (markJudgement p q) (count + 1) (points_of marks) all n
+invariant-loop marks p q count all n₀ n = Onward (mark_judgement p q) (count + 1) (points_of marks) all n
 
 abbrev decreases-loop : tie.decreases-loop
 decreases-loop marks p q count all n₀ n = all - n
@@ -56,7 +56,7 @@ returns c =
     let judged : tie.After-judge-point invariant-loop decreases-loop = search in
     let inv = loop.before.loop.inv in
     let below = loop.loop-test.taken in
-    fault-found inv noMark below (sym (point-held _ _ (point-inside _ inv.counted below))) (omega arith)
+    fault-found inv no_mark below (sym (point-held _ _ (point-inside _ inv.counted below))) (omega arith)
     judged.judge-point.ensures c.enum_told.given.1
 
 enum-told-2 : tie.Need-enum-told-2 invariant-loop decreases-loop
@@ -74,7 +74,7 @@ loop-again c =
     let judged : tie.After-judge-point invariant-loop decreases-loop = search in
     let inv = loop.before.loop.inv in
     let below = loop.loop-test.taken in
-    onward-next inv noMark below (sym (point-held _ _ (point-inside _ inv.counted below))) (omega arith)
+    onward-next inv no_mark below (sym (point-held _ _ (point-inside _ inv.counted below))) (omega arith)
     judged.judge-point.ensures c.enum-told2.given.1
 
 returns-2 : tie.Need-returns-2 invariant-loop decreases-loop

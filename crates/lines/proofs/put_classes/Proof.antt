@@ -7,7 +7,7 @@ use lib.ListN.{length, take}
 use lib.Seq.{length-sets, length-take-le}
 use borrow.Author.Rules.{rules}
 use Rattle.text.specs.Putting.{Put}
-use Rattle.reporting.specs.Lines.{classLines}
+use Rattle.reporting.specs.Lines.{class_lines}
 use Rattle.reporting.proofs.Bounds.{class-lines-short}
 use Rattle.row_lines.proofs.PuttingRows.{put-none}
 use Rattle.lines.proofs.Putting.{classes-put-more, classes-put-all}
@@ -16,13 +16,13 @@ use Rattle.lines.proofs.put_classes.Tie as tie
 
 abbrev invariant-loop : tie.invariant-loop
 invariant-loop text₀ at counts next₀ class₀ text next class =
-    (class ≤ length counts) × Put (classLines 0 (take class counts)) text₀ at text next
+    (class ≤ length counts) × Put (class_lines 0 (take class counts)) text₀ at text next
 
 abbrev decreases-loop : tie.decreases-loop
 decreases-loop text₀ at counts next₀ class₀ text next class = length counts - class
 
 loop-holds : tie.Need-loop-init invariant-loop decreases-loop
-unfolding classLines
+unfolding class_lines
 loop-holds c = search (rules, put-none)
 
 mul-put-class : tie.Need-overflow-mul-put-class invariant-loop decreases-loop

@@ -4,7 +4,7 @@ use native.Mathlib.Omega.{arith}
 use lib.ListN.{length}
 use borrow.Author.Rules.{rules}
 use Rattle.rows.specs.Rows.{rows_of}
-use Rattle.table.specs.Summing.{classCount}
+use Rattle.table.specs.Summing.{class_count}
 use Rattle.table.specs.declared.summing.Summary.{Summary}
 use Rattle.table.proofs.Sums.{classes-length}
 use Rattle.lines.proofs.Putting.{put-parts}
@@ -35,7 +35,7 @@ put-classes-requires c κs =
     let after-start = lengths-put.before.before in
     let start = after-start.before.before in
     let all = ap (λ (s : Summary). length s.classes) start.requires.0 in
-    omega (arith, all, classes-length classCount 0 (rows_of start.args.table.now))
+    omega (arith, all, classes-length class_count 0 (rows_of start.args.table.now))
 
 same_length : tie.Need-same-length
 same_length c = search rules

@@ -34,13 +34,13 @@ cast-place : tie.Need-overflow-cast-place
 unfolding start_of
 cast-place c =
     let counted : tie.After-row-count = search in
-    omega (arith, named counted, counted.row_count.ensures, (start_of counted).pre.1.1.linked.work-room)
+    omega (arith, named counted, counted.row_count.ensures, (start_of counted).pre.1.1.linked.work_room)
 
 add-place : tie.Need-overflow-add-place
 unfolding start_of
 add-place c =
     let counted : tie.After-row-count = search in
-    omega (arith, named counted, counted.row_count.ensures, (start_of counted).pre.1.1.linked.work-room)
+    omega (arith, named counted, counted.row_count.ensures, (start_of counted).pre.1.1.linked.work_room)
 
 sub-place : tie.Need-overflow-sub-place
 sub-place c = search rules
@@ -49,13 +49,13 @@ mul-place : tie.Need-overflow-mul-place
 unfolding start_of
 mul-place c =
     let counted : tie.After-row-count = search in
-    omega (arith, named counted, counted.row_count.ensures, (start_of counted).pre.1.1.linked.work-room)
+    omega (arith, named counted, counted.row_count.ensures, (start_of counted).pre.1.1.linked.work_room)
 
 shared-slice-read-place : tie.Need-shared-slice-read-place
 unfolding start_of
 shared-slice-read-place c =
     let counted : tie.After-row-count = search in
-    omega (arith, named counted, counted.row_count.ensures, (start_of counted).pre.1.1.linked.work-room)
+    omega (arith, named counted, counted.row_count.ensures, (start_of counted).pre.1.1.linked.work_room)
 
 mul-best-behind : tie.Need-overflow-mul-best-behind
 mul-best-behind c = search rules

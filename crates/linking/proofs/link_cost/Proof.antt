@@ -34,7 +34,7 @@ add-skipped-a : tie.Need-overflow-add-skipped-a
 add-skipped-a c = search rules
 
 sub-skipped-a : tie.Need-overflow-sub-skipped-a
-sub-skipped-a c = let start : tie.Start = search in start.pre.0.at-or-past A
+sub-skipped-a c = let start : tie.Start = search in start.pre.0.at_or_past A
 
 cast-skipped-b : tie.Need-overflow-cast-skipped-b
 cast-skipped-b c = search rules
@@ -46,7 +46,7 @@ add-skipped-b : tie.Need-overflow-add-skipped-b
 add-skipped-b c = search rules
 
 sub-skipped-b : tie.Need-overflow-sub-skipped-b
-sub-skipped-b c = let start : tie.Start = search in start.pre.0.at-or-past B
+sub-skipped-b c = let start : tie.Start = search in start.pre.0.at_or_past B
 
 add-result : tie.Need-overflow-add-result
 add-result c = search rules

@@ -27,7 +27,7 @@ foremost-requires c κs =
     let size = written.put-link.kept.1.1.1.1.0 in
     let begun = first-scored pre.0 pre.1.1.0 pre.1.1.1 looked.find-link.ensures in
     let row = direct pre.0 pre.1.1.0 pre.1.1.1 looked.find-link.ensures in
-    (omega (arith, size, begun), (row.from_one, omega (arith, size, row.to_last, pre.1.1.0.score-room)))
+    (omega (arith, size, begun), (row.from_one, omega (arith, size, row.to_last, pre.1.1.0.score_room)))
 
 same_length : tie.Need-same-length
 same_length c = search rules

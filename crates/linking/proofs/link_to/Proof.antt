@@ -6,7 +6,7 @@ use native.Mathlib.Omega.{arith}
 use borrow.Author.Rules.{rules}
 use borrow.Author.Tests.{ltb-true, ltb-false}
 use Rattle.rows.specs.declared.Row.{Row}
-use Rattle.weighing.specs.Weighing.{scoreAt}
+use Rattle.weighing.specs.Weighing.{score_at}
 use Rattle.linking.proofs.Costs.{made_none, made-lost, made-gained}
 use Rattle.linking.proofs.link_to.Statement.{statement}
 use Rattle.linking.proofs.link_to.Tie as tie
@@ -20,7 +20,7 @@ cost-of c = search
 
 -- the link gains
 gained : (c : tie.Then2) → let a = (start_of c.before).args in
-    (cost-of c.before).link-cost.result < scoreAt a.scores.now a.next
+    (cost-of c.before).link-cost.result < score_at a.scores.now a.next
 unfolding start_of cost-of
 gained c = ltb-true _ _ (sym c.before.gains.ensures ∙ c.if2.true)
 

@@ -9,7 +9,7 @@ use borrow.Author.Rules.{rules}
 use borrow.Author.Tests.{eq-eqb, ne_eqb}
 use Rattle.table.proofs.Runs.{leading-more, leading-stop, leading-none}
 use Rattle.rows.specs.Rows.{rows_of}
-use Rattle.table.specs.Finding.{hasOther, before}
+use Rattle.table.specs.Finding.{has_other, before}
 use Rattle.match_rows.proofs.rows_before.Statement.{statement}
 use Rattle.match_rows.proofs.rows_before.Tie as tie
 
@@ -37,7 +37,7 @@ returns c =
     let at = start.before.args in
     let rs = rows_of at.table.now in
     let stop = ap not (eq-eqb row.row_at.result.number at.number c.if1.true) in
-    omega (arith, leading-stop (hasOther at.number) rs now.loop.k (omega arith) row.row_at.ensures stop)
+    omega (arith, leading-stop (has_other at.number) rs now.loop.k (omega arith) row.row_at.ensures stop)
 
 add-k : tie.Need-overflow-add-k invariant-loop decreases-loop
 add-k c = search rules
@@ -52,7 +52,7 @@ loop-again c =
     let start = now.before.before in
     let at = start.before.args in
     let rs = rows_of at.table.now in
-    let else = hasOther at.number in
+    let else = has_other at.number in
     let more = ap not (ne_eqb row.row_at.result.number at.number c.if1.false) in (
       omega arith,
       omega (arith, leading-more else rs now.loop.k (omega arith) row.row_at.ensures more),
@@ -64,7 +64,7 @@ returns-2 c =
     let start = now.before.before in
     let at = start.before.args in
     let rs = rows_of at.table.now in
-    omega (arith, leading-none (hasOther at.number) rs now.loop.k (omega arith))
+    omega (arith, leading-none (has_other at.number) rs now.loop.k (omega arith))
 
 pub rows-before-spec : {M : Type 1} → statement M
 rows-before-spec =

@@ -8,7 +8,7 @@ use borrow.Author.Rules.{rules}
 use borrow.Author.Tests.{eq-eqb, ne_eqb}
 use Rattle.table.proofs.Runs.{leading-more, leading-stop, leading-none}
 use Rattle.rows.specs.Rows.{rows_of}
-use Rattle.table.specs.Finding.{hasNumber, run}
+use Rattle.table.specs.Finding.{has_number, run}
 use Rattle.match_rows.proofs.run_end.Statement.{statement}
 use Rattle.match_rows.proofs.run_end.Tie as tie
 
@@ -37,7 +37,7 @@ returns c =
     let at = start.before.args in
     let rs = rows_of at.table.now in
     let stop = ne_eqb row.row_at.result.number at.number c.if1.true in
-    omega (arith, leading-stop (hasNumber at.number) rs now.loop.k (omega arith) row.row_at.ensures stop)
+    omega (arith, leading-stop (has_number at.number) rs now.loop.k (omega arith) row.row_at.ensures stop)
 
 add-k : tie.Need-overflow-add-k invariant-loop decreases-loop
 add-k c = search rules
@@ -54,7 +54,7 @@ loop-again c =
     let rs = rows_of at.table.now in
     let more = eq-eqb row.row_at.result.number at.number c.if1.false in (
       omega arith,
-      omega (arith, leading-more (hasNumber at.number) rs now.loop.k (omega arith) row.row_at.ensures more),
+      omega (arith, leading-more (has_number at.number) rs now.loop.k (omega arith) row.row_at.ensures more),
     )
 
 returns-2 : tie.Need-returns-2 invariant-loop decreases-loop
@@ -63,7 +63,7 @@ returns-2 c =
     let start = now.before.before in
     let at = start.before.args in
     let rs = rows_of at.table.now in
-    omega (arith, leading-none (hasNumber at.number) rs now.loop.k (omega arith))
+    omega (arith, leading-none (has_number at.number) rs now.loop.k (omega arith))
 
 pub run-end-spec : {M : Type 1} → statement M
 run-end-spec =

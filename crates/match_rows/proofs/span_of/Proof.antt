@@ -4,8 +4,8 @@ use Prim.Native.Nat.{◌*◌, ◌≤◌}
 use native.Mathlib.Omega.{arith}
 use lib.ListN.{length, drop, length-drop}
 use borrow.Author.Rules.{rules}
-use Rattle.rows.specs.Rows.{rowWidth, rows_of}
-use Rattle.table.specs.Finding.{hasNumber, before}
+use Rattle.rows.specs.Rows.{row_width, rows_of}
+use Rattle.table.specs.Finding.{has_number, before}
 use Rattle.rows.proofs.TableRows.{rows-length}
 use Rattle.table.proofs.Runs.{leading-inside, start-found, end-found, start-missing, size-missing}
 use Rattle.match_rows.proofs.span_of.Statement.{statement}
@@ -22,7 +22,7 @@ run-end-requires c κs = search rules
 
 -- the run ends in the table
 inside : (c : tie.After-run-end) → let found = c.before.before in let start = found.before.before in
-    c.run-end.result * rowWidth ≤ length start.before.args.table.now
+    c.run-end.result * row_width ≤ length start.before.args.table.now
 inside c =
     let found = c.before.before in
     let start = found.before.before in
@@ -30,7 +30,7 @@ inside c =
     let first = found.rows_before.result in
     let rs = rows_of at.table.now in
     omega
-    (arith, rows-length at.table.now, leading-inside (hasNumber at.number) (drop first rs), length-drop first rs)
+    (arith, rows-length at.table.now, leading-inside (has_number at.number) (drop first rs), length-drop first rs)
 
 mul-t7 : tie.Need-overflow-mul-t7
 mul-t7 c = omega (arith, inside c)

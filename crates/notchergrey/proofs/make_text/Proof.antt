@@ -5,7 +5,7 @@ use mathlib.Core.Bool.{Bool, true, false, true≢false}
 use native.Mathlib.Omega.{arith}
 use lib.ListN.{length, drop, length-append}
 use lib.Seq.{take-append_seam}
-use Rattle.reporting.specs.Reporting.{reportOf}
+use Rattle.reporting.specs.Reporting.{report_of}
 use Rattle.reporting.specs.declared.Reported.{Reported}
 use Rattle.reporting.proofs.Fits.{report-printed}
 use borrow.Author.Rules.{rules}
@@ -16,9 +16,9 @@ abbrev length_of : Reported → ℕ
 length_of (Reported.Printed n) = n
 length_of (Reported.TextTooShort n) = n
 
-abbrev isPrinted : Reported → Bool
-isPrinted (Reported.Printed n) = true
-isPrinted (Reported.TextTooShort n) = false
+abbrev is_printed : Reported → Bool
+is_printed (Reported.Printed n) = true
+is_printed (Reported.TextTooShort n) = false
 
 report-requires : tie.Need-report-requires
 report-requires c κs = search rules
@@ -40,7 +40,7 @@ returns c =
     let after-start = called.before.before in
     let start = after-start.before.before in
     let text = start.args.text.now in
-    let printed = reportOf start.args.script.now in
+    let printed = report_of start.args.script.now in
     let whole = report-printed start.args.script.now text start.requires in
     let told = sym c.before.length.given.1 ∙ called.report.ensures.0 ∙ ap (λ x. x.reply) whole in
     rw (ap length_of told, called.report.ensures.1.0 ∙ ap (λ x. x.text) whole) (
@@ -62,7 +62,7 @@ returns-2 c =
     let start = after-start.before.before in
     let whole = report-printed start.args.script.now start.args.text.now start.requires in
     let told = sym c.enum_told.given.1 ∙ called.report.ensures.0 ∙ ap (λ x. x.reply) whole in
-    absurd (true≢false (sym (ap isPrinted told)))
+    absurd (true≢false (sym (ap is_printed told)))
 
 pub make-text-spec : {M : Type 1} → statement M
 make-text-spec =

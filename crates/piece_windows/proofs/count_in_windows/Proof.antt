@@ -6,7 +6,7 @@ use native.Mathlib.Omega.{arith}
 use borrow.Author.Rules.{rules}
 use lib.ListN.{length}
 use Rattle.rows.specs.Rows.{rows_of}
-use Rattle.table.specs.Distinct.{firstOfEach}
+use Rattle.table.specs.Distinct.{first_of_each}
 use Rattle.rows.proofs.TableRows.{rows-length}
 use Rattle.piece_windows.proofs.Windows.{Sized, Passed, passed-starts, passed-bound}
 use Rattle.piece_windows.proofs.Windows.{passed-more, passed-less, passed-all}
@@ -18,10 +18,10 @@ invariant-loop table numbers₀ spare₀ from₀ found₀ numbers spare from fou
     Sized numbers spare × Passed (rows_of table) from found
 
 abbrev decreases-loop : tie.decreases-loop
-decreases-loop table numbers₀ spare₀ from₀ found₀ numbers spare from found = length (firstOfEach (rows_of table)) - found
+decreases-loop table numbers₀ spare₀ from₀ found₀ numbers spare from found = length (first_of_each (rows_of table)) - found
 
 loop-holds : tie.Need-loop-init invariant-loop decreases-loop
-loop-holds c = (record { numbers-room = search rules; spare-room = search rules }, passed-starts _ _ refl)
+loop-holds c = (record { numbers_room = search rules; spare_room = search rules }, passed-starts _ _ refl)
 
 slice-aggregate-count-window : tie.Need-slice-aggregate-count-window invariant-loop decreases-loop
 slice-aggregate-count-window c = search rules
@@ -56,7 +56,7 @@ loop-again : tie.Need-loop-preserved invariant-loop decreases-loop
 loop-again c =
     let called : tie.After-count-window invariant-loop decreases-loop = search in
     let now : tie.At-loop invariant-loop decreases-loop = search in (
-      record { numbers-room = search rules; spare-room = search rules },
+      record { numbers_room = search rules; spare_room = search rules },
       passed-more _ now.loop.inv.1 called.count-window.ensures c.before.if1.false,
     )
 

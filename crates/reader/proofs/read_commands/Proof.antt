@@ -53,7 +53,7 @@ returns-2 c =
     let step : tie.After-judge invariant-loop decreases-loop = search in
     let h = read.before.before.loop.inv in
     let at = stepped _ _ _ _ _ _ read.read-command.ensures step.judge.ensures in
-    rw (step-finished h at c.enum_told.given.1, h.counted, h.counted-marks)
+    rw (step-finished h at c.enum_told.given.1, h.counted, h.counted_marks)
 
 enum-told-2 : tie.Need-enum-told-2 invariant-loop decreases-loop
 enum-told-2 c = search rules

@@ -35,7 +35,7 @@ same_length c =
 same-length-2 : tie.Need-same-length-2 invariant-loop decreases-loop
 same-length-2 c =
     let step : tie.After-next-at invariant-loop decreases-loop = search in
-    step.before.loop.inv.stored-marks.as_long
+    step.before.loop.inv.stored_marks.as_long
 
 returns : tie.Need-returns invariant-loop decreases-loop
 returns c =
@@ -53,7 +53,7 @@ same-length-3 c =
 same-length-4 : tie.Need-same-length-4 invariant-loop decreases-loop
 same-length-4 c =
     let step : tie.After-next-at invariant-loop decreases-loop = search in
-    step.before.loop.inv.stored-marks.as_long
+    step.before.loop.inv.stored_marks.as_long
 
 returns-2 : tie.Need-returns-2 invariant-loop decreases-loop
 returns-2 c =

@@ -2,7 +2,7 @@
 use Prim.Native.Nat.{◌*◌}
 use native.Mathlib.Omega.{arith}
 use lib.ListN.{length-set}
-use Rattle.records.specs.Records.{markNumbers}
+use Rattle.records.specs.Records.{mark_numbers}
 use Rattle.records.proofs.Laying.{two-stores}
 use borrow.Author.Rules.{rules}
 use Rattle.record_reader.proofs.put_mark.Statement.{statement}
@@ -36,7 +36,7 @@ returns : tie.Need-returns
 returns c =
     let start : tie.Start = search in
     let a = start.args in
-    two-stores a.marks.now (markNumbers * a.k) a.found.side a.found.position
+    two-stores a.marks.now (mark_numbers * a.k) a.found.side a.found.position
 
 pub put-mark-spec : {M : Type 1} → statement M
 put-mark-spec =

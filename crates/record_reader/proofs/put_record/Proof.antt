@@ -2,7 +2,7 @@
 use Prim.Native.Nat.{◌*◌}
 use native.Mathlib.Omega.{arith}
 use lib.ListN.{length-set}
-use Rattle.records.specs.Records.{recordWidth}
+use Rattle.records.specs.Records.{record_width}
 use Rattle.record_reader.proofs.Listed.{record-stored}
 use borrow.Author.Rules.{rules}
 use Rattle.record_reader.proofs.put_record.Statement.{statement}
@@ -55,7 +55,7 @@ returns c =
     let start : tie.Start = search in
     let told : tie.After-bit = search in
     let a = start.args in
-    record-stored a.out.now (recordWidth * a.k) a.found told.bit.ensures
+    record-stored a.out.now (record_width * a.k) a.found told.bit.ensures
 
 pub put-record-spec : {M : Type 1} → statement M
 put-record-spec =

@@ -42,7 +42,7 @@ mul-if2 : tie.Need-overflow-mul-if2
 mul-if2 c =
     let read : tie.After-read = search in
     let told : tie.After-p = search in
-    omega (arith, (holds-admitted _ read.read.ensures.0 told.p.given.1).few-marks)
+    omega (arith, (holds-admitted _ read.read.ensures.0 told.p.given.1).few_marks)
 
 returns-2 : tie.Need-returns-2
 returns-2 c =

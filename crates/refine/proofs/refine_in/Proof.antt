@@ -31,7 +31,7 @@ slice-reshare-prefix-refine-read c =
     let start = start_of read in
     let told = read.read-columns.ensures in
     reaches start.args.script.now told.0 counted.count.given.1 (λ m. m.left_a)
-    start.args.left-a.now told.1.0.left-a start.pre.0.left-a
+    start.args.left_a.now told.1.0.left_a start.pre.0.left_a
 
 slice-aggregate-refine-read : tie.Need-slice-aggregate-refine-read
 unfolding start_of
@@ -41,7 +41,7 @@ slice-aggregate-refine-read c =
     let start = start_of read in
     let told = read.read-columns.ensures in
     prefix-length start.args.script.now told.0 counted.count.given.1 (λ m. m.left_a)
-    start.args.left-a.now told.1.0.left-a start.pre.0.left-a
+    start.args.left_a.now told.1.0.left_a start.pre.0.left_a
 
 slice-reshare-prefix-refine-read-2 : tie.Need-slice-reshare-prefix-refine-read-2
 unfolding start_of
@@ -51,7 +51,7 @@ slice-reshare-prefix-refine-read-2 c =
     let start = start_of read in
     let told = read.read-columns.ensures in
     reaches start.args.script.now told.0 counted.count.given.1 (λ m. m.left_b)
-    start.args.left-b.now told.1.0.left-b start.pre.0.left-b
+    start.args.left_b.now told.1.0.left_b start.pre.0.left_b
 
 slice-aggregate-refine-read-2 : tie.Need-slice-aggregate-refine-read-2
 unfolding start_of
@@ -61,7 +61,7 @@ slice-aggregate-refine-read-2 c =
     let start = start_of read in
     let told = read.read-columns.ensures in
     prefix-length start.args.script.now told.0 counted.count.given.1 (λ m. m.left_b)
-    start.args.left-b.now told.1.0.left-b start.pre.0.left-b
+    start.args.left_b.now told.1.0.left_b start.pre.0.left_b
 
 slice-reshare-prefix-refine-read-3 : tie.Need-slice-reshare-prefix-refine-read-3
 unfolding start_of
@@ -165,7 +165,7 @@ same-length-7 c =
     let refined : tie.After-refine-read = search in
     let read = read_of refined in
     let start = start_of read in
-    column-kept _ (λ m. m.left_a) start.args.left-a.now read.read-columns.ensures.1.0.left-a
+    column-kept _ (λ m. m.left_a) start.args.left_a.now read.read-columns.ensures.1.0.left_a
 
 same-length-8 : tie.Need-same-length-8
 same-length-8 c = search rules
@@ -176,7 +176,7 @@ same-length-9 c =
     let refined : tie.After-refine-read = search in
     let read = read_of refined in
     let start = start_of read in
-    column-kept _ (λ m. m.left_b) start.args.left-b.now read.read-columns.ensures.1.0.left-b
+    column-kept _ (λ m. m.left_b) start.args.left_b.now read.read-columns.ensures.1.0.left_b
 
 same-length-10 : tie.Need-same-length-10
 same-length-10 c = search rules

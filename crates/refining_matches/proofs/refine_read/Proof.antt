@@ -9,7 +9,7 @@ work-out-requires : tie.Need-work-out-requires
 work-out-requires c κs =
     let start : tie.Start = search in
     let pre = start.pre in
-    (pre.0.on-a, (pre.0.on-b, pre.1.1.1.1))
+    (pre.0.on_a, (pre.0.on_b, pre.1.1.1.1))
 
 slice-reshare-prefix-refine-matches : tie.Need-slice-reshare-prefix-refine-matches
 slice-reshare-prefix-refine-matches c = search rules
@@ -29,7 +29,7 @@ refine-matches-requires c κs =
     let start : tie.Start = search in
     let a = start.args in
     let ends = worked.work-out.ensures in
-    let fit = worked_fit a.left-a.now a.left-b.now _ a.reversed.now start.pre.0 ends.0 ends.1 in
+    let fit = worked_fit a.left_a.now a.left_b.now _ a.reversed.now start.pre.0 ends.0 ends.1 in
     let few = start.pre.1 in
     (fit, (few.0, (few.1.0, few.1.1.0)))
 
@@ -63,7 +63,7 @@ returns c =
     let start = start_of worked in
     let a = start.args in
     let ends = worked.work-out.ensures in (
-      worked-refined a.left-a.now a.left-b.now _ a.reversed.now start.pre.0 ends.0 ends.1
+      worked-refined a.left_a.now a.left_b.now _ a.reversed.now start.pre.0 ends.0 ends.1
           _ a.table.now a.work.now refined.refine-matches.ensures,
       ends,
     )

@@ -4,7 +4,7 @@ use native.Mathlib.Omega.{arith}
 use lib.ListN.{length-take}
 use borrow.Author.Rules.{rules}
 use Rattle.rows.proofs.TableRows.{rows-length}
-use Rattle.reporting.specs.Reporting.{lentRows}
+use Rattle.reporting.specs.Reporting.{lent_rows}
 use Rattle.report.proofs.Answers.{lent-room, report-refined}
 use Rattle.report.proofs.report_admitted.Statement.{statement}
 use Rattle.report.proofs.report_admitted.Tie as tie
@@ -34,20 +34,20 @@ enum-known-n : tie.Need-enum-known-n
 enum-known-n c = search rules
 
 mul-table : tie.Need-overflow-mul-table
-mul-table c = let few : c.before.n.given.0.0 ≤ lentRows = search (rules, lent-room) in omega arith
+mul-table c = let few : c.before.n.given.0.0 ≤ lent_rows = search (rules, lent-room) in omega arith
 
 array-share-prefix-table : tie.Need-array-share-prefix-table
-array-share-prefix-table c = let few : c.before.n.given.0.0 ≤ lentRows = search (rules, lent-room) in omega arith
+array-share-prefix-table c = let few : c.before.n.given.0.0 ≤ lent_rows = search (rules, lent-room) in omega arith
 
 slice-aggregate-print-table : tie.Need-slice-aggregate-print-table
 slice-aggregate-print-table c =
-    let few : c.before.before.n.given.0.0 ≤ lentRows = search (rules, lent-room) in
+    let few : c.before.before.n.given.0.0 ≤ lent_rows = search (rules, lent-room) in
     simp length-take (omega arith)
 
 print-table-requires : tie.Need-print-table-requires
 print-table-requires c κs =
     let lent : tie.After-n = search in
-    let few : lent.n.given.0.0 ≤ lentRows = search (rules, lent-room) in
+    let few : lent.n.given.0.0 ≤ lent_rows = search (rules, lent-room) in
     simp (rows-length, length-take) (omega arith)
 
 same_length : tie.Need-same-length

@@ -8,11 +8,11 @@ use Rattle.right_ends.proofs.work_out.Statement.{statement}
 use Rattle.right_ends.proofs.work_out.Tie as tie
 
 abbrev invariant-loop : tie.invariant-loop
-invariant-loop left-a left-b right-a₀ right-b₀ k₀ right-a right-b k =
-    BothWorked left-a left-b right-a₀ right-b₀ right-a right-b k
+invariant-loop left_a left_b right-a₀ right-b₀ k₀ right_a right_b k =
+    BothWorked left_a left_b right-a₀ right-b₀ right_a right_b k
 
 abbrev decreases-loop : tie.decreases-loop
-decreases-loop left-a left-b right-a₀ right-b₀ k₀ right-a right-b k = List.length left-a - k
+decreases-loop left_a left_b right-a₀ right-b₀ k₀ right_a right_b k = List.length left_a - k
 
 loop-holds : tie.Need-loop-init invariant-loop decreases-loop
 loop-holds c =
@@ -37,7 +37,7 @@ add-right-a c =
     let in-loop : tie.In-loop invariant-loop decreases-loop = search in
     let start : tie.Start invariant-loop decreases-loop = search in
     let inv = in-loop.before.loop.inv in
-    record { fits = end_fits inv (search rules) start.pre.0 inv.on-a.for-each }
+    record { fits = end_fits inv (search rules) start.pre.0 inv.on_a.for_each }
 
 mul-right-a-2 : tie.Need-overflow-mul-right-a-2 invariant-loop decreases-loop
 mul-right-a-2 c = search rules
@@ -56,7 +56,7 @@ add-right-b c =
     let in-loop : tie.In-loop invariant-loop decreases-loop = search in
     let start : tie.Start invariant-loop decreases-loop = search in
     let inv = in-loop.before.loop.inv in
-    record { fits = end_fits inv (search rules) start.pre.1.0 inv.on-b.for-each }
+    record { fits = end_fits inv (search rules) start.pre.1.0 inv.on_b.for_each }
 
 mul-right-b-2 : tie.Need-overflow-mul-right-b-2 invariant-loop decreases-loop
 mul-right-b-2 c = search rules
@@ -76,10 +76,10 @@ loop-again c =
     both-step in-loop.before.loop.inv (search rules)
 
 same_length : tie.Need-same-length invariant-loop decreases-loop
-same_length c = c.before.loop.invariant.on-a.long
+same_length c = c.before.loop.invariant.on_a.long
 
 same-length-2 : tie.Need-same-length-2 invariant-loop decreases-loop
-same-length-2 c = c.before.loop.invariant.on-b.long
+same-length-2 c = c.before.loop.invariant.on_b.long
 
 returns : tie.Need-returns invariant-loop decreases-loop
 returns c = both_end c.before.loop.invariant c.loop-test.false

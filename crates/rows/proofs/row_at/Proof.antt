@@ -3,13 +3,13 @@ use Prim.Native.Nat.{◌≤◌, ◌+◌, ◌*◌}
 use native.Mathlib.Omega.{arith}
 use lib.ListN.{length}
 use borrow.Author.Rules.{rules}
-use Rattle.rows.specs.Rows.{rowWidth}
+use Rattle.rows.specs.Rows.{row_width}
 use Rattle.rows.proofs.TableRows.{row_inside, row_read}
 use Rattle.rows.proofs.row_at.Statement.{statement}
 use Rattle.rows.proofs.row_at.Tie as tie
 
 -- the row's numbers lie in the table, as the start of the function knows
-inside : (c : tie.Start) → c.args.k * rowWidth + rowWidth ≤ length c.args.table.now
+inside : (c : tie.Start) → c.args.k * row_width + row_width ≤ length c.args.table.now
 inside c = row_inside c.args.table.now c.args.k c.requires
 
 mul_at : tie.Need-overflow-mul-at

@@ -18,7 +18,7 @@ span_of read = let pre = (start_of read).requires in group-span pre.0 pre.1 read
 read-group-requires : tie.Need-read-group-requires
 read-group-requires c κs =
     let start : tie.Start = search in
-    (group-room start.pre.0 start.pre.1, start.pre.0.at-to)
+    (group-room start.pre.0 start.pre.1, start.pre.0.at_to)
 
 returns : tie.Need-returns
 returns c =

@@ -8,10 +8,10 @@ use Rattle.seeding.proofs.seed.Statement.{statement}
 use Rattle.seeding.proofs.seed.Tie as tie
 
 abbrev invariant-loop : tie.invariant-loop
-invariant-loop left-a right-a work₀ a₀ k₀ work a k = Sown left-a right-a work₀ a₀ k work a
+invariant-loop left_a right_a work₀ a₀ k₀ work a k = Sown left_a right_a work₀ a₀ k work a
 
 abbrev decreases-loop : tie.decreases-loop
-decreases-loop left-a right-a work₀ a₀ k₀ work a k = List.length left-a - k
+decreases-loop left_a right_a work₀ a₀ k₀ work a k = List.length left_a - k
 
 loop-holds : tie.Need-loop-init invariant-loop decreases-loop
 loop-holds c =

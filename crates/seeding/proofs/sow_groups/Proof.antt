@@ -37,7 +37,7 @@ read-group-requires : tie.Need-read-group-requires invariant-loop decreases-loop
 read-group-requires c κs =
     let start : tie.Start invariant-loop decreases-loop = search in
     let in-loop : tie.In-loop invariant-loop decreases-loop = search in
-    (group-room start.pre.0 in-loop.loop-test.taken, start.pre.0.at-to)
+    (group-room start.pre.0 in-loop.loop-test.taken, start.pre.0.at_to)
 
 mul-sow-group : tie.Need-overflow-mul-sow-group invariant-loop decreases-loop
 unfolding start_of

@@ -21,7 +21,7 @@ read-group-requires : tie.Need-read-group-requires invariant-loop decreases-loop
 read-group-requires c κs =
     let start : tie.Start invariant-loop decreases-loop = search in
     let in-loop : tie.In-loop invariant-loop decreases-loop = search in
-    (naming-room start.pre in-loop.loop-test.taken, start.pre.at-to)
+    (naming-room start.pre in-loop.loop-test.taken, start.pre.at_to)
 
 slice-write-wanted : tie.Need-slice-write-wanted invariant-loop decreases-loop
 slice-write-wanted c =

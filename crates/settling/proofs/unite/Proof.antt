@@ -9,7 +9,7 @@ use Rattle.settling.proofs.unite.Tie as tie
 merge-requires : tie.Need-merge-requires
 merge-requires c κs =
     let start : tie.Start = search in
-    (middle-mergeable start.pre.0 (none-added start.pre.0 start.pre.1), start.pre.0.few-finished)
+    (middle-mergeable start.pre.0 (none-added start.pre.0 start.pre.1), start.pre.0.few_finished)
 
 merge-wide-requires : tie.Need-merge-wide-requires
 merge-wide-requires c κs =

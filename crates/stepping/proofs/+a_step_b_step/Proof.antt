@@ -9,13 +9,13 @@ use borrow.Author.Tests.{not-true, not-false}
 use borrow.Fn.Kinds.{In}
 use borrow.Fn.PlainCycle.{Measures, is, falls, and}
 use Rattle.refinement.specs.declared.Side.TheVariants.{B}
-use Rattle.refining.specs.Columns.{columnsOf}
+use Rattle.refining.specs.Columns.{columns_of}
 use Rattle.tracks.specs.Tracks.{over}
-use Rattle.tracks.specs.Engine.{booksOf, unused}
+use Rattle.tracks.specs.Engine.{books_of, unused}
 use Rattle.tracks.specs.Groups.{grouped}
 use Rattle.tracks.proofs.Grouped.{grouped-fit}
 use Rattle.tracks.proofs.Indexed.{lane-fit}
-use Rattle.stepping.specs.Steps.{hitsOf}
+use Rattle.stepping.specs.Steps.{hits_of}
 use Rattle.stepping.specs.declared.Counts.{Counts}
 use Rattle.stepping.proofs.Sides.{step-able, ends-kept, step-open, step_less, step-done, step-not}
 use Rattle.stepping.proofs.Sides.{halves-within, goes_on}
@@ -32,10 +32,10 @@ use Rattle.stepping.proofs.+a_step_b_step.Tie.{close}
 
 -- the unused places, by the books and the capacity that a step is given
 abbrev μ-a-step : Measures 12 a-step-kinds.ps ℕ
-μ-a-step κs a = unused (booksOf a.1.1.1.1.1.1.1.1.1.1.0.now a.1.1.1.1.1.1.1.1.1.1.1.0.now) a.1.1.1.1.1.1.1.1.1.1.1.1.1.0 a.1.1.1.1.1.1.1.1.1.1.1.1.1.1.1.0
+μ-a-step κs a = unused (books_of a.1.1.1.1.1.1.1.1.1.1.0.now a.1.1.1.1.1.1.1.1.1.1.1.0.now) a.1.1.1.1.1.1.1.1.1.1.1.1.1.0 a.1.1.1.1.1.1.1.1.1.1.1.1.1.1.1.0
 
 abbrev μ-b-step : Measures 12 b-step-kinds.ps ℕ
-μ-b-step κs a = unused (booksOf a.1.1.1.1.1.1.1.1.1.1.0.now a.1.1.1.1.1.1.1.1.1.1.1.0.now) a.1.1.1.1.1.1.1.1.1.1.1.1.1.0 a.1.1.1.1.1.1.1.1.1.1.1.1.1.1.1.0
+μ-b-step κs a = unused (books_of a.1.1.1.1.1.1.1.1.1.1.0.now a.1.1.1.1.1.1.1.1.1.1.1.0.now) a.1.1.1.1.1.1.1.1.1.1.1.1.1.0 a.1.1.1.1.1.1.1.1.1.1.1.1.1.1.1.0
 
 -- what `a_step` is given at the measure t, and what a call of it asks below t
 abbrev a-step-at : ℕ → In 12 a-step-kinds.ps
@@ -110,11 +110,11 @@ a-step-take-step-requires t c κs =
       (
         given.few,
         (
-          given.straight-is,
+          given.straight_is,
           (
-            given.on-a,
+            given.on_a,
             (
-              given.on-b,
+              given.on_b,
               (
                 step-able given.groups held.1,
                 λ e. absurd (true≢false (sym e)),
@@ -157,7 +157,7 @@ a-step-returns t c =
     let given = start.pre.1.0 in
     let a = start.args in
     let taken = rw told.over.given.1 at called.take_step.ensures in
-    let after = booksOf called.take_step.last.1.1.1.1.1.1.1.1.1.0
+    let after = books_of called.take_step.last.1.1.1.1.1.1.1.1.1.0
     called.take_step.last.1.1.1.1.1.1.1.1.1.1.1.0 in
     let next : Counts = record {
       over_a = told.over.given.0.0;
@@ -166,7 +166,7 @@ a-step-returns t c =
       along_b = a.counts.along_b;
     } in
     λ marks held.
-    step-done given.groups held (grouped-fit given.groups given.fit refl marks) after (hitsOf next) taken (λ w. refl)
+    step-done given.groups held (grouped-fit given.groups given.fit refl marks) after (hits_of next) taken (λ w. refl)
     (found.any_found.ensures.unless (not-true _ c.if1.true))
 
 a-step-same-length-4 : (t : ℕ) → a-step-lts.Need-same-length-4 (a-step-calls t) (a-step-at t) a-step.Post
@@ -189,7 +189,7 @@ a-step-returns-2 t c =
     let given = start.pre.1.0 in
     let a = start.args in
     let taken = rw told.over.given.1 at called.take_step.ensures in
-    let after = booksOf called.take_step.last.1.1.1.1.1.1.1.1.1.0
+    let after = books_of called.take_step.last.1.1.1.1.1.1.1.1.1.0
     called.take_step.last.1.1.1.1.1.1.1.1.1.1.1.0 in
     let next : Counts = record {
       over_a = told.over.given.0.0;
@@ -200,8 +200,8 @@ a-step-returns-2 t c =
     let some = found.any_found.ensures.when (not-false _ test.if1.left) in
     λ marks held.
     let fit = grouped-fit given.groups given.fit refl marks in (
-      step-open given.groups held fit after (hitsOf next) taken (λ w. refl),
-      step_less given.groups held fit after (hitsOf next) taken (λ w. refl) some,
+      step-open given.groups held fit after (hits_of next) taken (λ w. refl),
+      step_less given.groups held fit after (hits_of next) taken (λ w. refl) some,
     )
 
 a-step-sub-b-step : (t : ℕ) → a-step-lts.Need-overflow-sub-b-step (a-step-calls t) (a-step-at t) a-step.Post
@@ -218,7 +218,7 @@ a-step-b-step-requires t c κs =
     let given = start.pre.1.0 in
     let a = start.args in
     let taken = rw told.over.given.1 at called.take_step.ensures in
-    let after = booksOf called.take_step.last.1.1.1.1.1.1.1.1.1.0
+    let after = books_of called.take_step.last.1.1.1.1.1.1.1.1.1.0
     called.take_step.last.1.1.1.1.1.1.1.1.1.1.1.0 in
     let next : Counts = record {
       over_a = told.over.given.0.0;
@@ -229,8 +229,8 @@ a-step-b-step-requires t c κs =
     let some = found.any_found.ensures.when (not-false _ test.if1.left) in
     let held = start.pre.1.1 in
     let fit = grouped-fit given.groups given.fit refl held.0 in (
-      omega (arith, start.pre.0, step_less given.groups held.1 fit after (hitsOf next) taken (λ w. refl) some),
-      (given, (held.0, step-open given.groups held.1 fit after (hitsOf next) taken (λ w. refl))),
+      omega (arith, start.pre.0, step_less given.groups held.1 fit after (hits_of next) taken (λ w. refl) some),
+      (given, (held.0, step-open given.groups held.1 fit after (hits_of next) taken (λ w. refl))),
     )
 
 a-step-same-length-7 : (t : ℕ) → a-step-lts.Need-same-length-7 (a-step-calls t) (a-step-at t) a-step.Post
@@ -273,7 +273,7 @@ a-step-returns-4 t c =
     let given = start.pre.1.0 in
     let a = start.args in
     let taken = rw told.over.given.1 at called.take_step.ensures in
-    let after = booksOf called.take_step.last.1.1.1.1.1.1.1.1.1.0
+    let after = books_of called.take_step.last.1.1.1.1.1.1.1.1.1.0
     called.take_step.last.1.1.1.1.1.1.1.1.1.1.1.0 in
     let next : Counts = record {
       over_a = told.over.given.0.0;
@@ -285,9 +285,9 @@ a-step-returns-4 t c =
     λ marks held.
     let fit = grouped-fit given.groups given.fit refl marks in
     goes_on
-    (columnsOf a.left-a.now a.right-a.now a.left-b.now a.right-b.now a.reversed.now) a.groups.now
-    a.count a.sets a.capacity marks _ _ _ _ _ (step_less given.groups held fit after (hitsOf next) taken (λ w. refl) some)
-    (step .b-step .result) (step .b-step .ensures marks (step-open given.groups held fit after (hitsOf next) taken (λ w. refl)))
+    (columns_of a.left_a.now a.right_a.now a.left_b.now a.right_b.now a.reversed.now) a.groups.now
+    a.count a.sets a.capacity marks _ _ _ _ _ (step_less given.groups held fit after (hits_of next) taken (λ w. refl) some)
+    (step .b-step .result) (step .b-step .ensures marks (step-open given.groups held fit after (hits_of next) taken (λ w. refl)))
 
 -- the start, from the place where the step was taken
 b-step-start : (t : ℕ) → b-step-lts.After-take-step (b-step-calls t) (b-step-at t) b-step.Post → b-step-lts.Start (b-step-calls t) (b-step-at t) b-step.Post
@@ -323,17 +323,17 @@ b-step-take-step-requires t c κs =
     let given = start.pre.1.0 in
     let held = start.pre.1.1 in
     let a = start.args in
-    let c = columnsOf a.left-a.now a.right-a.now a.left-b.now a.right-b.now a.reversed.now in
+    let c = columns_of a.left_a.now a.right_a.now a.left_b.now a.right_b.now a.reversed.now in
     let t = grouped c a.groups.now a.count held.0 in (
       lane-fit t given.fit over B,
       (
         given.few,
         (
-          given.straight-is,
+          given.straight_is,
           (
-            given.on-b,
+            given.on_b,
             (
-              given.on-a,
+              given.on_a,
               (step-able given.groups held.1, λ e. ends-kept c a.groups.now a.count held.1),
             ),
           ),
@@ -373,7 +373,7 @@ b-step-returns t c =
     let given = start.pre.1.0 in
     let a = start.args in
     let taken = rw told.over.given.1 at called.take_step.ensures in
-    let after = booksOf called.take_step.last.1.1.1.1.1.1.1.1.1.1.1.0
+    let after = books_of called.take_step.last.1.1.1.1.1.1.1.1.1.1.1.0
     called.take_step.last.1.1.1.1.1.1.1.1.1.0 in
     let next : Counts = record {
       over_a = a.counts.over_a;
@@ -382,7 +382,7 @@ b-step-returns t c =
       along_b = told.over.given.0.1.0;
     } in
     λ marks held.
-    step-done given.groups held (grouped-fit given.groups given.fit refl marks) after (hitsOf next) taken (λ w. refl)
+    step-done given.groups held (grouped-fit given.groups given.fit refl marks) after (hits_of next) taken (λ w. refl)
     (found.any_found.ensures.unless (not-true _ c.if1.true))
 
 b-step-same-length-4 : (t : ℕ) → b-step-lts.Need-same-length-4 (b-step-calls t) (b-step-at t) b-step.Post
@@ -405,7 +405,7 @@ b-step-returns-2 t c =
     let given = start.pre.1.0 in
     let a = start.args in
     let taken = rw told.over.given.1 at called.take_step.ensures in
-    let after = booksOf called.take_step.last.1.1.1.1.1.1.1.1.1.1.1.0
+    let after = books_of called.take_step.last.1.1.1.1.1.1.1.1.1.1.1.0
     called.take_step.last.1.1.1.1.1.1.1.1.1.0 in
     let next : Counts = record {
       over_a = a.counts.over_a;
@@ -416,8 +416,8 @@ b-step-returns-2 t c =
     let some = found.any_found.ensures.when (not-false _ test.if1.left) in
     λ marks held.
     let fit = grouped-fit given.groups given.fit refl marks in (
-      step-open given.groups held fit after (hitsOf next) taken (λ w. refl),
-      step_less given.groups held fit after (hitsOf next) taken (λ w. refl) some,
+      step-open given.groups held fit after (hits_of next) taken (λ w. refl),
+      step_less given.groups held fit after (hits_of next) taken (λ w. refl) some,
     )
 
 b-step-sub-a-step : (t : ℕ) → b-step-lts.Need-overflow-sub-a-step (b-step-calls t) (b-step-at t) b-step.Post
@@ -434,7 +434,7 @@ b-step-a-step-requires t c κs =
     let given = start.pre.1.0 in
     let a = start.args in
     let taken = rw told.over.given.1 at called.take_step.ensures in
-    let after = booksOf called.take_step.last.1.1.1.1.1.1.1.1.1.1.1.0
+    let after = books_of called.take_step.last.1.1.1.1.1.1.1.1.1.1.1.0
     called.take_step.last.1.1.1.1.1.1.1.1.1.0 in
     let next : Counts = record {
       over_a = a.counts.over_a;
@@ -445,8 +445,8 @@ b-step-a-step-requires t c κs =
     let some = found.any_found.ensures.when (not-false _ test.if1.left) in
     let held = start.pre.1.1 in
     let fit = grouped-fit given.groups given.fit refl held.0 in (
-      omega (arith, start.pre.0, step_less given.groups held.1 fit after (hitsOf next) taken (λ w. refl) some),
-      (given, (held.0, step-open given.groups held.1 fit after (hitsOf next) taken (λ w. refl))),
+      omega (arith, start.pre.0, step_less given.groups held.1 fit after (hits_of next) taken (λ w. refl) some),
+      (given, (held.0, step-open given.groups held.1 fit after (hits_of next) taken (λ w. refl))),
     )
 
 b-step-same-length-7 : (t : ℕ) → b-step-lts.Need-same-length-7 (b-step-calls t) (b-step-at t) b-step.Post
@@ -489,7 +489,7 @@ b-step-returns-4 t c =
     let given = start.pre.1.0 in
     let a = start.args in
     let taken = rw told.over.given.1 at called.take_step.ensures in
-    let after = booksOf called.take_step.last.1.1.1.1.1.1.1.1.1.1.1.0
+    let after = books_of called.take_step.last.1.1.1.1.1.1.1.1.1.1.1.0
     called.take_step.last.1.1.1.1.1.1.1.1.1.0 in
     let next : Counts = record {
       over_a = a.counts.over_a;
@@ -501,9 +501,9 @@ b-step-returns-4 t c =
     λ marks held.
     let fit = grouped-fit given.groups given.fit refl marks in
     goes_on
-    (columnsOf a.left-a.now a.right-a.now a.left-b.now a.right-b.now a.reversed.now) a.groups.now
-    a.count a.sets a.capacity marks _ _ _ _ _ (step_less given.groups held fit after (hitsOf next) taken (λ w. refl) some)
-    (step .a-step .result) (step .a-step .ensures marks (step-open given.groups held fit after (hitsOf next) taken (λ w. refl)))
+    (columns_of a.left_a.now a.right_a.now a.left_b.now a.right_b.now a.reversed.now) a.groups.now
+    a.count a.sets a.capacity marks _ _ _ _ _ (step_less given.groups held fit after (hits_of next) taken (λ w. refl) some)
+    (step .a-step .result) (step .a-step .ensures marks (step-open given.groups held fit after (hits_of next) taken (λ w. refl)))
 
 pub +a-step-b-step-spec : {M : Type 1} → statement M
 +a-step-b-step-spec =

@@ -8,7 +8,7 @@ use lib.ListN.{length, get_or, take}
 use lib.Seq.{take_all, length-take-le}
 use borrow.Author.Rules.{rules}
 use Rattle.rows.specs.Rows.{rows_of}
-use Rattle.table.specs.Summing.{total, inClass, classesFrom, classesOf}
+use Rattle.table.specs.Summing.{total, in_class, classes_from, classes_of}
 use Rattle.table.proofs.Sums.{classes-at, classes-same, classes-more}
 use Rattle.table.proofs.Counting.{count-inside}
 use Rattle.summary.proofs.count_classes.Statement.{statement}
@@ -16,7 +16,7 @@ use Rattle.summary.proofs.count_classes.Tie as tie
 
 abbrev invariant-loop : tie.invariant-loop
 invariant-loop table rows classes₀ k₀ classes k =
-    (k ≤ length (rows_of table)) × (classes ≡ classesOf (take k (rows_of table)))
+    (k ≤ length (rows_of table)) × (classes ≡ classes_of (take k (rows_of table)))
 
 abbrev decreases-loop : tie.decreases-loop
 decreases-loop table rows classes₀ k₀ classes k = rows - k
@@ -25,7 +25,7 @@ row-count-requires : tie.Need-row-count-requires invariant-loop decreases-loop
 row-count-requires c κs = search rules
 
 loop-holds : tie.Need-loop-init invariant-loop decreases-loop
-unfolding classesFrom total
+unfolding classes_from total
 loop-holds c = (zero-le, refl)
 
 row-at-requires : tie.Need-row-at-requires invariant-loop decreases-loop
@@ -66,7 +66,7 @@ add-classes c =
     omega (
       arith,
       ap (λ (xs : List ℕ). get_or xs class 0) now.loop.inv.1 ∙ classes-at passed class (omega arith),
-      count-inside (inClass class) passed,
+      count-inside (in_class class) passed,
       length-take-le now.loop.k rs (omega arith),
     )
 

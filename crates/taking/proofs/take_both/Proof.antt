@@ -4,10 +4,10 @@ use mathlib.Core.Bool.{true≢false}
 use native.Mathlib.Omega.{arith}
 use lib.ListN.{length}
 use borrow.Author.Rules.{rules}
-use Rattle.refining.specs.Columns.{columnsOf}
-use Rattle.tracks.specs.Groups.{laneBy, Takes, TakesNot}
+use Rattle.refining.specs.Columns.{columns_of}
+use Rattle.tracks.specs.Groups.{lane_by, Takes, TakesNot}
 use Rattle.carrying_lane.proofs.Lanes.{clear_later}
-use Rattle.taking.specs.Taking.{laneTo}
+use Rattle.taking.specs.Taking.{lane_to}
 use Rattle.taking.proofs.Both.{over-not, along-not, both-taken, straight-as, straight-length, straight-fit}
 use Rattle.taking.proofs.Both.{lanes-named}
 use Rattle.taking.proofs.Whole.{clear_of}
@@ -23,7 +23,7 @@ carry-lane-requires c κs =
     let start : tie.Start = search in
     let pre = start.pre in
     let able = pre.1.1.1.1.1.0 in
-    let clear = clear_of able.from-shelf able.gathered able.halves in (
+    let clear = clear_of able.from_shelf able.gathered able.halves in (
       pre.0,
       (
         pre.1.0,
@@ -39,7 +39,7 @@ carry-lane-requires c κs =
                   able.from_one,
                   (
                     able.to_one,
-                    (able.few-over, pre.1.1.1.1.1.1),
+                    (able.few_over, pre.1.1.1.1.1.1),
                   ),
                 ),
               ),
@@ -68,7 +68,7 @@ carry-lane-requires-2 c κs =
     let taken = rw told.o.given.1 at called.carry-lane.ensures in
     let same = straight-length pre.0 a.straight.now straight in
     let lane = called.carry-lane in
-    let clear = clear_later (clear_of able.from-shelf able.gathered able.halves)
+    let clear = clear_later (clear_of able.from_shelf able.gathered able.halves)
     lane.last.1.1.1.1.1.1.1.1.0 taken.grown.outside lane.kept.1.1.1.1.1.1.1.1.0 in (
       straight-fit pre.0 a.straight.now straight,
       (
@@ -86,7 +86,7 @@ carry-lane-requires-2 c κs =
                   (
                     able.to_one,
                     (
-                      able.few-along,
+                      able.few_along,
                       λ e. absurd (true≢false (sym e)),
                     ),
                   ),
@@ -119,10 +119,10 @@ returns c =
     let a = start.args in
     let able = pre.1.1.1.1.1.0 in
     over-not
-    (λ w. laneTo w (columnsOf a.lefts.now a.rights.now a.other-lefts.now a.other-rights.now
+    (λ w. lane_to w (columns_of a.lefts.now a.rights.now a.other-lefts.now a.other-rights.now
     a.reversed.now) a.groups.now a.count a.from_at a.to_at)
     a.over a.along a.most (lanes-named pre.0 able.groups able.from_one able.to_one)
-    (clear_of able.from-shelf able.gathered able.halves) able.shelf
+    (clear_of able.from_shelf able.gathered able.halves) able.shelf
     (rw c.enum_told.given.1 at called.carry-lane.ensures)
 
 same-length-3 : tie.Need-same-length-3
@@ -143,12 +143,12 @@ returns-2 c =
     let able = pre.1.1.1.1.1.0 in
     let lane = called.carry-lane in
     along-not
-    (λ w. laneTo w (columnsOf a.lefts.now a.rights.now a.other-lefts.now a.other-rights.now
+    (λ w. lane_to w (columns_of a.lefts.now a.rights.now a.other-lefts.now a.other-rights.now
     a.reversed.now) a.groups.now a.count a.from_at a.to_at)
     a.over a.along a.most (lanes-named pre.0 able.groups able.from_one able.to_one)
-    (clear_of able.from-shelf able.gathered able.halves) able.shelf
+    (clear_of able.from_shelf able.gathered able.halves) able.shelf
     (rw told.o.given.1 at lane.ensures) lane.kept.1.1.1.1.1.1.1.1.0
-    (straight-as (λ w m. TakesNot (laneBy (columnsOf a.other-lefts.now a.other-rights.now a.other-lefts.now
+    (straight-as (λ w m. TakesNot (lane_by (columns_of a.other-lefts.now a.other-rights.now a.other-lefts.now
     a.other-rights.now w) a.groups.now a.count a.to_at a.to_at) m a.from-book.now a.sets a.lo
     a.hi lane.last.1.1.1.1.1.1.1.1.0 lane.last.1.1.1.1.1.1.1.1.1.0 a.along a.most)
     a.straight.now (length a.reversed.now) pre.1.1.0
@@ -173,12 +173,12 @@ returns-3 c =
     let able = pre.1.1.1.1.1.0 in
     let lane = called.carry-lane in
     both-taken
-    (λ w. laneTo w (columnsOf a.lefts.now a.rights.now a.other-lefts.now a.other-rights.now
+    (λ w. lane_to w (columns_of a.lefts.now a.rights.now a.other-lefts.now a.other-rights.now
     a.reversed.now) a.groups.now a.count a.from_at a.to_at)
     a.over a.along a.most (lanes-named pre.0 able.groups able.from_one able.to_one)
-    (clear_of able.from-shelf able.gathered able.halves) able.shelf
+    (clear_of able.from_shelf able.gathered able.halves) able.shelf
     (rw told.o.given.1 at lane.ensures) lane.kept.1.1.1.1.1.1.1.1.0
-    (straight-as (λ w m. Takes (laneBy (columnsOf a.other-lefts.now a.other-rights.now a.other-lefts.now
+    (straight-as (λ w m. Takes (lane_by (columns_of a.other-lefts.now a.other-rights.now a.other-lefts.now
     a.other-rights.now w) a.groups.now a.count a.to_at a.to_at) m a.from-book.now a.sets a.lo
     a.hi lane.last.1.1.1.1.1.1.1.1.0 lane.last.1.1.1.1.1.1.1.1.1.0 a.along a.most
     again.carry-lane2.last.1.1.1.1.1.1.1.1.0 again.carry-lane2.last.1.1.1.1.1.1.1.1.1.0

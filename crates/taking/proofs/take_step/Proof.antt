@@ -2,8 +2,8 @@
 -- finished (Whole). Assumes nothing.
 use mathlib.Core.Path.{◌∙◌}
 use borrow.Author.Rules.{rules}
-use Rattle.refining.specs.Columns.{columnsOf}
-use Rattle.taking.specs.Taking.{laneTo}
+use Rattle.refining.specs.Columns.{columns_of}
+use Rattle.taking.specs.Taking.{lane_to}
 use Rattle.taking.proofs.Whole.{shelf-apart, halves-flip, step-taken, both-outside}
 use Rattle.taking.proofs.take_step.Statement.{statement}
 use Rattle.taking.proofs.take_step.Tie as tie
@@ -37,7 +37,7 @@ finish-sets-requires c κs =
     let start = start_of called in
     let able = start.pre.1.1.1.1.1.0 in
     let taken = rw told.step.given.1 at called.take-both.ensures in (
-      shelf-apart able.from-shelf (halves-flip able.halves) _
+      shelf-apart able.from_shelf (halves-flip able.halves) _
           (both-outside taken gathered.gather-sets.ensures)
           (gathered.gather-sets.kept.0 ∙ called.take-both.kept.1.1.1.1.1.1.1.1.1.1.0),
       able.gathered,
@@ -77,9 +77,9 @@ returns-2 c =
     let a = start.args in
     let able = start.pre.1.1.1.1.1.0 in
     step-taken
-    (λ w. laneTo w (columnsOf a.lefts.now a.rights.now a.other-lefts.now a.other-rights.now
+    (λ w. lane_to w (columns_of a.lefts.now a.rights.now a.other-lefts.now a.other-rights.now
     a.reversed.now) a.groups.now a.count a.from_at a.to_at)
-    able.from-shelf able.halves (rw told.step.given.1 at called.take-both.ensures)
+    able.from_shelf able.halves (rw told.step.given.1 at called.take-both.ensures)
     gathered.gather-sets.ensures finished.finish-sets.ensures finished.finish-sets.kept.0
 
 pub take-step-spec : {M : Type 1} → statement M

@@ -12,8 +12,8 @@ use Rattle.turning.proofs.carry_new.Statement.{statement}
 use Rattle.turning.proofs.carry_new.Tie as tie
 
 -- where nothing is added, the newly found cuts are one run
-found-run : {xs : List ℕ} {from to : CutSet} → Ready xs from to → NothingAdded from → FoundRun xs from
-found-run r f = rw (sym f) r.from-good.found-run.rising
+found_run : {xs : List ℕ} {from to : CutSet} → Ready xs from to → NothingAdded from → FoundRun xs from
+found_run r f = rw (sym f) r.from_good.found_run.rising
 
 count-found-requires : tie.Need-count-found-requires
 count-found-requires c κs = search rules
@@ -24,7 +24,7 @@ carry-few-requires c κs =
     let some : tie.Then1 = search in
     let pre = start.pre in
     let indexed = ⊎_elim (λ e. absurd (omega (arith, e, some.if1.taken))) (λ i. i) pre.1.0 in
-    (pre.0, (indexed, (pre.1.1.0, (found-run pre.1.1.0 pre.1.1.1.0, pre.1.1.1.1.0))))
+    (pre.0, (indexed, (pre.1.1.0, (found_run pre.1.1.0 pre.1.1.1.0, pre.1.1.1.1.0))))
 
 same_length : tie.Need-same-length
 same_length c = search rules
@@ -39,8 +39,8 @@ too-many-requires : tie.Need-too-many-requires
 too-many-requires c κs =
     let start : tie.Start = search in
     let pre = start.pre in (
-      pre.0.from-length ∙ sym pre.0.from-right-length,
-      (pre.1.1.0.from-good, found-run pre.1.1.0 pre.1.1.1.0),
+      pre.0.from_length ∙ sym pre.0.from_right_length,
+      (pre.1.1.0.from_good, found_run pre.1.1.0 pre.1.1.1.0),
     )
 
 same-length-2 : tie.Need-same-length-2
@@ -52,14 +52,14 @@ returns-2 c =
     let pre = start.pre in
     let args = start.args in
     let more = c.before.too_many.ensures c.if3.true args.other-lefts.now args.other-rights.now
-    args.reversed.now pre.0.from-length in
+    args.reversed.now pre.0.from_length in
     omega (arith, more, pre.1.1.1.1.0)
 
 carry-found-requires : tie.Need-carry-found-requires
 carry-found-requires c κs =
     let start : tie.Start = search in
     let pre = start.pre in
-    (pre.0, (pre.1.1.0, (found-run pre.1.1.0 pre.1.1.1.0, pre.1.1.1.1)))
+    (pre.0, (pre.1.1.0, (found_run pre.1.1.0 pre.1.1.1.0, pre.1.1.1.1)))
 
 same-length-3 : tie.Need-same-length-3
 same-length-3 c = search rules

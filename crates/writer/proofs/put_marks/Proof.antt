@@ -4,16 +4,16 @@ use Prim.Native.Nat.{◌-◌}
 use mathlib.Core.Path.{refl, sym}
 use native.Mathlib.Omega.{arith}
 use borrow.Author.Rules.{rules}
-use Rattle.script.specs.Commands.{markWidth}
-use Rattle.records.specs.Records.{points_of, noMark}
-use Rattle.records.specs.Bytes.{markBytes}
+use Rattle.script.specs.Commands.{mark_width}
+use Rattle.records.specs.Records.{points_of, no_mark}
+use Rattle.records.specs.Bytes.{mark_bytes}
 use Rattle.records.proofs.Lists.{point-held, point-inside}
 use Rattle.writer.proofs.Stored.{Putting, putting-start, putting-next, putting-ends, mark-sided}
 use Rattle.writer.proofs.put_marks.Statement.{statement}
 use Rattle.writer.proofs.put_marks.Tie as tie
 
 abbrev invariant-loop : tie.invariant-loop
-invariant-loop out₀ from marks count k₀ out k = Putting markBytes markWidth from (points_of marks) out₀ out k
+invariant-loop out₀ from marks count k₀ out k = Putting mark_bytes mark_width from (points_of marks) out₀ out k
 
 abbrev decreases-loop : tie.decreases-loop
 decreases-loop out₀ from marks count k₀ out k = count - k
@@ -69,7 +69,7 @@ loop-again c =
     let put : tie.After-put-mark invariant-loop decreases-loop = search in
     let counted = start.pre.0.0 in
     let below = loop.loop-test.taken in
-    putting-next _ _ _ _ _ loop.before.loop.inv noMark refl (omega arith)
+    putting-next _ _ _ _ _ loop.before.loop.inv no_mark refl (omega arith)
     (sym (point-held _ _ (point-inside _ counted below))) put.put-mark.ensures
 
 same_length : tie.Need-same-length invariant-loop decreases-loop

@@ -4,9 +4,9 @@ use Prim.Native.Nat.{◌-◌}
 use mathlib.Core.Path.{refl}
 use native.Mathlib.Omega.{arith}
 use borrow.Author.Rules.{rules}
-use Rattle.script.specs.Commands.{lengthsWidth, matchWidth}
-use Rattle.records.specs.Records.{noRecord, match_of, matchesOf}
-use Rattle.records.specs.Bytes.{matchBytes}
+use Rattle.script.specs.Commands.{lengths_width, match_width}
+use Rattle.records.specs.Records.{no_record, match_of, matches_of}
+use Rattle.records.specs.Bytes.{match_bytes}
 use Rattle.records.proofs.Lists.{record-inside}
 use Rattle.writer.proofs.Stored.{Putting, putting-start, putting-next, putting-ends}
 use Rattle.writer.proofs.Stored.{matches-counted, record-directed, match-held}
@@ -14,7 +14,7 @@ use Rattle.writer.proofs.put_matches.Statement.{statement}
 use Rattle.writer.proofs.put_matches.Tie as tie
 
 abbrev invariant-loop : tie.invariant-loop
-invariant-loop out₀ records count k₀ out k = Putting matchBytes matchWidth lengthsWidth (matchesOf records) out₀ out k
+invariant-loop out₀ records count k₀ out k = Putting match_bytes match_width lengths_width (matches_of records) out₀ out k
 
 abbrev decreases-loop : tie.decreases-loop
 decreases-loop out₀ records count k₀ out k = count - k
@@ -48,7 +48,7 @@ loop-again c =
     let put : tie.After-put-match invariant-loop decreases-loop = search in
     let counted = start.pre.0.0 in
     let below = loop.loop-test.taken in
-    putting-next _ _ _ _ _ loop.before.loop.inv (match_of noRecord) refl (omega (arith, matches-counted _ counted))
+    putting-next _ _ _ _ _ loop.before.loop.inv (match_of no_record) refl (omega (arith, matches-counted _ counted))
     (match-held _ counted below read.record-at.ensures) put.put-match.ensures
 
 same_length : tie.Need-same-length invariant-loop decreases-loop

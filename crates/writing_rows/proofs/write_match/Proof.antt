@@ -3,19 +3,19 @@
 use Prim.Native.Nat.{◌-◌}
 use native.Mathlib.Omega.{arith}
 use borrow.Author.Rules.{rules}
-use Rattle.refinement.specs.Match.{matchAB}
+use Rattle.refinement.specs.Match.{match_ab}
 use Rattle.writing_rows.proofs.Placing.{Remaining, remaining-start, remaining-stretch, remaining-room}
 use Rattle.writing_rows.proofs.Placing.{remaining-step, remaining-end}
 use Rattle.writing_rows.proofs.write_match.Statement.{statement}
 use Rattle.writing_rows.proofs.write_match.Tie as tie
 
 abbrev invariant-loop : tie.invariant-loop
-invariant-loop work first last number left-a left-b right-b reversed table₀ row at₀ next₀ table at next =
-    Remaining (matchAB number left-a left-b (right-b - left-b) reversed) right-b work first last row table₀ table at
+invariant-loop work first last number left_a left_b right_b reversed table₀ row at₀ next₀ table at next =
+    Remaining (match_ab number left_a left_b (right_b - left_b) reversed) right_b work first last row table₀ table at
     next
 
 abbrev decreases-loop : tie.decreases-loop
-decreases-loop work first last number left-a left-b right-b reversed table₀ row at₀ next₀ table at next = last - at
+decreases-loop work first last number left_a left_b right_b reversed table₀ row at₀ next₀ table at next = last - at
 
 loop-holds : tie.Need-loop-init invariant-loop decreases-loop
 loop-holds c = let pre = c.before.before.requires in remaining-start pre.0 (omega (arith, pre.1.0)) pre.1.1

@@ -3,18 +3,18 @@
 use Prim.Native.Nat.{◌-◌}
 use borrow.Author.Rules.{rules}
 use lib.ListN.{length}
-use Rattle.refining.specs.Columns.{columnsOf}
+use Rattle.refining.specs.Columns.{columns_of}
 use Rattle.writing_rows.proofs.Placing.{Done, done-start, done-long, done-cuts, done-ends, done-room}
 use Rattle.writing_rows.proofs.Placing.{done-step, done_end}
 use Rattle.writing_rows.proofs.write_rows.Statement.{statement}
 use Rattle.writing_rows.proofs.write_rows.Tie as tie
 
 abbrev invariant-loop : tie.invariant-loop
-invariant-loop left-a right-a left-b right-b reversed work lo hi table₀ row₀ k₀ table row k =
-    Done (columnsOf left-a right-a left-b right-b reversed) work lo hi table₀ table row k
+invariant-loop left_a right_a left_b right_b reversed work lo hi table₀ row₀ k₀ table row k =
+    Done (columns_of left_a right_a left_b right_b reversed) work lo hi table₀ table row k
 
 abbrev decreases-loop : tie.decreases-loop
-decreases-loop left-a right-a left-b right-b reversed work lo hi table₀ row₀ k₀ table row k = length reversed - k
+decreases-loop left_a right_a left_b right_b reversed work lo hi table₀ row₀ k₀ table row k = length reversed - k
 
 loop-holds : tie.Need-loop-init invariant-loop decreases-loop
 loop-holds c = let start : tie.Start invariant-loop decreases-loop = search in done-start start.pre.0 start.pre.1
@@ -62,11 +62,11 @@ write-match-requires : tie.Need-write-match-requires invariant-loop decreases-lo
 write-match-requires c κs =
     let at-loop : tie.At-loop invariant-loop decreases-loop = search in
     let in-loop : tie.In-loop invariant-loop decreases-loop = search in
-    let from-left : tie.After-lower-bound invariant-loop decreases-loop = search in
+    let from_left : tie.After-lower-bound invariant-loop decreases-loop = search in
     let bounded : tie.After-lower-bound2 invariant-loop decreases-loop = search in
     let less = in-loop.loop-test.taken in
     let inv = at-loop.loop.inv in
-    let left = from-left.lower-bound.ensures in
+    let left = from_left.lower-bound.ensures in
     let right = bounded.lower-bound2.ensures in (
       done-cuts inv less left right,
       (done-ends inv less left right, done-room inv less left right),
@@ -81,10 +81,10 @@ loop-less c = search rules
 loop-again : tie.Need-loop-preserved invariant-loop decreases-loop
 loop-again c =
     let in-loop : tie.In-loop invariant-loop decreases-loop = search in
-    let from-left : tie.After-lower-bound invariant-loop decreases-loop = search in
+    let from_left : tie.After-lower-bound invariant-loop decreases-loop = search in
     let bounded : tie.After-lower-bound2 invariant-loop decreases-loop = search in
     let written : tie.After-write-match invariant-loop decreases-loop = search in
-    done-step in-loop.before.loop.inv in-loop.loop-test.taken from-left.lower-bound.ensures
+    done-step in-loop.before.loop.inv in-loop.loop-test.taken from_left.lower-bound.ensures
     bounded.lower-bound2.ensures written.write-match.ensures
 
 same_length : tie.Need-same-length invariant-loop decreases-loop
