@@ -72,7 +72,7 @@ step-next : {s : List ℕ} {p q at : ℕ} {ms : List Match} {ks : List Mark} {c 
 step-next r (Seen.missing _) = tt
 step-next r (Seen.unknown _ _ _ _ _ _) = tt
 step-next r (Seen.lengths _ _) = tt
-step-next r (Seen.lengths_Short _ _) = tt
+step-next r (Seen.lengths_short _ _) = tt
 step-next {p} {q} {at} {ms} r (Seen.pairing {m} d) = match-next r d (judged p q (length ms) at m)
 step-next {at} {ms} r (Seen.pairing_short _ _) =
     short-next r (roomy most_matches (length ms) (TooManyMatches at) (Step.Refuse (CutShort at)))
@@ -104,7 +104,7 @@ opening-begins (Seen.missing _) = tt
 opening-begins (Seen.unknown _ _ _ _ _ _) = tt
 opening-begins {s} (Seen.lengths b w) =
     lengths-begin (record { code = b; whole = w; first = refl; second = refl }) (opens (number_at s 1) (number_at s 5))
-opening-begins (Seen.lengths_Short _ _) = tt
+opening-begins (Seen.lengths_short _ _) = tt
 opening-begins (Seen.pairing _) = tt
 opening-begins (Seen.pairing_short _ _) = tt
 opening-begins (Seen.marking _) = tt

@@ -62,7 +62,7 @@ stands : {s : List ℕ} (p q count marks : ℕ) {at : ℕ} {c : Command} → See
 stands p q count marks (Seen.missing _) = refused_here
 stands p q count marks (Seen.unknown _ _ _ _ _ _) = refused_here
 stands p q count marks (Seen.lengths _ _) = refused_here
-stands p q count marks (Seen.lengths_Short _ _) = refused_here
+stands p q count marks (Seen.lengths_short _ _) = refused_here
 stands p q count marks {at} (Seen.pairing {m} d) = match-stands d (judged p q count at m)
 stands p q count marks {at} (Seen.pairing_short _ _) =
     short-stands (roomy most_matches count (TooManyMatches at) (Step.Refuse (CutShort at)))

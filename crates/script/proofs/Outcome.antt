@@ -165,7 +165,7 @@ not-lengths : {s : List ℕ} → (Byte s 0 0x4C → ⊥) → {c : Command} → S
 not-lengths n (Seen.missing _) = refl
 not-lengths n (Seen.unknown _ _ _ _ _ _) = refl
 not-lengths n (Seen.lengths b _) = absurd (n b)
-not-lengths n (Seen.lengths_Short b _) = absurd (n b)
+not-lengths n (Seen.lengths_short b _) = absurd (n b)
 not-lengths n (Seen.pairing _) = refl
 not-lengths n (Seen.pairing_short _ _) = refl
 not-lengths n (Seen.marking _) = refl
@@ -174,7 +174,7 @@ not-lengths n (Seen.end _ _) = refl
 not-lengths n (Seen.end_then_more _ _) = refl
 
 short-alone : {s : List ℕ} {at : ℕ} → Short s at → reading_answer (read_script s) ≡ refusal 3 at
-short-alone {s} (Short.lengths b h) = opening-answer s (Seen.lengths_Short b h) refl
+short-alone {s} (Short.lengths b h) = opening-answer s (Seen.lengths_short b h) refl
 short-alone (Short.pairing r room b h) = ends-answer r (Seen.pairing_short b h) (roomy-step (Roomy.room room))
 short-alone (Short.marking r room b h) = ends-answer r (Seen.marking_short b h) (roomy-step (Roomy.room room))
 short-alone (Short.ran_out r e) = ends-answer r (Seen.missing (omega arith)) refl
@@ -200,7 +200,7 @@ outcome-alone (Outcome.cut_short h) = short-alone h
 outcome-alone {s} (Outcome.second_lengths {at} r b) =
     elim (dec_le (at + lengths_width) (length s)) [
       | yes w ↦ ends-answer r (Seen.lengths b w) refl
-      | no w ↦ ends-answer r (Seen.lengths_Short b (lt_of_not-le w)) refl
+      | no w ↦ ends-answer r (Seen.lengths_short b (lt_of_not-le w)) refl
     ]
 outcome-alone {s} (Outcome.length_out_of_range l n) =
     opening-answer s (lengths-seen l) (opens-step (Opens.out_of_range n))
@@ -272,7 +272,7 @@ step-stated : {s : List ℕ} {p q at : ℕ} {ms : List Match} {ks : List Mark} {
 step-stated r (Seen.missing h) onward next = Outcome.cut_short (Short.ran_out r (omega (arith, reach-inside r)))
 step-stated r (Seen.unknown h n1 n2 n3 n4 n5) onward next = Outcome.unknown_command r h n1 n2 n3 n4 n5
 step-stated r (Seen.lengths b _) onward next = Outcome.second_lengths r b
-step-stated r (Seen.lengths_Short b _) onward next = Outcome.second_lengths r b
+step-stated r (Seen.lengths_short b _) onward next = Outcome.second_lengths r b
 step-stated {p} {q} {at} {ms} r (Seen.pairing {m} d) onward next =
     match-stated r d (judged p q (length ms) at m) onward next
 step-stated {p} {q} {at} {ms} {ks} r (Seen.pairing_short b h) onward next =
@@ -313,7 +313,7 @@ opening-stated (Seen.missing h) = Outcome.headless (inl (omega arith))
 opening-stated (Seen.unknown h n _ _ _ _) = Outcome.headless (inr n)
 opening-stated {s} (Seen.lengths b w) =
     lengths-stated (record { code = b; whole = w; first = refl; second = refl }) (opens (number_at s 1) (number_at s 5))
-opening-stated (Seen.lengths_Short b h) = Outcome.cut_short (Short.lengths b h)
+opening-stated (Seen.lengths_short b h) = Outcome.cut_short (Short.lengths b h)
 opening-stated (Seen.pairing d) = match-byte d.code
 opening-stated (Seen.pairing_short b _) = match-byte b
 opening-stated (Seen.marking d) = other_byte (omega arith) d.code
