@@ -1,6 +1,7 @@
 // Match scripts: their limits, commands, refusals, and the replies of the reader. specs/ has what a string of bytes is
 // as a script and what is refused, proofs/ the laws of it. The reader is `reader`'s.
 #![tactic(auto)]
+
 pub mod command;
 pub mod limits;
 pub mod refusal;
