@@ -3,6 +3,7 @@
 // those that are looked through stand together. Above the right ends stand levels: each has the furthest of each 16
 // numbers, a block, of the one below it, until a level is one block.
 #![tactic(auto)]
+
 ghost use Rattle.std.specs.Prelude.{◌≡◌, ◌+◌, ◌*◌, ◌^◌, ◌<◌};
 ghost use Rattle.arrangement.specs.Index.{blocks_of, block_start};
 
