@@ -1,5 +1,6 @@
 // A chain written out by its links.
 #![tactic(auto)]
+
 ghost use Rattle.std.specs.Prelude.{◌≡◌, ◌≤◌, length};
 ghost use Rattle.walking.specs.Trail.{Leads, Written};
 
