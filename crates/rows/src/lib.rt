@@ -1,5 +1,6 @@
 // The rows of a table: the one place that knows how many numbers a row has and what each of them is.
 #![tactic(auto)]
+
 ghost use Rattle.std.specs.Prelude.{◌≡◌, ◌<◌, length};
 ghost use Rattle.rows.specs.Rows.{rows_of, row_at};
 
