@@ -21,7 +21,6 @@ use Rattle.script.specs.declared.step.Judgement.{Judgement}
 use Rattle.script.specs.declared.step.Judgement.TheVariants.{Sound, Faulty}
 use Rattle.script.specs.declared.step.Opening.{Opening}
 use Rattle.script.specs.declared.step.Opening.TheVariants.{Open}
-use Rattle.script.specs.declared.step.Opening.TheVariants
 use Rattle.script.specs.declared.step.Step.{Step}
 use Rattle.script.specs.declared.step.Step.TheVariants.{Refuse, Finish, Take, Keep}
 
