@@ -43,7 +43,7 @@ pub extern "C" fn notchergrey_read(
       place = place.new;
       given =
           record {
-            p = p.exit.now;
+            p = p.new;
             q = q.new;
             count = count.new;
             marks = mark_count.new;
@@ -51,7 +51,7 @@ pub extern "C" fn notchergrey_read(
     }
         ≡ read_door script.now place.old
         (record {
-          p = p.entry.now;
+          p = p.old;
           q = q.old;
           count = count.old;
           marks = mark_count.old;
@@ -169,7 +169,7 @@ pub extern "C" fn notchergrey_read_records(
       place = place.new;
       given =
           record {
-            p = p.exit.now;
+            p = p.new;
             q = q.new;
             count = count.new;
             marks = mark_count.new;
@@ -177,7 +177,7 @@ pub extern "C" fn notchergrey_read_records(
     }
         ≡ records_door script.now records.old marks.old place.old
         (record {
-          p = p.entry.now;
+          p = p.old;
           q = q.old;
           count = count.old;
           marks = mark_count.old;
@@ -250,11 +250,11 @@ pub extern "C" fn notchergrey_chain(
     ensures length_after { record {
       number = result;
       place = place.new;
-      given = record { score = score.exit.now; rows = rows.new; length = length.new };
+      given = record { score = score.new; rows = rows.new; length = length.new };
     }
         ≡ chain_door script.now price table.old work.old chain.old
         scores.old place.old
-        (record { score = score.entry.now; rows = rows.old; length = length.old }) }
+        (record { score = score.old; rows = rows.old; length = length.old }) }
     ensures table_after { table.new
         ≡ (chaining_of script.now price table.old work.old chain.old
         scores.old).table }

@@ -83,7 +83,7 @@ abbrev pub of_written : Written → Said ℕ
 of_written (Written.Bytes n) = gives n
 of_written (Written.Refused r) = refuses r
 
--- notchergrey_write; what the lent bytes are after it is the library's `writingOf`
+-- notchergrey_write; what the lent bytes are after it is the library's `writing_of`
 abbrev pub write_door : ℕ → ℕ → List ℕ → List ℕ → List ℕ → ℕ → ℕ → Reply ℕ
 write_door p q records marks script place was = door (of_written (writing_of p q records marks script).reply) place was
 
@@ -92,7 +92,7 @@ abbrev pub of_listed : Listed → Said Read
 of_listed (Listed.Records p q count marks) = gives (record { p = p; q = q; count = count; marks = marks })
 of_listed (Listed.Refused r) = refuses r
 
--- notchergrey_read_records; what the lent numbers are after it is the library's `listingOf`
+-- notchergrey_read_records; what the lent numbers are after it is the library's `listing_of`
 abbrev pub records_door : List ℕ → List ℕ → List ℕ → ℕ → Read → Reply Read
 records_door script records marks place was = door (of_listed (listing_of script records marks).reply) place was
 
@@ -123,7 +123,7 @@ abbrev pub of_refined : Refined → Said ℕ
 of_refined (Refined.Rows n) = gives n
 of_refined (Refined.Refused r) = refuses r
 
--- notchergrey_refine; what the lent table and work buffer hold after it is the library's `refiningOf`
+-- notchergrey_refine; what the lent table and work buffer hold after it is the library's `refining_of`
 abbrev pub refine_door : List ℕ → List ℕ → List ℕ → ℕ → ℕ → Reply ℕ
 refine_door script table work place was = door (of_refined (refining_of script table work).reply) place was
 
@@ -140,7 +140,7 @@ abbrev pub of_chained : Chained → Said OneChain
 of_chained (Chained.Best score rows length) = gives (record { score = score; rows = rows; length = length })
 of_chained (Chained.Refused r) = refuses r
 
--- notchergrey_chain; what the four lent buffers hold after it is the library's `chainingOf`
+-- notchergrey_chain; what the four lent buffers hold after it is the library's `chaining_of`
 abbrev pub chain_door : List ℕ → ℕ → List ℕ → List ℕ → List ℕ → List ℕ → ℕ → OneChain → Reply OneChain
 chain_door script price table work chain scores place was =
     door (of_chained (chaining_of script price table work chain scores).reply) place was
@@ -228,6 +228,6 @@ abbrev pub of_reported : Reported → ReportReply
 of_reported (Reported.Printed n) = record { number = 0; length = n }
 of_reported (Reported.TextTooShort n) = record { number = number_of BufferTooShort; length = n }
 
--- notchergrey_report; what the lent text holds after it is the library's `reportingOf`
+-- notchergrey_report; what the lent text holds after it is the library's `reporting_of`
 abbrev pub report_door : List ℕ → List ℕ → ReportReply
 report_door script text = of_reported (reporting_of script text).reply

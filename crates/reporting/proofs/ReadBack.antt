@@ -56,14 +56,14 @@ row_cut r r' {s} {t} h h' e =
     let c = decimal-cut r.left_b r'.left_b (omega arith) b.1 in
     let d = decimal-cut r.length r'.length (omega arith) c.1 in
     let number = decimal-inj h.number_fits h'.number_fits a.0 in
-    let left_a = decimal-inj h.left_a_fits h'.left_a_fits b.0 in
-    let left_b = decimal-inj h.left_b_fits h'.left_b_fits c.0 in
+    let on_a = decimal-inj h.left_a_fits h'.left_a_fits b.0 in
+    let on_b = decimal-inj h.left_b_fits h'.left_b_fits c.0 in
     let letters = decimal-inj h.length_fits h'.length_fits d.0 in
     let direction = sign-inj r.direction r'.direction h.a_direction h'.a_direction (ap (take 1) d.1) in (
       λ i. record {
         number = number i;
-        left_a = left_a i;
-        left_b = left_b i;
+        left_a = on_a i;
+        left_b = on_b i;
         length = letters i;
         direction = direction i;
       },
