@@ -1,6 +1,6 @@
 #!/usr/bin/env bash
 # Holds the header, the Rust wrapper and the example programs to the library and to the slow program, which needs the
-# archive that `rt staticlib capi` writes. Its last line is 'bindings: N runs, 0 differences', and its exit status 0,
+# archive that `bash archive capi` writes. Its last line is 'bindings: N runs, 0 differences', and its exit status 0,
 # only if the header compiles without a warning, the declarations for Rust agree with it, every constant of the header
 # is provoked and is what it says, all tests of the wrapper pass, every table and every backbone that is printed is the
 # slow program's, lists and scripts turn into each other and back, each wrong list is refused in its line, and markers
@@ -35,7 +35,7 @@ fail() { # WHAT
     exit 1
 }
 
-[ -f "$archive" ] || fail "$archive is missing: run 'rt staticlib capi' first"
+[ -f "$archive" ] || fail "$archive is missing: run 'bash archive capi' first"
 scratch=$(mktemp -d)
 trap 'rm -rf "$scratch"' EXIT
 
@@ -86,7 +86,7 @@ grep -qFx "$linked" "$scratch"/user/target/release/build/*/output ||
 if build_near far 2> "$scratch/said"; then
     fail 'an archive that is missing was linked'
 fi
-grep -q 'libcapi.a is missing, .*/user/far/libcapi.a and .*: run `rt staticlib capi`' "$scratch/said" || {
+grep -q 'libcapi.a is missing, .*/user/far/libcapi.a and .*: run `bash archive capi`' "$scratch/said" || {
     cat "$scratch/said"
     fail 'it is not said which archive is missing'
 }

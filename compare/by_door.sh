@@ -6,7 +6,7 @@ cd "$(dirname "$0")/.."
 program=$1
 doors=$2
 shift 2
-LC_ALL=C rt staticlib "$doors" > /dev/null
+bash archive "$doors" > /dev/null
 mkdir -p "target/$(dirname "$program")"
 rustc -O --edition 2021 -L target/staticlib "$program/main.rs" -o "target/$program"
 exec "target/$program" "$@"

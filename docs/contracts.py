@@ -33,8 +33,8 @@ DOORS = "capi/src/"
 NO_CODE = re.compile(r'(?://|--)[^\n]*|/\*.*?\*/|"(?:\\.|[^"\\])*"|\'(?:\\.|[^\'\\])\'', re.DOTALL)
 WORD = r'\b(?:pub(?:\s*\([^)]*\))?|const|unsafe|extern(?:\s*"C")?)\s+'
 FUNCTION = re.compile(rf"(?P<words>(?:{WORD})*)\bfn\s+(?P<name>\w+)")
-CLAUSE = re.compile(r"\b(requires|ensures)\b(?:\s+\w+)?\s*\{")
-RESULT = re.compile(r"\{\s*λ\s*(\S+?)\s*\.")
+CLAUSE = re.compile(r"\b(requires|ensures)\b\*?(?:\s+\w+)?\s*\{")
+RESULT = re.compile(r"(?<![\w.])result(?!\w)")
 
 
 def main():
@@ -105,11 +105,8 @@ def faults(header, total):
 
 
 def speaks(promise):
-    """Whether a promise names the result and then says something of it."""
-    result = RESULT.match(promise)
-    if not result or result[1] == "_":
-        return False
-    return re.search(rf"(?<!\w){re.escape(result[1])}(?!\w)", promise[result.end() :]) is not None
+    """Whether a promise speaks of the result."""
+    return RESULT.search(promise) is not None
 
 
 main()

@@ -1,5 +1,5 @@
 #!/usr/bin/env python3
-"""Holds each place that lists the refusals to the proved definition: `numberOf` of crates/script/specs/Refusals.antt.
+"""Holds each place that lists the refusals to the proved definition: `number_of` of crates/script/specs/Refusals.antt.
 
 A place gives rows: a number, a word, or both. Words are compared without case and without what parts them, so that
 TooManyMatches, TOO_MANY_MATCHES, too-many-matches and "too many matches" are one. Each row must be one of the
@@ -21,8 +21,8 @@ CODE = "crates/refusals/src/lib.rt"
 
 # Files that list every refusal; what lists it there, the part of the file that this is, and a row in it.
 LISTS = [
-    (DEFINITION, "numberOf", r"^numberOf .*?\n\n", r"^numberOf \(?(?P<word>\w+)[^=]* = (?P<number>\d+)$"),
-    (DEFINITION, "placeOf", r"^placeOf .*\Z", r"^placeOf \(?(?P<word>\w+)[^=]* ="),
+    (DEFINITION, "number_of", r"^number_of .*?\n\n", r"^number_of \(?(?P<word>\w+)[^=]* = (?P<number>\d+)$"),
+    (DEFINITION, "place_of", r"^place_of .*\Z", r"^place_of \(?(?P<word>\w+)[^=]* ="),
     ("crates/script/src/refusal.rt", "enum", r"^pub enum Refusal \{.*?^\}", r"^ +(?P<word>[A-Z]\w*).*,$"),
     (CODE, "number_of", r"^pub fn number_of.*?^\}", r"Refusal::(?P<word>\w+)[^=]* => (?P<number>\d+),$"),
     (CODE, "place_of", r"^pub fn place_of.*?^\}", r"Refusal::(?P<word>\w+)[^=]* =>"),
@@ -36,7 +36,7 @@ LISTS = [
 
 # In a specification, a case of a `data` type, and the refusal that is its answer.
 DATA = re.compile(r"^pub data (?:.|\n)*?where\n(?P<cases>(?:  .*\n|\n)*)", re.MULTILINE)
-CASE = re.compile(r"^  (?P<word>[a-z-]+) :(?P<type>(?:.|\n(?=    ))*)", re.MULTILINE)
+CASE = re.compile(r"^  (?P<word>[a-z_]+) :(?P<type>(?:.|\n(?=    ))*)", re.MULTILINE)
 ANSWER = re.compile(r"\(refusal (?P<number>\d+) ")
 
 

@@ -85,8 +85,9 @@ says 1 '' bash "$run" two-matches.script >&5
 
 # A check that fails leaves no program. rt is played by a script that builds one, proves one crate and fails.
 copy=$made/copy
-mkdir -p "$copy/target/bin" "$copy/tools"
-cp -r ../run ../crates "$copy"
+mkdir -p "$copy/target/bin" "$copy/tools" "$copy/crates/notchergrey"
+cp ../run "$copy"
+cp /bin/true "$copy/target/bin/notchergrey"
 cat >"$copy/crates.txt" <<'END'
 # a floor: with a comment
 script:
@@ -97,16 +98,21 @@ notchergrey: script refine io
 END
 cat >"$copy/tools/rt" <<'END'
 #!/bin/sh
-cp /bin/true target/bin/notchergrey
-echo 'rt: script proved (1 s)'
-echo 'rt: FAILED: refine'
+mkdir -p out
+cp /bin/true out/notchergrey
+echo 'crate script: modules loaded=0 checked=203'
+echo 'logic=proved functions=9'
+echo 'crate refine: modules loaded=0 checked=80'
+echo 'logic=not-proved'
 exit 1
 END
 chmod +x "$copy/tools/rt"
 said='run: proving and building the program; the first time this takes some eight minutes
 run: proved 1 of 3 crates: script
-rt: script proved (1 s)
-rt: FAILED: refine
+crate script: modules loaded=0 checked=203
+logic=proved functions=9
+crate refine: modules loaded=0 checked=80
+logic=not-proved
 run: not proved, so there is no program to run'
 for again in first second; do
     says 1 "$said" env PATH="$copy/tools:$PATH" bash "$copy/run" two-matches.script >"$made/printed"

@@ -1,5 +1,5 @@
 /*
- * The piece table of two genomes: the functions of the static library that `rt staticlib capi` writes to
+ * The piece table of two genomes: the functions of the static library that `bash archive capi` writes to
  * target/staticlib/libcapi.a. Link it behind your own objects: cc -Iinclude program.o target/staticlib/libcapi.a
  *
  * Every function returns 0, or the number of a refusal (below). None allocates memory, keeps a pointer or ends the

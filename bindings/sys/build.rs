@@ -1,4 +1,4 @@
-//! Links libcapi.a, which `rt staticlib capi` writes. NOTCHERGREY_STATICLIB names its folder; a relative one is seen
+//! Links libcapi.a, which `bash archive capi` writes. NOTCHERGREY_STATICLIB names its folder; a relative one is seen
 //! from where cargo was started, or else from this package. Without it the folder is ../../target/staticlib, seen from
 //! this package.
 
@@ -27,7 +27,7 @@ fn main() {
             println!("cargo::rustc-link-lib=static=capi");
         }
         None => println!(
-            "cargo::error={ARCHIVE} is missing, looked for as {}: run `rt staticlib capi` in the repository, or name \
+            "cargo::error={ARCHIVE} is missing, looked for as {}: run `bash archive capi` in the repository, or name \
              the archive's folder in {FOLDER_VARIABLE}",
             names(&tried)
         ),

@@ -1,6 +1,6 @@
 /*
  * Prints the backbone of a script: the best run of direct pieces that are in the same order on both genomes, at a gap
- * price. From the repository's root, after `rt staticlib capi`:
+ * price. From the repository's root, after `bash archive capi`:
  *
  *     cc -std=c99 -Iinclude examples/c/chain.c target/staticlib/libcapi.a -o chain
  *     ./chain 1 examples/two-matches.script

@@ -1,6 +1,6 @@
 /*
  * Lays a set of markers of one genome on the other: one call carries all those that a match spans. From the
- * repository's root, after `rt staticlib capi`:
+ * repository's root, after `bash archive capi`:
  *
  *     cc -std=c99 -Iinclude examples/c/lay_markers.c target/staticlib/libcapi.a -o lay_markers
  *     ./lay_markers examples/real/pylori-b.script A examples/real/pylori-b.hindiii.txt

@@ -1,6 +1,6 @@
 /*
  * Lays a breeder's markers on a script. Each marker becomes a mark, so that no piece has it inside, and the program
- * prints where the markers stand on the other genome. From the repository's root, after `rt staticlib capi`:
+ * prints where the markers stand on the other genome. From the repository's root, after `bash archive capi`:
  *
  *     cc -std=c99 -Iinclude examples/c/markers.c target/staticlib/libcapi.a -o markers
  *     ./markers examples/two-matches.script A 1 B 7 A 9

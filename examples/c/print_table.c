@@ -1,6 +1,6 @@
 /*
  * Reads the script in the file named on the command line and prints its piece table, as the program notchergrey does
- * for its standard input. From the repository's root, after `rt staticlib capi`:
+ * for its standard input. From the repository's root, after `bash archive capi`:
  *
  *     cc -std=c99 -Iinclude examples/c/print_table.c target/staticlib/libcapi.a -o print_table
  *     ./print_table examples/two-matches.script

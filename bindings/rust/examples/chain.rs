@@ -1,5 +1,5 @@
 //! Prints the backbone of a script: the best run of direct pieces that are in the same order on both genomes, at a gap
-//! price. From the repository's root, after `rt staticlib capi`:
+//! price. From the repository's root, after `bash archive capi`:
 //!
 //!     cargo run --manifest-path bindings/rust/Cargo.toml --example chain -- 1 examples/two-matches.script
 //!

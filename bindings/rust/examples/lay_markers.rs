@@ -1,5 +1,5 @@
 //! Lays a set of markers of one genome on the other: one call carries all those that a match spans. From the
-//! repository's root, after `rt staticlib capi`:
+//! repository's root, after `bash archive capi`:
 //!
 //!     cargo run --manifest-path bindings/rust/Cargo.toml --example lay_markers -- \
 //!         examples/real/pylori-b.script A examples/real/pylori-b.hindiii.txt

@@ -1,5 +1,5 @@
 //! Turns a list of matches and marks, kept as text, into a script, and a script back into its list. From the
-//! repository's root, after `rt staticlib capi`:
+//! repository's root, after `bash archive capi`:
 //!
 //!     cargo run --manifest-path bindings/rust/Cargo.toml --example list -- to-list examples/two-matches.script >my.tsv
 //!     cargo run --manifest-path bindings/rust/Cargo.toml --example list -- to-script my.tsv >my.script

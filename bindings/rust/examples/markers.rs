@@ -1,5 +1,5 @@
 //! Lays a breeder's markers on a script. Each marker becomes a mark, so that no piece has it inside, and the program
-//! prints where the markers stand on the other genome. From the repository's root, after `rt staticlib capi`:
+//! prints where the markers stand on the other genome. From the repository's root, after `bash archive capi`:
 //!
 //!     cargo run --manifest-path bindings/rust/Cargo.toml --example markers -- examples/two-matches.script A 1 B 7 A 9
 //!

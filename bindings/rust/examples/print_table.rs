@@ -1,5 +1,5 @@
 //! Reads the script in the file named on the command line and prints its piece table, as the program notchergrey does
-//! for its standard input. From the repository's root, after `rt staticlib capi`:
+//! for its standard input. From the repository's root, after `bash archive capi`:
 //!
 //!     cargo run --manifest-path bindings/rust/Cargo.toml --example print_table -- examples/two-matches.script
 

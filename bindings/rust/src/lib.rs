@@ -52,7 +52,7 @@
 //! [`backbone`] and the same within a limit make room for the rows themselves, so that memory may end: they return an
 //! [`Error`], which a refusal turns into by `?`.
 //!
-//! The archive is written by `rt staticlib capi` to `target/staticlib` of the repository. If it lies elsewhere, the
+//! The archive is written by `bash archive capi` to `target/staticlib` of the repository. If it lies elsewhere, the
 //! environment variable `NOTCHERGREY_STATICLIB` names its folder when this crate is built; a relative one is seen from
 //! where cargo is started.
 //!
