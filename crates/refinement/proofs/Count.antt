@@ -192,6 +192,7 @@ slots-skip r rs (m ∷ ms) h =
 slots-row :
     (r : Match) (rs ms : List Match) {m : Match} → Rising (λ m m'. m.number < m'.number) ms → m ∈ ms
     → r.number ≡ m.number → total (slots (r ∷ rs)) ms ≡ suc (total (slots rs) ms)
+slots-row r rs [] {m} h i f = absurd (Memᴰ.not-nil i)
 slots-row r rs (x ∷ ms) {m} h (here e) f =
     let same : m.number ≡ x.number = ap (λ z. z.number) e in
     let rest = slots-skip r rs ms (λ m' i k. omega (arith, h.0 m' i)) in

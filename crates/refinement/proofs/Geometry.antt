@@ -195,8 +195,8 @@ piece-of m x y l n h =
       same_track = λ s. elim s [ A ↦ refl | B ↦ refl ];
       same_direction = refl;
       lettered = omega arith;
-      starts_within = λ s. elim s [ A ↦ l | B ↦ f.0 ];
-      ends_within = λ s. elim s [ A ↦ omega arith | B ↦ f.1 ];
+      starts_within = λ s. elim s as (λ k. left m k ≤ left (piece_of m x y) k) [ A ↦ l | B ↦ f.0 ];
+      ends_within = λ s. elim s as (λ k. right (piece_of m x y) k ≤ right m k) [ A ↦ omega arith | B ↦ f.1 ];
       left_carries = f.2;
       right_carries = ap (carry m A) stop ∙ f.3;
     }

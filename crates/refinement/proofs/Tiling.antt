@@ -25,13 +25,19 @@ use Rattle.refinement.specs.Refinement.{Matches, Piece, Holds, holds?, rows_over
 use Rattle.refinement.proofs.Lists.{on-ite, ∈-filter, ∈-unfilter, rising-weaken, rising-filter}
 use Rattle.refinement.proofs.Geometry.{faces-exist, faces-holds, piece-faces}
 
+unique-number :
+    (m m' : Match) (ms : List Match) → Rising (λ m m'. m.number < m'.number) ms → m ∈ ms → m' ∈ ms
+    → m.number ≡ m'.number → m ≡ m'
+unique-number m m' [] h i j q = absurd (Memᴰ.not-nil i)
+unique-number m m' (x ∷ ms) h (here e) (here e') q = e ∙ sym e'
+unique-number m m' (x ∷ ms) h (here e) (there t) q = absurd (omega (arith, h.0 m' t, ap (λ z. z.number) e))
+unique-number m m' (x ∷ ms) h (there t) (here e) q = absurd (omega (arith, h.0 m t, ap (λ z. z.number) e))
+unique-number m m' (x ∷ ms) h (there t) (there t') q = unique-number m m' ms h.1 t t' q
+
 pub number-unique :
     (ms : List Match) → Rising (λ m m'. m.number < m'.number) ms → {m m' : Match} → m ∈ ms → m' ∈ ms
     → m.number ≡ m'.number → m ≡ m'
-number-unique ms h (here e) (here e') q = e ∙ sym e'
-number-unique (x ∷ ms) h {m} {m'} (here e) (there t) q = absurd (omega (arith, h.0 m' t, ap (λ z. z.number) e))
-number-unique (x ∷ ms) h {m} {m'} (there t) (here e) q = absurd (omega (arith, h.0 m t, ap (λ z. z.number) e))
-number-unique (x ∷ ms) h (there t) (there t') q = number-unique ms h.1 t t' q
+number-unique ms h {m} {m'} t t' q = unique-number m m' ms h t t' q
 
 first_of : {X : Type 0} (xs : List X) → 0 < length xs → (x : X) × (x ∈ xs)
 first_of [] h = absurd (omega arith)

@@ -7,7 +7,8 @@
 -- 01, "Resolved refinement". That least_cuts is Cut, and that least_table is Least, are laws. Assumes nothing.
 use Rattle.std.specs.Prelude.{ℕ, zero, suc, ◌+◌, ◌-◌, ◌*◌, ◌≤◌, min, ◌≡◌, length}
 use Rattle.std.proofs.Common.{ap, ⊎_elim}
-use Rattle.std.proofs.Math.Logic.{ite, Dec·and}
+use Rattle.std.proofs.Math.Logic.{ite}
+use Rattle.std.proofs.Math.Logic.Dec.{and}
 use mathlib.Core.List.Memᴰ
 use mathlib.Core.List.{List, [], ◌∷◌, ◌++◌, map, flat_map, filter}
 use mathlib.Core.List.Memᴰ.{head as here}
@@ -20,17 +21,17 @@ use Rattle.refinement.specs.Match.{Match, other, track, left, right, Place, plac
 
 -- Decisions: their types say what they decide.
 unfoldable pub spans? : (m : Match) (s : Side) (h : ℕ) → Dec (Spans m s h)
-spans? m s h = go (Dec·and (dec_le (left m s) h) (dec_le h (right m s)))
+spans? m s h = go (and (dec_le (left m s) h) (dec_le h (right m s)))
   where
     go : Dec ((left m s ≤ h) × (h ≤ right m s)) → Dec (Spans m s h)
     go (yes t) = yes (record { from_left = t.0; to_right = t.1 })
     go (no n) = no (λ t. n (t.from_left, t.to_right))
 
 unfoldable pub spans_place? : (m : Match) (p : Place) (s : Side) → Dec ((p.track ≡ track m s) × Spans m s p.position)
-spans_place? m p s = Dec·and (ℕ_discrete p.track (track m s)) (spans? m s p.position)
+spans_place? m p s = and (ℕ_discrete p.track (track m s)) (spans? m s p.position)
 
 unfoldable pub same? : (p q : Place) → Dec (p ≡ q)
-same? p q = go (Dec·and (ℕ_discrete p.track q.track) (ℕ_discrete p.position q.position))
+same? p q = go (and (ℕ_discrete p.track q.track) (ℕ_discrete p.position q.position))
   where
     go : Dec ((p.track ≡ q.track) × (p.position ≡ q.position)) → Dec (p ≡ q)
     go (yes e) = yes (λ i. record { track = e.0 i; position = e.1 i })

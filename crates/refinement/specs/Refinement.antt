@@ -8,7 +8,7 @@
 -- 01, "Resolved refinement" and "The table and its buffers". Assumes nothing.
 use Rattle.std.specs.Prelude.{ℕ, ◌≤◌, ◌<◌, ◌≡◌, Bool, true, false, ◌↔◌, ◌⊎◌, length}
 use Rattle.std.proofs.Common.{inl, inr, ⊎_elim}
-use Rattle.std.proofs.Math.Logic.{Dec·and}
+use Rattle.std.proofs.Math.Logic.Dec.{and}
 use mathlib.Core.List.{List, filter}
 use Rattle.std.proofs.Math.Decide.{dec_le, dec_lt, ℕ_discrete}
 use Rattle.refinement.specs.declared.Side.{Side}
@@ -49,7 +49,7 @@ pub record Holds (r : Match) (s : Side) (x : ℕ) : Type 0 where
   pub before_right : x < right r s
 
 unfoldable pub holds? : (n : ℕ) (s : Side) (x : ℕ) (r : Match) → Dec ((r.number ≡ n) × Holds r s x)
-holds? n s x r = go (Dec·and (ℕ_discrete r.number n) (Dec·and (dec_le (left r s) x) (dec_lt x (right r s))))
+holds? n s x r = go (and (ℕ_discrete r.number n) (and (dec_le (left r s) x) (dec_lt x (right r s))))
   where
     go : Dec ((r.number ≡ n) × ((left r s ≤ x) × (x < right r s))) → Dec ((r.number ≡ n) × Holds r s x)
     go (yes t) = yes (t.0, record { from_left = t.1.0; before_right = t.1.1 })
@@ -92,7 +92,7 @@ Before r r' = (r.number < r'.number) ⊎ ((r.number ≡ r'.number) × (r.left_a 
 
 unfoldable pub before? : (r r' : Match) → Dec (Before r r')
 before? r r' =
-    go (dec_lt r.number r'.number) (Dec·and (ℕ_discrete r.number r'.number) (dec_lt r.left_a r'.left_a))
+    go (dec_lt r.number r'.number) (and (ℕ_discrete r.number r'.number) (dec_lt r.left_a r'.left_a))
   where
     go : Dec (r.number < r'.number) → Dec ((r.number ≡ r'.number) × (r.left_a < r'.left_a)) → Dec (Before r r')
     go (yes l) d = yes (inl l)

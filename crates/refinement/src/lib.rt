@@ -1,11 +1,12 @@
 // The leaves of refining: whether a match spans a position, and where it carries it. Both are given the ends of the
 // match, and know of no length: `spans` adds nothing, and `carry` adds only what stays on the match.
 #![tactic(auto)]
+
 ghost use Rattle.std.specs.Prelude.{◌≡◌, ◌+◌, ◌-◌, ◌≤◌};
 ghost use Rattle.refinement.specs.Match.{other, on_side, between, AnswerKept, carry_to};
 
 // SCOPE, "Sides": a choice of two.
-#[derive(Drop)]
+#[derive(Clone, Copy)]
 pub enum Side {
     A,
     B,
