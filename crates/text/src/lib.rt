@@ -1,6 +1,7 @@
 // Text in a lent byte buffer, piece by piece. What does not fit is passed over and only counted, so that the place
 // behind the last piece is the length that the whole text needs.
 #![tactic(auto)]
+
 ghost use Rattle.std.specs.Prelude.{[], ◌∷◌, ◌+◌, ◌<◌, length};
 ghost use Rattle.text.specs.Decimal.{decimal};
 ghost use Rattle.text.specs.Putting.{Put};
