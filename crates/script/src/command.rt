@@ -13,7 +13,7 @@ pub const MARK_WIDTH: usize = 6;
 
 // Letters left_a to left_a + length of A and left_b to left_b + length of B, read the same way or one backwards. A and
 // B are named by their tracks, 0 and 1.
-#[derive(Drop)]
+#[derive(Clone, Copy)]
 pub struct Match {
     pub track_a: u8,
     pub track_b: u8,
@@ -24,13 +24,13 @@ pub struct Match {
 }
 
 // A position of a sequence that is to be a cut: side 0 is A, 1 is B.
-#[derive(Drop)]
+#[derive(Clone, Copy)]
 pub struct Mark {
     pub side: u8,
     pub position: u32,
 }
 
-#[derive(Drop)]
+#[derive(Clone, Copy)]
 pub enum Command {
     // No byte is left.
     Missing,

@@ -10,7 +10,7 @@ pub mod step;
 pub use command::{Mark, Match};
 pub use refusal::Refusal;
 
-#[derive(Drop)]
+#[derive(Clone, Copy)]
 pub enum Verdict {
     Admitted {
         p: u32,
@@ -22,7 +22,7 @@ pub enum Verdict {
 }
 
 // One match by its number, or why there is none.
-#[derive(Drop)]
+#[derive(Clone, Copy)]
 pub enum Finding {
     Found(Match),
     Refused(Refusal),

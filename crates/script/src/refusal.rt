@@ -1,6 +1,6 @@
 // The refusals: one variant for each row of 01's table and of the requests after it, holding its place where that
 // varies.
-#[derive(Drop)]
+#[derive(Clone, Copy)]
 pub enum Refusal {
     Headless,
     UnknownCommand(usize),

@@ -3,21 +3,21 @@ use crate::command::{Mark, Match};
 use crate::refusal::Refusal;
 
 // Whether a match or a mark, in a script or in a list, or a whole list has a fault.
-#[derive(Drop)]
+#[derive(Clone, Copy)]
 pub enum Judgement {
     Sound,
     Faulty(Refusal),
 }
 
 // What the first command does.
-#[derive(Drop)]
+#[derive(Clone, Copy)]
 pub enum Opening {
     Refuse(Refusal),
     Open { p: u32, q: u32 },
 }
 
 // What a later command does.
-#[derive(Drop)]
+#[derive(Clone, Copy)]
 pub enum Step {
     Refuse(Refusal),
     Finish,
