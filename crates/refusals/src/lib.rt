@@ -1,5 +1,6 @@
 // The number and the place that a refusal returns.
 #![tactic(auto)]
+
 ghost use Rattle.std.specs.Prelude.{◌≡◌};
 ghost use Rattle.script.specs.Refusals.{number_of, place_of};
 
