@@ -3,6 +3,7 @@
 // have the functions.
 // A caller hands over its finished rows alone, `&table[..n * ROW_WIDTH]`: what stands behind them is read as rows too.
 #![tactic(auto)]
+
 pub mod finding;
 pub mod summing;
 
