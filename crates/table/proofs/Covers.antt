@@ -108,7 +108,7 @@ module _ (s : Side) where
       (λ t. let c = covered_of rs h t in record { row = c.row; among = there c.among; inside = c.inside })
       (or_cases (within (left_of s r) (right_of s r) h) (is_covered s rs h) e)
 
-  covered-by : (rs : List Row) (h : ℕ) {r : Row} → r ∈ rs → InStretch s r h → is_covered s rs h ≡ true
+  covered-by : {r : Row} (rs : List Row) (h : ℕ) → r ∈ rs → InStretch s r h → is_covered s rs h ≡ true
   unfolding is_covered
   covered-by rs h (here {x = q} e) i = rw (← e) (rw (within-true _ _ h i.from_left i.before_right))
   covered-by rs h (there {x = q} {xs = qs} m) i =
