@@ -1,5 +1,6 @@
 // One command at the start of a remainder of the script: what stands there, without what it means for the script.
 #![tactic(auto)]
+
 ghost use Rattle.std.specs.Prelude.{◌≡◌, ◌||◌, ◌+◌, ◌<◌, ◌≤◌, eqb, length};
 ghost use Rattle.script.specs.Commands.{match_width, number_at, command_of, lengths_of, fields_of, match_of};
 ghost use Rattle.script.specs.Commands.{mark_of, end_of, bit_of};
