@@ -1,5 +1,6 @@
 // Making the index of the matches by their ends on one side.
 #![tactic(auto)]
+
 ghost use Rattle.std.specs.Prelude.{◌≡◌, ◌+◌, ◌<◌, ◌≤◌, length};
 ghost use Rattle.arrangement.specs.Index.{level_room, index_room, Indexed};
 ghost use Rattle.indexing.specs.Bounds.{Lower, Higher, Bounding, Arranged, Listed, Overlaid, Raised};

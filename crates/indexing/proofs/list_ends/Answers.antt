@@ -1,0 +1,9 @@
+-- `indexing::list_ends` meets its contract. The invariant is `ListedFrom`, and the measure how many matches are left.
+-- Assumes nothing.
+use Rattle.indexing.proofs.Listing.{listing-ends}
+use borrow.Author.Rules.{rules}
+use Rattle.indexing.proofs.list_ends.Goals as goal
+
+pub returns : goal.returns
+returns c =
+    listing-ends c.loop-k.invariant (search rules) c.requires.order
