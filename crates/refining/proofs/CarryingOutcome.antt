@@ -1,9 +1,9 @@
--- The carrying call as `carryingOf` defines it meets its demand: of the outcomes in `CarryingOutcome` exactly one
+-- The carrying call as `carrying_of` defines it meets its demand: of the outcomes in `CarryingOutcome` exactly one
 -- applies, and it is the reply.
 --     untrue                                        a test that is not true is false
 --     listed_found, unlisted-none                   what is found, by the theory's list
---     carrying-refused, carrying-off, carrying-to   what `carryingOf` is, by what is found and by its span
---     carrying-demand                               the demand, of any reply that equals what `carryingOf` says
+--     carrying-refused, carrying-off, carrying-to   what `carrying_of` is, by what is found and by its span
+--     carrying-demand                               the demand, of any reply that equals what `carrying_of` says
 --     carrying-back                                 from the other side the call carries back
 --     found-fits                                    the ends of a match that is found fit 32 bits
 -- Numbers that rise name one match each, so the match found is the one in the theory's list. Assumes nothing.
@@ -141,7 +141,7 @@ module _ (script : List ℕ) (number : ℕ) (side : Side) (position : ℕ) where
       → carrying_of script number side position ≡ Refused NoSuchMatch
   carrying-unlisted a h = carrying-refused (unlisted-none number a h)
 
-  -- any outcome whose condition is met is what `carryingOf` replies
+  -- any outcome whose condition is met is what `carrying_of` replies
   outcome-carrying : {answer : Answer ℕ} → CarryingOutcome script number side position answer
       → answer ≡ carried_answer (carrying_of script number side position)
   outcome-carrying (CarryingOutcome.script_refused o) =

@@ -1,9 +1,9 @@
--- Refining as `refiningOfMatches` and `refiningOf` define it meets demands 1, 2 and 3.
+-- Refining as `refining_of_matches` and `refining_of` define it meets demands 1, 2 and 3.
 --     script-twelve, refusal-value  a script's own refusal is not 12, and a refusal is no value
 --     kept                          what a refusal other than 12 leaves
 --     matches-demand1, matches-demand2, matches-demand3
---                                   of any reply and buffers that equal what `refiningOfMatches` says
---     demand1, demand2, demand3     and what `refiningOf` says
+--                                   of any reply and buffers that equal what `refining_of_matches` says
+--     demand1, demand2, demand3     and what `refining_of` says
 --     refining-contract             the three equations and the three demands, for the code
 -- Each goes through the cases: 11, 12, a value, and for a script its own refusal. Assumes nothing.
 use Prim.Native.Nat.{ℕ, ◌*◌, ◌≤◌}
@@ -104,7 +104,7 @@ module _ {g : Given} (M : Matches g.matches) where
   resolved = table_resolved g.matches g.marks M
 
   module _ {table work : List ℕ} where
-    -- any outcome whose condition is met is what `refiningOfMatches` replies
+    -- any outcome whose condition is met is what `refining_of_matches` replies
     outcome-matches : {a : Answer ℕ} → MatchesOutcome g table work a
         → a ≡ answer_of (refining_of_matches g table work).reply
     outcome-matches (MatchesOutcome.work_too_short h) = rw (matches-short g table work h)
@@ -253,7 +253,7 @@ module _ (script table work : List ℕ) {reply : Refined} {table' : List ℕ}
   pub demand3 : Demand3 script table work (answer_of reply) table'
   demand3 = rw (replied, tabled) (script-demand3 (case script table work))
 
--- the clauses of the call's contract in their order, where it is known what `refiningOf` is
+-- the clauses of the call's contract in their order, where it is known what `refining_of` is
 module _ (script table work : List ℕ) {x : Refining} (is : refining_of script table work ≡ x) where
   pub refining-contract :
       (x.reply ≡ (refining_of script table work).reply)

@@ -1,4 +1,4 @@
--- What `refiningOfMatches` and `refiningOf` are in each of their cases, and that one of them applies.
+-- What `refining_of_matches` and `refining_of` are in each of their cases, and that one of them applies.
 --     written, written-sets                   rows over the start of a table, also as code stores them
 --     fits-or-exceeds, fits-exceeds           12's condition and its contrary: one holds, and not both
 --     exceeds-many                            under 12's condition the least table has no room either

@@ -1,5 +1,5 @@
 -- #103: the right ends, and what they are to the matches.
---     rights-worked, rights-alone    `rightsOf` is left plus length for each match, and is the one column that is
+--     rights-worked, rights-alone    `rights_of` is left plus length for each match, and is the one column that is
 --     read-fit                       columns that are read are Fit once their right ends are worked out
 --     right_at                       at an index, the columns hold the right end of the match there, on either side
 --     facing                         and its ends are equally far apart on both

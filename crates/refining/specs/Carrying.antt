@@ -3,7 +3,7 @@
 --     carried_answer                            the reply in 01's words
 --     CarryingOutcome                          what may come of a call, by its condition: 01's table, and a value
 --     CarryingDemand                           exactly one outcome's condition is met, and it is the answer
--- 01, "Positions and carrying" and "Refused scripts and calls". `proofs/CarryingOutcome` shows that `carryingOf` meets
+-- 01, "Positions and carrying" and "Refused scripts and calls". `proofs/CarryingOutcome` shows that `carrying_of` meets
 -- the demand. Assumes nothing.
 use Rattle.std.specs.Prelude.{ℕ, ◌<◌, ◌≡◌, ◌⊎◌, cond, List, length}
 use Rattle.script.specs.Refusals.{number_of, place_of}

@@ -16,8 +16,8 @@
 --     RefiningOutcome            what may come of a call: the script's own refusals, and what may come of its matches
 --     Demand1, Demand2, Demand3  the demands
 -- A refinement is a list of rows in any order and of any length. 02, #106: one is resolved if it has the spanned marks
--- among its cuts, and least and equal are judged among such alone. `proofs/Demands` shows that `refiningOfMatches` and
--- `refiningOf` meet the demands. Assumes nothing.
+-- among its cuts, and least and equal are judged among such alone. `proofs/Demands` shows that `refining_of_matches` and
+-- `refining_of` meet the demands. Assumes nothing.
 use Rattle.std.specs.Prelude.{ℕ, ◌*◌, ◌≤◌, ◌<◌, ◌≡◌, ◌↔◌, ◌≢◌, List, length, take, drop}
 use Rattle.script.specs.Refusals.{number_of, place_of}
 pub use Rattle.script.specs.Answers.{Answer, value, refusal}
