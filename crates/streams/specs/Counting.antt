@@ -8,9 +8,9 @@ use Rattle.streams.specs.declared.Output.{Output}
 
 abbrev pub count_of : Moved → ℕ
 count_of (Moved.Bytes n) = n
-count_of Moved.Failed = 0
+count_of (Moved.Failed e) = 0
 
 -- all of it; or, where a write failed, less
 abbrev pub Went : ℕ → Output → Type 0
 Went n (Output.Whole k) = k ≡ n
-Went n (Output.Broken k) = k < n
+Went n (Output.Broken k e) = k < n

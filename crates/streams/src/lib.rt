@@ -1,77 +1,80 @@
-// How the program reads its input and writes its text: by calls of C that may move a part, be interrupted, or fail.
+// How the program reads its input and writes its text: by reads and writes that may move a part, be interrupted, or fail.
 #![tactic(auto)]
+
 ghost use Rattle.std.specs.Prelude.{true, ◌≡◌, ◌+◌, ◌<◌, ◌≤◌, length, take, drop};
 ghost use Rattle.reporting.specs.Reporting.{input_room, report_of};
 ghost use Rattle.streams.specs.Counting.{count_of, Went};
 
-use libc::{EAGAIN, EINTR, STDIN_FILENO, STDOUT_FILENO};
+use std::io::{Error, ErrorKind, Read, Write};
+use std::thread::yield_now;
 
-// So often a call that was interrupted, or found its descriptor busy, is made again: for a second or two.
+// So often a call that was interrupted, or found its stream busy, is made again: for a second or two.
 const TRIES: u32 = 1_000_000;
 
-// How many bytes a read or a write moved.
+// How many bytes a read or a write moved; or why it failed.
 #[derive(Drop)]
 pub enum Moved {
     Bytes(usize),
-    Failed,
+    Failed(Error),
 }
 
-// How many bytes of the text went out: all, or those before a write that failed.
+// How many bytes of the text went out: all, or those before a write that failed, and why it did.
 #[derive(Drop)]
 pub enum Output {
     Whole(usize),
-    Broken(usize),
+    Broken(usize, Error),
 }
 
-// Whether the call that just failed is worth another of the tries that are left.
-fn again(tries: u32) -> bool
+// Whether the call that failed so is worth another of the tries that are left.
+fn again(tries: u32, error: &Error) -> bool
     ensures { result ≡ true → 0 < tries }
 {
     if tries == 0 {
         return false;
     }
-    let error = os::errno();
-    if error == EAGAIN {
-        libc::sched_yield();
-        return true;
+    match error.kind() {
+        ErrorKind::WouldBlock => {
+            yield_now();
+            true
+        }
+        ErrorKind::Interrupted => true,
+        _ => false,
     }
-    error == EINTR
 }
 
 // One read, to behind the first `done` bytes of the buffer: what came before is kept.
-fn read_more(bytes: &mut [u8], done: usize) -> Moved
+fn read_more<R: Read>(input: &mut R, bytes: &mut [u8], done: usize) -> Moved
     requires { done ≤ length bytes.old }
     ensures bytes_unchanged { take done bytes.new ≡ take done bytes.old }
     ensures result_in_bounds { done + count_of result ≤ length bytes.old }
 {
-    let got = libc::read(STDIN_FILENO, &mut bytes[done..]);
-    if got < 0 {
-        return Moved::Failed;
+    match input.read(&mut bytes[done..]) {
+        Ok(got) => Moved::Bytes(got),
+        Err(error) => Moved::Failed(error),
     }
-    Moved::Bytes(io::count(got, &bytes[done..]))
 }
 
 // Reads until the buffer is full or the input ends. What came before a read that fails is not answered, since it would
 // be taken for a shorter script.
-pub fn read_input(bytes: &mut [u8]) -> Moved
+pub fn read_input<R: Read>(input: &mut R, bytes: &mut [u8]) -> Moved
     requires { input_room ≡ length bytes.old }
     ensures { count_of result ≤ length bytes.new }
 {
     let mut done: usize = 0;
     let mut tries = TRIES;
     while done < bytes.len() {
-        match read_more(bytes, done) {
+        match read_more(input, bytes, done) {
             Moved::Bytes(more) => {
                 if more == 0 {
                     return Moved::Bytes(done);
                 }
                 done += more;
             }
-            Moved::Failed => {
-                if again(tries) {
+            Moved::Failed(error) => {
+                if again(tries, &error) {
                     tries -= 1;
                 } else {
-                    return Moved::Failed;
+                    return Moved::Failed(error);
                 }
             }
         }
@@ -80,20 +83,19 @@ pub fn read_input(bytes: &mut [u8]) -> Moved
 }
 
 // One write, and the program's only one to standard output. It is handed the script and how many bytes went out already
-// for its contract's sake: what goes to C is the rest of the text of what was read.
-fn write_rest(_script: &[u8], _done: usize, rest: &[u8]) -> Moved
+// for its contract's sake: what goes to the writer is the rest of the text of what was read.
+fn write_rest<W: Write>(output: &mut W, _script: &[u8], _done: usize, rest: &[u8]) -> Moved
     requires { rest.now ≡ drop _done (report_of _script.now) }
     ensures { count_of result ≤ length rest.now }
 {
-    let put = libc::write(STDOUT_FILENO, rest);
-    if put < 0 {
-        return Moved::Failed;
+    match output.write(rest) {
+        Ok(put) => Moved::Bytes(put),
+        Err(error) => Moved::Failed(error),
     }
-    Moved::Bytes(io::count(put, rest))
 }
 
 // Writes until all of the text went out or a write fails.
-pub fn write_text(script: &[u8], text: &[u8]) -> Output
+pub fn write_text<W: Write>(output: &mut W, script: &[u8], text: &[u8]) -> Output
     requires { text.now ≡ report_of script.now }
     ensures { Went (length text.now) result }
 {
@@ -101,18 +103,18 @@ pub fn write_text(script: &[u8], text: &[u8]) -> Output
     let mut tries = TRIES;
     while text.len() - done > 0 {
         let from = done;
-        match write_rest(script, done, &text[from..]) {
+        match write_rest(output, script, done, &text[from..]) {
             Moved::Bytes(more) => {
                 if more == 0 {
-                    return Output::Broken(done);
+                    return Output::Broken(done, Error::from(ErrorKind::WriteZero));
                 }
                 done += more;
             }
-            Moved::Failed => {
-                if again(tries) {
+            Moved::Failed(error) => {
+                if again(tries, &error) {
                     tries -= 1;
                 } else {
-                    return Output::Broken(done);
+                    return Output::Broken(done, error);
                 }
             }
         }
