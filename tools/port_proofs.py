@@ -131,6 +131,22 @@ class Function:
                 break
             places[m[1]] = norm(m[2])
             text = text[: m.start()] + text[m.end() :]
+        climb = re.compile(r"let (%s) = (%s)((?:\.before)*) in\s*" % (W, W))
+        while True:
+            again = False
+            for m in climb.finditer(text):
+                if m[2] not in places:
+                    continue
+                place = places[m[2]]
+                for _ in range(m[3].count(".before")):
+                    up = self.parent(place) if place in self.at else None
+                    place = up if up is not None else place
+                places[m[1]] = place
+                text = text[: m.start()] + text[m.end() :]
+                again = True
+                break
+            if not again:
+                break
         args = {}
         for name, var in re.findall(r"let (%s) = (%s)\.args in" % (W, W), text):
             if var in places:
@@ -233,6 +249,10 @@ def convert(crate, folder, names, kinds):
             left.append("not read: " + decl.split("\n")[0])
             continue
         name, ty, params, body = m[1], m[2], m[3].split(), m[4]
+        unf = ""
+        if "\nunfolding " in ty:
+            ty, unf = ty.split("\nunfolding ", 1)
+            unf = "unfolding " + unf + "\n"
         if ty.startswith("{M :") or "statement" in ty:
             continue
         need = re.match(r"tie\.Need-(\S+)", ty)
@@ -254,11 +274,17 @@ def convert(crate, folder, names, kinds):
             if re.fullmatch(r"search(?: rules)?", out.strip()):
                 continue
             asked = f.n["asked"].get(goal) or f.n["asked"].get(name)
-            if asked and re.fullmatch(r"\(.*\)", out.strip(), re.S):
-                parts = split(out.strip()[1:-1])
+            lets, rest = peel(out.strip())
+            if asked and len(asked) > 1 and whole_parens(rest):
+                parts = split(rest[1:-1].strip().rstrip(","))
+                if len(parts) > len(asked):
+                    parts = parts[: len(asked) - 1] + ["(" + ",".join(parts[len(asked) - 1 :]) + ")"]
                 if len(parts) == len(asked):
-                    out = "record {\n" + "".join(f"      {a} = {p.strip()};\n" for a, p in zip(asked, parts)) + "    }"
-            answers[goal] = "\n".join(comment + [f"pub {goal} : goal.{goal}", f"{goal} c =\n    {out}"])
+                    out = lets + "record {\n" + "".join(f"      {a} = {p.strip()};\n" for a, p in zip(asked, parts)) + "    }"
+                    for a, p in zip(asked, parts):
+                        g = f"{goal}-clause-{a}"
+                        answers[g] = "\n".join([f"pub {g} : goal.{g}", unf + f"{g} c =\n    {lets}{p.strip()}"])
+            answers[goal] = "\n".join(comment + [f"pub {goal} : goal.{goal}", unf + f"{goal} c =\n    {out}"])
         else:
             # a helper over records of the proof
             places = []
@@ -282,6 +308,48 @@ def convert(crate, folder, names, kinds):
                 answers.setdefault("", "")
                 answers[""] += "\n".join(comment + [decl]) + "\n\n"
     return path, head, uses, invariants, answers, left
+
+
+def peel(text):
+    """The lets before an answer, and the answer."""
+    i = 0
+    while True:
+        m = re.compile(r"\s*let\s").match(text, i)
+        if not m:
+            break
+        depth, j, lets = 0, m.end(), 1
+        toks = re.compile(r"[\s(){}\[\]]+|[^\s(){}\[\]]+")
+        while j < len(text):
+            k = toks.match(text, j)
+            w = k[0]
+            if w.strip() == "" or re.fullmatch(r"[\s(){}\[\]]+", w):
+                depth += sum(w.count(c) for c in "({[") - sum(w.count(c) for c in ")}]")
+            elif depth == 0 and w == "let":
+                lets += 1
+            elif depth == 0 and w == "in":
+                lets -= 1
+                if lets == 0:
+                    j = k.end()
+                    break
+            j = k.end()
+        i = j
+    while i < len(text) and text[i].isspace():
+        i += 1
+    return text[:i], text[i:]
+
+
+def whole_parens(text):
+    if not text.startswith("(") or not text.endswith(")"):
+        return False
+    depth = 0
+    for i, ch in enumerate(text):
+        if ch == "(":
+            depth += 1
+        if ch == ")":
+            depth -= 1
+            if depth == 0:
+                return i == len(text) - 1
+    return False
 
 
 def text_ok(body, t):
@@ -372,7 +440,14 @@ def main():
             it = done.get(path.replace("/", "."))
             if not it:
                 continue
-            new = [g for g in asked if g in it["answers"] and g not in given[path.replace("/", ".")]]
+            new = []
+            for g in asked:
+                base = g.split("-clause-")[0]
+                if g in it["answers"]:
+                    new.append(g)
+                elif base in it["answers"]:
+                    new.append(base)
+            new = [g for k, g in enumerate(new) if g not in given[path.replace("/", ".")] and g not in new[:k]]
             if new:
                 given[path.replace("/", ".")] += new
                 write_answers(crate, path.replace("/", "."), it, given[path.replace("/", ".")])
