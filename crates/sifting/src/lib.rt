@@ -1,5 +1,6 @@
 // Taking the numbers of one rising run out of another that stands behind it.
 #![tactic(auto)]
+
 ghost use Rattle.std.specs.Prelude.{◌<◌};
 ghost use Rattle.runs.specs.Runs.{Run, Bound};
 ghost use Rattle.sifting.specs.Sifting.{Siftable, Sifted, Counted};

@@ -1,0 +1,21 @@
+-- `sifting::without` meets its contract: the two empty runs, and else the invariant Sifting. The measure is what is
+-- left of the second run.
+-- Assumes nothing.
+use Prim.Native.Nat.{◌-◌}
+use native.Mathlib.Omega.{arith}
+use mathlib.Core.Path.{refl}
+use Rattle.runs.proofs.Searching.{run-from, bound-from}
+use Rattle.sifting.proofs.Sifting.{Sifting, sift-start, sift-step, sift-end, sift-run}
+use Rattle.sifting.proofs.Sifting.{sifted-by-none, sifted-none}
+use Rattle.sifting.proofs.Keeping.{counted-few}
+use borrow.Author.Rules.{rules}
+use Rattle.sifting.proofs.without.Goals as goal
+
+pub loop-k-preserved : goal.loop-k-preserved
+loop-k-preserved c =
+    sift-step c.requires c.loop-k.invariant (search rules) refl c.bound_near-low.ensures
+    c.stands-known.ensures c.counted-kept.ensures
+
+pub returns : goal.returns
+returns c =
+    search (rules, sift-end)
