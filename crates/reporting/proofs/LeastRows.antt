@@ -22,7 +22,7 @@ use Rattle.refining.specs.declared.answers.Refined.TheVariants.{Rows, Refused}
 use Rattle.refining.proofs.Standing.{length-numbers}
 use Rattle.refining.proofs.Numbered.{admitted-unique}
 use Rattle.refining.proofs.RefiningCases.{written, matches-crowded, matches-written, short, crowded, writing}
-use Rattle.refining.proofs.RefiningCases.{Case, refusing, matched, case}
+use Rattle.refining.proofs.RefiningCases.{MatchesCase, Case, refusing, matched, case}
 use Rattle.reporting.specs.Lines.{refusal_text, table_text}
 use Rattle.reporting.specs.Reporting.{report_of_refining}
 
@@ -45,15 +45,19 @@ pub least_rows : (script table work : List ℕ) {n : ℕ} {g : Given} → Admitt
     → (refining_of script table work).reply ≡ Rows n → LeastRows g n (refining_of script table work).table
 least_rows script table work {n} {g} a e = go (case script table work) e
   where
-    go : {reply : Refined} {table' work' : List ℕ} → Case script table work reply table' work' → reply ≡ Rows n
-        → LeastRows g n table'
-    go (refusing _) e = absurd (refused-rows e)
-    go (matched _ (short _)) e = absurd (refused-rows e)
-    go (matched _ (crowded _ _)) e = absurd (refused-rows e)
-    go (matched {g = g'} a' (writing _ _)) e =
+    matched-rows : (g' : Given) → Admitted script g' → {reply : Refined} {table' work' : List ℕ}
+        → MatchesCase g' table work reply table' work' → reply ≡ Rows n → LeastRows g n table'
+    matched-rows g' a' (short _) e = absurd (refused-rows e)
+    matched-rows g' a' (crowded _ _) e = absurd (refused-rows e)
+    matched-rows g' a' (writing _ _) e =
         let count : n ≡ length (least_of g') = cc in
         rw (admitted-unique a a', count)
         (record { count = refl; rows = rows_written (least_of g') table })
+
+    go : {reply : Refined} {table' work' : List ℕ} → Case script table work reply table' work' → reply ≡ Rows n
+        → LeastRows g n table'
+    go (refusing _) e = absurd (refused-rows e)
+    go (matched {g = g'} a' c) e = matched-rows g' a' c e
 
 -- matches and enough work: the text is 12's refusal or the table's
 module _ (p q count : ℕ) (g : Given) (table work : List ℕ) (enough : work_needed table ≤ length work) where

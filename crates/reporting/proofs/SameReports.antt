@@ -34,12 +34,13 @@ use Rattle.refinement.proofs.Theorem.{table_resolved}
 use Rattle.rows.specs.Rows.{row_width, rows_of}
 use Rattle.rows.specs.declared.Row.{Row}
 use Rattle.refining.specs.Rows.{row_of_piece}
-use Rattle.refining.specs.Refining.{numbered, given_by, least_of, Refining, refining_of_matches}
+use Rattle.refining.specs.Refining.{Given, numbered, given_by, least_of, Refining, refining_of_matches}
 use Rattle.refining.specs.Refining.{refining_of_reading, refining_of}
 use Rattle.refining.specs.declared.answers.Refined.{Refined}
 use Rattle.refining.specs.declared.answers.Refined.TheVariants.{Rows, Refused}
 use Rattle.refining.proofs.Numbered.{admitted_of, admitted-matches}
-use Rattle.refining.proofs.RefiningCases.{refining-refused, short, crowded, writing, Case, refusing, matched, case}
+use Rattle.refining.proofs.RefiningCases.{refining-refused, MatchesCase, short, crowded, writing, Case, refusing, matched}
+use Rattle.refining.proofs.RefiningCases.{case}
 use Rattle.reporting.specs.Lines.{refusal_text}
 use Rattle.reporting.specs.Reporting.{lent_table, lent_work, report_of_reply, report_of_reading, report_of}
 use Rattle.reporting.proofs.LeastRows.{least_rows}
@@ -90,12 +91,16 @@ refusal-sayable : (script table work : List ℕ) {r : Refusal} → (refining_of 
     → Sayable (Said.refusal (number_of r) (place_of r))
 refusal-sayable script table work {r} e = go (case script table work) e
   where
+    matched-sayable : (g : Given) {reply : Refined} {table' work' : List ℕ} → MatchesCase g table work reply table' work'
+        → reply ≡ Refused r → Sayable (Said.refusal (number_of r) (place_of r))
+    matched-sayable g (short _) e = let same : r ≡ WorkTooShort = cc in rw same (omega arith)
+    matched-sayable g (crowded _ _) e = let same : r ≡ TooManyPieces = cc in rw same (omega arith)
+    matched-sayable g (writing _ _) e = let z : ◌≡◌ {A = ℕ} 0 1 = cc in absurd (omega arith)
+
     go : {reply : Refined} {table' work' : List ℕ} → Case script table work reply table' work' → reply ≡ Refused r
         → Sayable (Said.refusal (number_of r) (place_of r))
     go (refusing {r = r'} o) e = let same : r ≡ r' = cc in rw same (outcome-sayable o)
-    go (matched _ (short _)) e = let same : r ≡ WorkTooShort = cc in rw same (omega arith)
-    go (matched _ (crowded _ _)) e = let same : r ≡ TooManyPieces = cc in rw same (omega arith)
-    go (matched _ (writing _ _)) e = let z : ◌≡◌ {A = ℕ} 0 1 = cc in absurd (omega arith)
+    go (matched {g = g} _ c) e = matched-sayable g c e
 
 -- ---- the numbers of rows
 
