@@ -1,5 +1,6 @@
 // What one command does to the script read so far, with the refusals in 01's order.
 #![tactic(auto)]
+
 ghost use Rattle.std.specs.Prelude.{◌≡◌, ◌<◌};
 ghost use Rattle.script.specs.Steps.{in_range, lengths_step, opening_of};
 ghost use Rattle.script.specs.Steps.{match_judgement, match_step, cut_short_step, letters_on};
