@@ -1,5 +1,6 @@
 // Looking through the index of the matches for those that may span a position.
 #![tactic(auto)]
+
 ghost use Rattle.std.specs.Prelude.{◌+◌, ◌≤◌, length};
 ghost use Rattle.arrangement.specs.Index.{ends_at, level_room, index_room, Levels};
 ghost use Rattle.near_blocks.specs.Places.{Short, PassedPlaces};
