@@ -159,7 +159,10 @@ class Function:
                 if len(given) < len(params):
                     return m[0]
                 inner = {p: place for p, (place) in params}
-                return "(" + self.term(body, inner) + ")" + (" " + " ".join(given[len(params) :]) if len(given) > len(params) else "")
+                inside = self.term(body, inner)
+                if not re.match(r"(ℕ|Bool|List|Type)\b", ty) and re.search(r"\b(omega|search|rw|simp|cc|record|absurd|elim)\b", inside):
+                    inside = f"let it : {self.term(ty, inner)} = {inside} in it"
+                return "(" + inside + ")" + (" " + " ".join(given[len(params) :]) if len(given) > len(params) else "")
 
             text = pattern.sub(inline, text)
 
@@ -263,6 +266,10 @@ def convert(crate, folder, names, kinds):
             if old not in f.needs:
                 # the scripts turned a name of the source's
                 close = [k for k in f.needs if k.replace("-", "") == old.replace("-", "")]
+                old = close[0] if close else old
+            if old not in f.needs:
+                # the scripts gave it today's name
+                close = [k for k, v in f.needs.items() if norm(v[0]) == old]
                 old = close[0] if close else old
             if old not in f.needs:
                 left.append(f"no goal is called {need[1]}: {body[:70]}")
