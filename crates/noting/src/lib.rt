@@ -1,6 +1,7 @@
 // Notes of numbers in the places [top, limit) of a lent slice, a bit for each: numbers with the same remainder share one.
 // A number whose bit is not set was never noted. It serves speed alone that few share one.
 #![tactic(auto)]
+
 ghost use Rattle.std.specs.Prelude.{◌+◌, ◌<◌, ◌≤◌, ◌^◌, ◌≡◌, length};
 ghost use Rattle.std.specs.Int.Bits.{bit_or};
 ghost use Rattle.runs.specs.Runs.{Answers};
