@@ -1,6 +1,6 @@
 -- The computed chain is the Backbone, and the only one.
 --     backbone-unique     of any rows there is at most one Backbone
---     backbone-computed   of lettered rows `backboneOf` is one, and `points_of` its score
+--     backbone-computed   of lettered rows `backbone_of` is one, and `points_of` its score
 -- A row without letters would follow itself without end, and score no more than the empty chain. Assumes nothing.
 use Prim.Native.Nat.{ℕ, ◌+◌, ◌*◌}
 use mathlib.Core.Path.{◌≡◌, refl, sym, ◌∙◌, ap}
@@ -74,7 +74,7 @@ module _ (price : ℕ) (rs : List Row) (l : Lettered rs) where
   abbrev best : List ℕ
   best = backbone_of price rs
 
-  -- every chain is the empty one or one of `chainsOf`
+  -- every chain is the empty one or one of `chains_of`
   every : (js : List ℕ) → Chain rs js → js ∈ ([] ∷ chains_of rs)
   every [] c = here refl
   every (k ∷ ks) c = there (every-chain rs l k ks c)

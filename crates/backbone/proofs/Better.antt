@@ -1,6 +1,6 @@
 -- Of two chains the better, and of all chains one that no other betters.
 --     NoWorse price rs ks js     js doesn't score more than ks, and of equals ks is js or comes before it
---     best-member                `bestOf` gives one of the lists that it is given ..
+--     best-member                `best_of` gives one of the lists that it is given ..
 --     best-no-worse              .. which is no worse than any of them
 -- Assumes nothing.
 use Prim.Native.Nat.{ℕ}

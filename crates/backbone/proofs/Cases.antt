@@ -1,4 +1,4 @@
--- What `chainingOf` is in each of its cases, and that one of them applies.
+-- What `chaining_of` is in each of its cases, and that one of them applies.
 --     Narrow, narrow-or-lent                  18's condition, and its contrary
 --     call-short, call-dear, call-narrow, call-crowded, call-found
 --                                             an admitted script: 11, 17, 18, 12, and the backbone

@@ -1,6 +1,6 @@
 -- The direct rows and the chains of them.
 --     on-cond                          what holds of a list in both cases of a test
---     direct-listed, listed-direct     `directRows` has the numbers of the direct rows, and no other
+--     direct-listed, listed-direct     `direct_rows` has the numbers of the direct rows, and no other
 --     head-direct, tail-chain          what a chain that isn't empty is made of
 --     row-lettered                     a direct row of lettered rows has a letter
 --     goes-up                          along a chain of lettered rows the left ends go up

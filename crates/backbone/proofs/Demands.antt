@@ -1,6 +1,6 @@
--- The chaining call as `chainingOf` defines it meets its demand.
+-- The chaining call as `chaining_of` defines it meets its demand.
 --     least-backbone      the computed chain is the backbone of the least table's rows
---     chaining-contract   any reply and buffers that `chainingOf` says meet its equations and the demand
+--     chaining-contract   any reply and buffers that `chaining_of` says meet its equations and the demand
 -- It goes through the cases: the script's refusal, 11, 17, 18, 12, and the backbone. Assumes nothing.
 use Prim.Native.Nat.{ℕ, ◌≤◌, ◌<◌}
 use mathlib.Core.Path.{◌≡◌, refl, sym, ap, subst, ◌∙◌}
@@ -43,7 +43,7 @@ module _ (g : Given) (M : Matches g.matches) (price : ℕ) where
       let ks = backbone_of price (least_rows g) in
       omega (arith, chain-short (least_rows g) (least-lettered g M) ks least-backbone.chain, least-length g)
 
--- ---- any outcome whose condition is met is what `chainingOf` replies
+-- ---- any outcome whose condition is met is what `chaining_of` replies
 
 module _ {script : List ℕ} {price : ℕ} {table work chain scores : List ℕ} where
   outcome-alone : {a : Answer Scored} → ChainingOutcome script price table work chain scores a

@@ -1,6 +1,6 @@
--- `chainsOf` has every chain that isn't empty, and nothing else.
---     every-chain     of lettered rows each chain that isn't empty is in `chainsOf`
---     each-chain      each member of `chainsOf` is a chain, and has a first row
+-- `chains_of` has every chain that isn't empty, and nothing else.
+--     every-chain     of lettered rows each chain that isn't empty is in `chains_of`
+--     each-chain      each member of `chains_of` is a chain, and has a first row
 -- Assumes nothing.
 use Prim.Native.Nat.{ℕ, zero, suc, ◌≤◌}
 use mathlib.Core.Path.{◌≡◌, refl, sym, ◌∙◌, ap}

@@ -15,6 +15,6 @@ use Rattle.refining.proofs.Numbered.{get_d-∈}
 pub at-∈ : (ks : List ℕ) (i : ℕ) → i < length ks → get_or ks i 0 ∈ ks
 at-∈ ks i l = get_d-∈ ks i 0 l
 
-pub ∈-at : {ks : List ℕ} {k : ℕ} → k ∈ ks → (i : ℕ) × (i < length ks) × (get_or ks i 0 ≡ k)
+pub ∈-at : {k : ℕ} {ks : List ℕ} → k ∈ ks → (i : ℕ) × (i < length ks) × (get_or ks i 0 ≡ k)
 ∈-at (here e) = (0, omega arith, sym e)
 ∈-at (there m) = let p = ∈-at m in (suc p.0, omega (arith, p.1), p.2)

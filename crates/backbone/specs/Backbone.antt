@@ -3,7 +3,7 @@
 --     chains_of rs                   all chains of the rows, one by one
 --     backbone_of price rs           of these the one that no other betters
 --     points_of price rs             its score
--- 02, #104. `proofs/Backbones` shows that `backboneOf` is a Backbone, and the only one, of rows that all have a letter;
+-- 02, #104. `proofs/Backbones` shows that `backbone_of` is a Backbone, and the only one, of rows that all have a letter;
 -- `proofs/Lines` has the lines of 02. To go through all chains is not how the code finds it (`linking`); this is to be
 -- read, and to be run on small tables. Assumes nothing.
 use Rattle.std.specs.Prelude.{ℕ, zero, suc, ◌≡◌, ◌⊎◌, ◌≢◌, Bool, true, false, cond, ◌&&◌, ◌||◌, length, eqb, ltb, leb, ℤ, pos, negsuc}

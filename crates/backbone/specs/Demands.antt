@@ -6,7 +6,7 @@
 --     ChainLeaves          what it leaves in the four lent buffers, by its answer
 --     ChainingDemand       exactly one outcome's condition is met, and it is the answer; the buffers; the backbone
 -- The numbers of 01 and 02 are written out: a slip made in a definition and in the code together is refused here.
--- `proofs/Demands` shows that `chainingOf` meets the demand. Assumes nothing.
+-- `proofs/Demands` shows that `chaining_of` meets the demand. Assumes nothing.
 use Rattle.std.specs.Prelude.{ℕ, ◌*◌, ◌≤◌, ◌<◌, ◌≡◌, ◌⊎◌, ◌≢◌, List, map, length, take, drop}
 use Rattle.script.specs.Refusals.{number_of, place_of}
 use Rattle.script.specs.Answers.{Answer, value, refusal}
