@@ -1,6 +1,6 @@
 -- Where the best chain begins.
 --     first-none, second_more, first_more, second-lower, first-lower
---                            which of two rows `foremostOf` is, by facts
+--                            which of two rows `foremost_of` is, by facts
 --     foremost-alone         a row alone
 --     foremost-more          one row more
 --     foremost-scores        only the scores of the rows themselves matter

@@ -1,4 +1,4 @@
--- Which of two rows `betterOf` is, by facts.
+-- Which of two rows `better_of` is, by facts.
 --     against                         the score of a row, with the price of the letters left of the other one
 --     first-none, second_none         where there is but one row
 --     second-better, first-better     the row that has more

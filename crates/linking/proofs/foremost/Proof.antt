@@ -1,4 +1,4 @@
--- `foremost` meets its contract: the tests are those of `foremostOf`. Assumes nothing.
+-- `foremost` meets its contract: the tests are those of `foremost_of`. Assumes nothing.
 use native.Mathlib.Omega.{arith}
 use borrow.Author.Rules.{rules}
 use Rattle.linking.proofs.Beginning.{first-none, second_more, first_more, second-lower, first-lower}

@@ -1,4 +1,4 @@
--- `better` meets its contract: the tests are those of `betterOf`. Assumes nothing.
+-- `better` meets its contract: the tests are those of `better_of`. Assumes nothing.
 use Prim.Native.Nat.{ℕ, ◌≤◌}
 use mathlib.Core.Path.{◌≡◌, sym, ◌∙◌}
 use native.Mathlib.Nat.{le_antisymm}
