@@ -1,6 +1,7 @@
 // The lines of the rows, and the fields that lines are made of. Each is put into a lent buffer from a place on, and the
 // place behind it is returned; what does not fit is passed over and only counted.
 #![tactic(auto)]
+
 ghost use Rattle.std.specs.Prelude.{[], ◌∷◌, ◌++◌, ◌+◌, ◌*◌, ◌≤◌, length};
 ghost use Rattle.rows.specs.Rows.{rows_of};
 ghost use Rattle.text.specs.Decimal.{decimal};
