@@ -4,7 +4,7 @@
 pub const CLASSES: usize = 30;
 
 // `covers` has the letters that are covered on A, and those on B.
-#[derive(Drop)]
+#[derive(Clone, Copy)]
 pub struct Summary {
     pub pieces: usize,
     pub distinct: usize,
