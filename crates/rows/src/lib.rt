@@ -8,7 +8,7 @@ ghost use Rattle.rows.specs.Rows.{rows_of, row_at};
 pub const ROW_WIDTH: usize = 5;
 
 // A piece: so many letters from left_a on of A and from left_b on of B, under a match; direction 1 is reversed.
-#[derive(Drop)]
+#[derive(Clone, Copy)]
 pub struct Row {
     pub number: u32,
     pub left_a: u32,
