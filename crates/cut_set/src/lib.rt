@@ -9,6 +9,7 @@
 // Unused places may hold notes, a bit for each member (the crate `noting`): a number that is not noted is new, and need
 // not be searched for. They give way where the places are needed.
 #![tactic(auto)]
+
 ghost use Rattle.std.specs.Prelude.{◌≡◌, true, ◌<◌, ◌≤◌};
 ghost use Rattle.runs.specs.Runs.{In, Answers, Bound};
 ghost use Rattle.cut_set.specs.Store.{Part, Good, FoundRun, NothingAdded, Member, Emptied, Gathered, Stored};
@@ -22,7 +23,7 @@ use sorting::sort;
 // Where the runs of a set end. Finished members: from base to long the long run, to mid the middle one, to done the
 // short one. Newly found members: to fresh a run, to used what was added since, in any order. To top: unused places; from
 // there to limit notes of the members, if top is less.
-#[derive(Drop)]
+#[derive(Clone, Copy)]
 pub struct CutSet {
     pub base: usize,
     pub long: usize,

@@ -1,0 +1,17 @@
+-- `cut_set::sift_noted` meets its contract: the invariant is Keeping, where what stands in a run is known. The measure is
+-- what is left of the numbers.
+-- Assumes nothing.
+use Prim.Native.Nat.{◌-◌}
+use native.Mathlib.Omega.{arith}
+use mathlib.Core.Path.{refl}
+use Rattle.runs.specs.Runs.{In}
+use Rattle.sifting.proofs.Keeping.{Keeping, keep-start, keep-step, counted-few}
+use Rattle.cut_set.proofs.Sieving.{kept-standing, kept-known, kept_new}
+use borrow.Author.Rules.{rules}
+use Rattle.cut_set.proofs.sift_noted.Given as goal
+
+abbrev pub invariant-loop-k : goal.invariant-loop-k
+invariant-loop-k l = Keeping l.initial.a (In l.initial.a l.s.base l.s.fresh) l.s.fresh l.end l.a l.kept l.k
+
+abbrev pub decreases-loop-k : goal.decreases-loop-k
+decreases-loop-k l = l.end - l.k
