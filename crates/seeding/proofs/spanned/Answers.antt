@@ -1,0 +1,15 @@
+-- `spanned` meets its contract. The loop keeps `Looking`: no match of the groups before g spans x. Assumes nothing.
+use Prim.Native.Nat.{◌-◌}
+use borrow.Author.Rules.{rules}
+use Rattle.seeding.proofs.Planting.{Looking, looking-start, looking-step, looking-found, looking-end}
+use Rattle.seeding.proofs.spanned.Goals as goal
+
+pub returns-then-group_spans : goal.returns-then-group_spans
+returns-then-group_spans c =
+    looking-found c.requires c.loop-g.invariant c.loop-g-test.true
+    (rw c.if-group_spans.true at c.group_spans.ensures)
+
+pub loop-g-preserved : goal.loop-g-preserved
+loop-g-preserved c =
+    looking-step c.requires c.loop-g.invariant c.loop-g-test.true
+    (rw c.if-group_spans.false at c.group_spans.ensures)
