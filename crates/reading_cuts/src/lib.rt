@@ -1,6 +1,7 @@
 // Reading the members of a set, so that code above need not know where they stand: the newly found ones, once they are
 // gathered into one run, and all of them, once they are joined.
 #![tactic(auto)]
+
 ghost use Rattle.std.specs.Prelude.{◌≡◌, ◌-◌, ◌≤◌, get_or};
 ghost use Rattle.runs.specs.Runs.{Answers};
 ghost use Rattle.cut_set.specs.Store.{Good, AllRun, NothingFound, found_end};
