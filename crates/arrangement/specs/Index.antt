@@ -1,15 +1,15 @@
 -- An index of the n matches of a script by their ends on one side, in a list xs of numbers. No promise of a public call
 -- depends on it: contracts of the closure only need that no match is left out or taken twice.
---     sum_to w n                   w of all numbers below n, added up
---     sum_at w xs n                w of the first n numbers of xs, added up
---     Order xs n                  the first n numbers of xs are those below n, each once
---     blocks_of c, block_start b c  how many blocks of 16 there are of c numbers; where one begins, or the numbers end
---     starts_at n, ends_at n        where the left ends and the right ends of the matches begin, in their order
---     level_room c, index_room n    how many places a level of c numbers takes with those above it, and a whole index
---     EndsListed xs f g n         what stands there bounds the ends f and g of the matches
---     Covered xs at c             the level above that of the c numbers from place `at` on bounds them
---     Levels xs at c              it does, and so do those above it, until a level is one block
---     Indexed xs f g              xs begins with an index of the matches with the left ends f and the right ends g
+--     sum_to w n                     w of all numbers below n, added up
+--     sum_at w xs n                  w of the first n numbers of xs, added up
+--     Order xs n                     the first n numbers of xs are those below n, each once
+--     blocks_of c, block_start b c   how many blocks of 16 there are of c numbers; where one begins, or the numbers end
+--     starts_at n, ends_at n         where the left ends and the right ends of the matches begin, in their order
+--     level_room c, index_room n     how many places a level of c numbers takes with those above it, and a whole index
+--     EndsListed xs f g n            what stands there bounds the ends f and g of the matches
+--     Covered xs at c                the level above that of the c numbers from place `at` on bounds them
+--     Levels xs at c                 it does, and so do those above it, until a level is one block
+--     Indexed xs f g                 xs begins with an index of the matches with the left ends f and the right ends g
 -- Assumes nothing.
 use Rattle.std.specs.Prelude.{ℕ, zero, suc, ◌+◌, ◌*◌, ◌/◌, ◌≤◌, ◌<◌, min, ◌≡◌, List, length, get_or}
 use Rattle.runs.specs.Runs.{In}
