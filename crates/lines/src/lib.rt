@@ -1,6 +1,7 @@
 // The text of a table, and the line of a refusal. Each line is put into a lent buffer from a place on, and the place
 // behind it is returned; what does not fit is passed over and only counted. The lines of the rows are `row_lines`'.
 #![tactic(auto)]
+
 ghost use Rattle.std.specs.Prelude.{◌≡◌, [], ◌∷◌, ◌++◌, ◌+◌, ◌*◌, ◌≤◌, length};
 ghost use Rattle.rows.specs.Rows.{rows_of};
 ghost use Rattle.table.specs.Summing.{summary_of};
