@@ -14,7 +14,7 @@ use mathlib.Core.List.{List, [], ◌∷◌, ◌++◌}
 use lib.ListN.{length, drop, set}
 use Rattle.script.specs.Commands.{lengths_width, match_width, mark_width, command_of}
 use Rattle.script.specs.Steps.{step_of}
-use Rattle.script.specs.Reading.{refused, read_script, verdict_of}
+use Rattle.script.specs.Reading.{read_script, verdict_of}
 use Rattle.script.specs.Columns.{column_of, ColumnsRead, MarksRead}
 use Rattle.script.specs.Demands.{verdict_answer, ReadingDemand, ColumnsDemand, MarksDemand}
 use Rattle.script.specs.declared.command.Match.{Match}

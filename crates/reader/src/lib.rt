@@ -1,6 +1,7 @@
 // The reader of match scripts: from any string of bytes to a verdict, and to the matches and marks of an admitted
 // script.
 #![tactic(auto)]
+
 pub mod columns;
 pub mod find;
 pub mod walk;
