@@ -2,6 +2,7 @@
 // script, and a script as lists. specs/ has it, proofs/ the laws of it. There is no function here: the calls are
 // `writer`'s and `record_reader`'s.
 #![tactic(auto)]
+
 use script::Refusal;
 
 // The numbers of a record, and of a mark; specs/Records.antt has them for the definitions.
@@ -10,7 +11,7 @@ pub const RECORD_WIDTH: usize = 4;
 pub const MARK_NUMBERS: usize = 2;
 
 // A match in a list: so many letters from left_a on of A and from left_b on of B; direction 0 is direct, 1 reversed.
-#[derive(Drop)]
+#[derive(Clone, Copy)]
 pub struct Record {
     pub left_a: u32,
     pub left_b: u32,
@@ -19,14 +20,14 @@ pub struct Record {
 }
 
 // The length of the script that was written.
-#[derive(Drop)]
+#[derive(Clone, Copy)]
 pub enum Written {
     Bytes(usize),
     Refused(Refusal),
 }
 
 // The lengths of a script, and how many records and marks were written.
-#[derive(Drop)]
+#[derive(Clone, Copy)]
 pub enum Listed {
     Records {
         p: u32,
