@@ -1,5 +1,6 @@
 // The right ends of the matches on both sides, worked out once for each match, before any position is tried.
 #![tactic(auto)]
+
 ghost use Rattle.std.specs.Prelude.{◌≤◌, length, take};
 ghost use Rattle.refining.specs.Columns.{Ends, RightEnds};
 
