@@ -1,5 +1,6 @@
 // A lent buffer set to zero.
 #![tactic(auto)]
+
 ghost use Rattle.std.specs.Prelude.{◌≡◌};
 ghost use Rattle.refining.specs.Refining.{zeroed};
 
