@@ -1,5 +1,6 @@
 // Passing over matches that do not reach into the stretch from the lowest to the highest newly found cut.
 #![tactic(auto)]
+
 ghost use Rattle.std.specs.Prelude.{◌≡◌, false, ◌+◌, ◌≤◌, length};
 ghost use Rattle.near_matches.specs.Near.{reaching, Passable};
 
