@@ -1,5 +1,6 @@
 // Making the newly found members of a set finished, and all members one run.
 #![tactic(auto)]
+
 ghost use Rattle.std.specs.Prelude.{◌≡◌, ◌≤◌};
 ghost use Rattle.cut_set.specs.Store.{Good, NothingAdded, NothingFound, AllFinished, Joined};
 ghost use Rattle.settling.specs.Parts.{parts, Begins};
