@@ -17,7 +17,7 @@
 --     Sharing                           what the count of one share is, unless it was given up
 -- A slot holds a row's number counted from 1, or 0 where it is free. From a row's home to its slot no slot is free.
 -- Assumes nothing.
-use Rattle.std.specs.Prelude.{◌≡◌, ℕ, ◌+◌, ◌-◌, ◌*◌, ◌/◌, ◌%◌, ◌^◌, ◌<◌, ◌≤◌, Bool, true, false, List, length, take, ◌==◌, bit_xor, slice_index, slice_index_or}
+use Rattle.std.specs.Prelude.{◌≡◌, ℕ, ◌+◌, ◌-◌, ◌*◌, ◌/◌, ◌%◌, ◌^◌, ◌<◌, ◌≤◌, Bool, true, false, List, length, take, ◌==◌, bit_xor, slice_index}
 use Rattle.rows.specs.Rows.{row_at}
 use Rattle.table.specs.Distinct.{same, occurs, first_of_each}
 use Rattle.table.specs.Summing.{count}
@@ -83,7 +83,7 @@ pub record Kept (by : Dealing) (share : ℕ) (rs : List Row) (k : ℕ) (slots : 
 -- slot `at` is the first free one from `from` on, and no slot between holds the piece
 pub record Gap (rs : List Row) (slots : List ℕ) (from : ℕ) (r : Row) (at : ℕ) : Type 0 where
   pub within : at < length slots
-  pub free : slice_index_or slots at 0 ≡ 0
+  pub free : slice_index slots at ≡ 0
   pub start : from ≤ at
   pub taken : (i : ℕ) → from ≤ i → i < at → 0 < slice_index slots i
   pub others : (i : ℕ) → from ≤ i → i < at → same (stored_at rs slots i) r ≡ false

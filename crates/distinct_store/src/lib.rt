@@ -3,6 +3,7 @@
 // piece goes from its home slot on to the first free one, and is given up at the last slot or when the probes that are
 // allowed are spent: the caller then deals in another way.
 #![tactic(auto)]
+
 ghost use Rattle.std.specs.Prelude.{◌≡◌, ◌+◌, ◌*◌, ◌^◌, ◌<◌, length};
 ghost use Rattle.rows.specs.Rows.{rows_of, row_at};
 ghost use Rattle.table.specs.Distinct.{same};
@@ -16,7 +17,7 @@ const MIXER: u32 = 0x9E37_79B1;
 
 // How rows are dealt: the factors of a piece's four numbers, how many shares there are, and how many slots of a store
 // are homes.
-#[derive(Drop)]
+#[derive(Clone, Copy)]
 pub struct Dealing {
     pub left_a: u32,
     pub left_b: u32,
