@@ -1,5 +1,6 @@
 // Sets of cuts side by side in a part of a lent slice, and a book of where their runs end.
 #![tactic(auto)]
+
 ghost use Rattle.std.specs.Prelude.{◌≡◌, ◌+◌, ◌*◌, ◌≤◌, length};
 ghost use Rattle.shelf.specs.Shelf.{set_at, Saved};
 ghost use Rattle.shelf.specs.Writing.{FourPut};
