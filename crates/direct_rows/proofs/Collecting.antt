@@ -17,7 +17,6 @@ use lib.Seq.{length-take-le, get_or-set_same, get_or-set_other, get_or-take}
 use borrow.Author.Count.{below_more}
 use Rattle.rows.specs.declared.Row.{Row}
 use Rattle.rows.specs.Rows.{row_at}
-use Rattle.refinement.specs.Order.{◌∈◌}
 use Rattle.backbone.specs.Chains.{Direct}
 use Rattle.backbone.proofs.Places.{at-∈}
 use Rattle.direct_rows.specs.Direct.{Collected}

@@ -1,5 +1,6 @@
 // The numbers of the direct rows of a table, and where each stands in an order.
 #![tactic(auto)]
+
 ghost use Rattle.std.specs.Prelude.{◌≡◌, ◌≤◌, ◌<◌, ◌^◌, length};
 ghost use Rattle.rows.specs.Rows.{rows_of};
 ghost use Rattle.direct_rows.specs.Direct.{Collected, Placeable, Placed};
