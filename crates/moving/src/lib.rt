@@ -1,5 +1,6 @@
 // A set of cuts moves to other places of its lent slice, which may overlap the old ones.
 #![tactic(auto)]
+
 ghost use Rattle.std.specs.Prelude.{◌≡◌, ◌≤◌};
 ghost use Rattle.moving.specs.Moving.{Shiftable, Shifted, Ends, placed, Movable, MovedSet};
 
