@@ -1,5 +1,6 @@
 // The way over one match of a script, and one position carried over it.
 #![tactic(auto)]
+
 ghost use Rattle.std.specs.Prelude.{◌≡◌};
 ghost use Rattle.script.specs.Reading.{read_script};
 ghost use Rattle.script.specs.Finding.{finding_of};
