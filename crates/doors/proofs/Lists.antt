@@ -9,7 +9,6 @@ use mathlib.Core.Path.{◌≡◌, refl, sym, ap, ◌∙◌}
 use mathlib.Core.List.{List, ◌++◌}
 use native.Mathlib.Omega.{arith}
 use lib.ListN.{length, take, drop}
-use Rattle.script.specs.Demands.{counted}
 use Rattle.records.specs.Writing.{writing_of}
 use Rattle.records.specs.Listing.{listing_of}
 use Rattle.records.specs.Demands.{MatchesFirst}
