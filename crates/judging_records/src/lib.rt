@@ -1,6 +1,7 @@
 // The first fault of a list of records and a list of marks, with the refusals in 02's order, before anything is written
 // of them.
 #![tactic(auto)]
+
 ghost use Rattle.std.specs.Prelude.{◌≡◌, ◌+◌, ◌*◌, ◌≤◌, length};
 ghost use Rattle.script.specs.Limits.{most_matches};
 ghost use Rattle.records.specs.Records.{record_width, records_of, record_at, match_of};

@@ -1,0 +1,11 @@
+-- `judge_both` meets its contract: a fault of the records, or what the marks come to. Assumes nothing.
+use mathlib.Core.Path.{sym}
+use Rattle.records.proofs.Lists.{records-length}
+use Rattle.judging_records.proofs.Each.{records-good}
+use Rattle.judging_records.proofs.judge_both.Goals as goal
+
+pub returns-in-Sound : goal.returns-in-Sound
+returns-in-Sound c =
+    let a = c.args in
+    records-good a.p a.q a.records.now a.marks.now c.judge_each.ensures
+    c.in-Sound.is (sym (records-length _)) c.judge_marks.ensures
