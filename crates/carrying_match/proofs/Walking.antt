@@ -2,7 +2,7 @@
 --     Walked              the invariant: the cuts at [lo, at) are carried
 --     walk_start                  where it begins
 --     walk-over, walk-break       the run is at its end, or its next cut is not spanned
---     AtCut                       the next cut is spanned
+--     AtCut, at_cut               the next cut is spanned
 --     walk_step, walk-known       it is carried; and the image of an end of the match is known
 --     walk-full, walk-excess      no place for its image, and one hit too many
 -- Assumes nothing.
@@ -144,6 +144,21 @@ pub record AtCut (i g k l : ℕ) (b : Bool) (xs : List ℕ) (from to : CutSet) (
   pub more : at < end
   pub here : cut ≡ get_or ys at 0
   pub spans : between i g cut ≡ true
+
+pub at_cut :
+    {i g k l : ℕ} {b : Bool} {xs : List ℕ} {from to : CutSet} {hits most lo end : ℕ} {ys : List ℕ} {t : CutSet}
+    {count at cut : ℕ} {spans : Bool} → Ready xs from to → FoundRun xs from → Bound xs from.done from.used i lo
+    → Walked i g k l b xs from to hits most lo end ys t count at → at < end → cut ≡ get_or ys at 0
+    → spans ≡ between i g cut → spans ≡ true → AtCut i g k l b xs from to hits most lo end ys t count at cut
+at_cut r up e w more here told true-of = record {
+  ready = r;
+  up = up;
+  bound = e;
+  walked = w;
+  more = more;
+  here = here;
+  spans = sym told ∙ true-of;
+}
 
 module _ {i g k l : ℕ} {b : Bool} {xs : List ℕ} {from to : CutSet} {hits most lo end : ℕ} {ys : List ℕ}
     {t : CutSet} {count at cut : ℕ} (a : AtCut i g k l b xs from to hits most lo end ys t count at cut) where

@@ -1,5 +1,6 @@
 // Carrying the newly found cuts of one side over one match to the other.
 #![tactic(auto)]
+
 ghost use Rattle.std.specs.Prelude.{◌≡◌, true, ◌⊎◌, ◌+◌, ◌-◌, ◌≤◌};
 ghost use Rattle.cut_set.specs.Store.{Found, FoundRun, found_in};
 ghost use Rattle.carrying_match.specs.OneMatch.{Ready, EndsIn, ImageBy, hits_on, Carrying};
