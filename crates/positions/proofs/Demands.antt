@@ -1,9 +1,9 @@
--- Carrying a list together as `carryingAllOf` defines it meets its demand: of the outcomes in `CarryingAllOutcome`
+-- Carrying a list together as `carrying_all_of` defines it meets its demand: of the outcomes in `CarryingAllOutcome`
 -- exactly one applies, and it is the reply; each outcome is as the single calls say.
---     all-refused, all_found        what `carryingAllOf` is, by what is found
+--     all-refused, all_found        what `carrying_all_of` is, by what is found
 --     over-differ, over-off, over-all      what it is over a match, by the lengths and by what the match spans
 --     singly-off, singly-to         what the single call says over a match
---     all-demand                    the demand, of any reply and buffer that equal what `carryingAllOf` says
+--     all-demand                    the demand, of any reply and buffer that equal what `carrying_all_of` says
 -- The single call's own demand tells what is found: each case here begins with one of its cases. Assumes nothing.
 use Prim.Native.Nat.{ℕ}
 use mathlib.Core.Path.{◌≡◌, refl, sym, ap, ap₂, ◌∙◌}
@@ -108,7 +108,7 @@ module _ (script : List ℕ) (number : ℕ) (side : Side) (positions lent : List
       let found = listed_found number over.admitted over.listed over.numbered in
       all_found found.1 ∙ ap (λ (z : Match). carrying_all_over z side positions lent) found.2
 
-  -- what `carryingAllOf` is where a is the answer: a refusal that keeps the buffer, or as many numbers as it has
+  -- what `carrying_all_of` is where a is the answer: a refusal that keeps the buffer, or as many numbers as it has
   data Told (a : Answer (List ℕ)) : Type 0 where
     kept : (r : Refusal) → carrying_all_of script number side positions lent ≡ kept_by r lent
         → a ≡ refusal (number_of r) (place_of r) → Told a

@@ -7,7 +7,7 @@
 --     BufferLeft              what is left in the lent buffer, by the answer
 --     CarryingAllDemand       exactly one outcome's condition is met, and it is the answer; as singly; the buffer
 -- The numbers of 01 and 02 are written out: a slip made in a definition and in the code together is refused here.
--- `proofs/Demands` shows that `carryingAllOf` meets the demand. Assumes nothing.
+-- `proofs/Demands` shows that `carrying_all_of` meets the demand. Assumes nothing.
 use Rattle.std.specs.Prelude.{ℕ, ◌<◌, ◌≡◌, ◌⊎◌, ◌↔◌, ◌≢◌, List, map, length}
 use Rattle.script.specs.Refusals.{number_of, place_of}
 use Rattle.script.specs.Answers.{Answer, value, refusal}
