@@ -1,5 +1,6 @@
 // Which of two rows a chain had better go on with, by signed numbers.
 #![tactic(auto)]
+
 ghost use Rattle.std.specs.Prelude.{◌≡◌, ◌+◌, ◌≤◌, length, ltb, pos, ◌-ℤ◌};
 ghost use Rattle.rows.specs.Rows.{rows_of};
 ghost use Rattle.weighing.specs.Weighing.{far_at, Scored, better_of};
