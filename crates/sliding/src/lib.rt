@@ -1,5 +1,6 @@
 // Sets of cuts side by side slide in their part of a lent slice, so that one of them gets room.
 #![tactic(auto)]
+
 ghost use Rattle.std.specs.Prelude.{◌≤◌, ◌<◌};
 ghost use Rattle.shelf.specs.Shelf.{Shelf, MadeRoom};
 ghost use Rattle.sliding.specs.Sliding.{Slidable, Slid, Bared, Between, MovedTo, Packed, Leaving};

@@ -1,0 +1,10 @@
+-- `sliding::bare_sets` meets its contract. The invariant: the sets before `u` are gathered and have no notes. The
+-- measure is how many are left. Assumes nothing.
+use Prim.Native.Nat.{◌-◌}
+use Rattle.sliding.proofs.Sliding.{Baring, baring-start, baring-step, bared-all}
+use borrow.Author.Rules.{rules}
+use Rattle.sliding.proofs.bare_sets.Goals as goal
+
+pub loop-u-preserved : goal.loop-u-preserved
+loop-u-preserved c =
+    baring-step c.loop-u.invariant (search rules) (search rules) c.bare_set.ensures

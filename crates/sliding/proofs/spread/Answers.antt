@@ -1,0 +1,13 @@
+-- `sliding::spread` meets its contract. The invariant: the sets from `u` on are spread behind `end`, and the reserve is
+-- the set's number `j`, or left before `end`. The measure is `u`. Assumes nothing.
+use Prim.Native.Nat.{◌-◌}
+use native.Mathlib.Omega.{arith}
+use Rattle.sliding.proofs.Sliding.{slid-slidable, Spreading, spreading-start, spreading-order, spreading-free}
+use Rattle.sliding.proofs.Sliding.{spreading-between, spreading-step, spread-out}
+use borrow.Author.Rules.{rules}
+use Rattle.sliding.proofs.spread.Goals as goal
+
+pub loop-u-preserved : goal.loop-u-preserved
+loop-u-preserved c =
+    spreading-step (c.loop-u.u - 1) (search rules) c.loop-u.invariant c.load-s.ensures
+    c.leave.ensures (search rules) c.move_to.ensures
