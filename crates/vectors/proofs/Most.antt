@@ -1,7 +1,7 @@
 -- 2,048 matches pass the reader, and one more gives 6 at 26633; 512 marks pass it, and one more gives 19 at 3081: the
 -- reading goes on behind each command as it began.
 --     on-and-on                   the same command again and again, while there is room
---     most-pass, one_more-comes         the two lines of matches
+--     most-pass, one_more-comes   the two lines of matches
 --     most-marks, one-mark-more   the two of marks
 -- Assumes nothing.
 use Prim.Native.Nat.{ℕ, zero, suc, ◌+◌, ◌*◌, ◌-◌, ◌≤◌, ◌<◌}
