@@ -1,5 +1,6 @@
 // The writer of scripts: from a list of records and a list of marks to the bytes of a script in a lent buffer.
 #![tactic(auto)]
+
 ghost use Rattle.std.specs.Prelude.{◌≡◌, ◌+◌, ◌*◌, ◌≤◌, ◌<◌, eqb, length};
 ghost use mathlib.Core.List.{[], ◌∷◌, flat_map};
 ghost use Rattle.script.specs.Commands.{lengths_width, match_width, mark_width};
