@@ -1,5 +1,6 @@
 // What is done to all sets of a shelf, one after the other.
 #![tactic(auto)]
+
 ghost use Rattle.std.specs.Prelude.{◌≡◌, ◌+◌, ◌*◌, ◌<◌, ◌≤◌, length};
 ghost use Rattle.cut_set.specs.Store.{Good, NothingAdded, Part};
 ghost use Rattle.shelf.specs.Shelf.{set_at, Shelf};

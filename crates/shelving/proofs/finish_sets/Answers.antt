@@ -1,0 +1,11 @@
+-- `shelving::finish_sets` meets its contract: the invariant is FinishedTo. The measure is the number of sets that are
+-- left.
+-- Assumes nothing.
+use Prim.Native.Nat.{◌-◌}
+use Rattle.shelving.proofs.SetBySet.{FinishedTo, finish-start, finish-next, finish-whole}
+use borrow.Author.Rules.{rules}
+use Rattle.shelving.proofs.finish_sets.Goals as goal
+
+pub loop-j-preserved : goal.loop-j-preserved
+loop-j-preserved c =
+    finish-next c.loop-j.invariant (search rules) c.finish_set.ensures (search rules) (search rules)

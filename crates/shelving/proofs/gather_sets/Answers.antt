@@ -1,0 +1,11 @@
+-- `shelving::gather_sets` meets its contract: the invariant is GatheredTo. The measure is the number of sets that are
+-- left.
+-- Assumes nothing.
+use Prim.Native.Nat.{◌-◌}
+use Rattle.shelving.proofs.SetBySet.{GatheredTo, gather-start, gather-next, gather-whole}
+use borrow.Author.Rules.{rules}
+use Rattle.shelving.proofs.gather_sets.Goals as goal
+
+pub loop-j-preserved : goal.loop-j-preserved
+loop-j-preserved c =
+    gather-next c.loop-j.invariant (search rules) c.gather_set.ensures (search rules) (search rules)

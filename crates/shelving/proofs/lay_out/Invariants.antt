@@ -1,0 +1,14 @@
+-- `shelving::lay_out` meets its contract: the invariant is LaidTo. The measure is the number of sets that are left.
+-- Assumes nothing.
+use Prim.Native.Nat.{◌-◌}
+use mathlib.Core.Path.{◌≡◌, refl}
+use lib.ListN.{length}
+use Rattle.shelving.proofs.Laying.{LaidTo, lay-start, lay-next, lay-whole}
+use borrow.Author.Rules.{rules}
+use Rattle.shelving.proofs.lay_out.Given as goal
+
+abbrev pub invariant-loop-j : goal.invariant-loop-j
+invariant-loop-j l = LaidTo l.sets l.lo l.hi l.j l.at l.work l.book × (length l.book ≡ length l.initial.book)
+
+abbrev pub decreases-loop-j : goal.decreases-loop-j
+decreases-loop-j l = l.sets - l.j
