@@ -46,7 +46,24 @@ def clauses(crates):
                 for kind, name in re.findall(r"^\s*(requires|ensures)\*? ?(\w*) ?\{", m[2], re.M):
                     kinds[kind].append(name)
                 found["::".join([crate, *parts, m[1]])] = kinds
+                MUTS["::".join([crate, *parts, m[1]])] = re.findall(r"(\w+): &mut", m[0].split("{")[0])
     return found
+
+
+MUTS = {}
+
+
+def numbered(names, rest):
+    """The numbered facts of a call's `&mut` arguments by their names."""
+    if len(names) == 1:
+        return [names[0], *rest[1:]] if rest[:1] == ["0"] else rest
+    i, k = 0, 0
+    while i < len(rest) and rest[i] in ("0", "1") and k < len(names):
+        if rest[i] == "0":
+            return [names[k], *rest[i + 1 :]]
+        k += 1
+        i += 1
+    return rest
 
 
 class Function:
@@ -113,7 +130,12 @@ class Function:
             it = self.places[self.at[found]]
             head = it[2][1]
             callee = it[3]
-        rest = [SAID.get(s, s) for s in segs[1:]]
+        test = head.startswith(("if", "in_", "in-")) or "test" in head
+        rest = [s if s in ("left", "taken") and not test else SAID.get(s, s) for s in segs[1:]]
+        if callee and rest[:1] == ["kept"]:
+            rest[0] = "auto"
+        if callee and rest[:1] == ["auto"]:
+            rest = ["auto", *numbered(MUTS.get(callee, []), rest[1:])]
         if callee and rest[:1] and rest[0] in ("ensures", "requires"):
             rest = [rest[0], *self.by_clause(callee, rest[0], rest[1:])]
         if callee and rest[:1] == ["new"] and len(rest) > 1:
@@ -147,6 +169,12 @@ class Function:
                 break
             if not again:
                 break
+        aliases = {}
+        for name, var, seg in re.findall(r"let (%s) = (%s)\.(%s) in" % (W, W, W), text):
+            if var in places and name not in places and seg not in OWN and seg != "before":
+                found = self.step(places[var], seg)
+                if found is not None:
+                    aliases[name] = found
         args = {}
         for name, var in re.findall(r"let (%s) = (%s)\.args in" % (W, W), text):
             if var in places:
@@ -170,6 +198,8 @@ class Function:
             var, segs = m[1], m[2].split(".")[1:]
             if var in places:
                 return self.path(places[var], segs)
+            if var in aliases:
+                return self.path(aliases[var], [self.places[self.at[aliases[var]]][2][0], *segs])
             if var in args:
                 return ".".join([var, segs[0].replace("-", "_"), *segs[1:]])
             return m[0]
