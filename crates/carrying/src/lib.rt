@@ -12,7 +12,7 @@ use refining::answers::Carried;
 use script::{Finding, Refusal};
 
 // The ends of a match on the side that positions come from, and on the side that they are carried to.
-#[derive(Drop)]
+#[derive(Clone, Copy)]
 pub struct Way {
     pub from: u32,
     pub from_right: u32,
@@ -22,7 +22,7 @@ pub struct Way {
 }
 
 // The way over a match, or why there is none.
-#[derive(Drop)]
+#[derive(Clone, Copy)]
 pub enum Crossing {
     Over(Way),
     Refused(Refusal),

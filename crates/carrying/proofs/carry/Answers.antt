@@ -23,7 +23,9 @@ returns-then-spans c =
 pub returns-in-Refused : goal.returns-in-Refused
 returns-in-Refused c =
     let a = c.args in
-    let r = replied (found-refused a.script.now a.number a.side a.position c.find_match.ensures.value c.in-Refused.is refl) in
+    let r = replied
+    (found-refused a.script.now a.number a.side a.position c.find_match.ensures.value c.in-Refused.is refl)
+    in
     record { value = r.0; carrying_demand = r.1 }
 
 pub returns-else-spans : goal.returns-else-spans
