@@ -1,5 +1,6 @@
 // Rows that were entered at their places, and the best of those behind a place, in steps that halve the places.
 #![tactic(auto)]
+
 ghost use Rattle.std.specs.Prelude.{◌≡◌, ◌+◌, ◌≤◌, ◌<◌, length};
 ghost use Rattle.rows.specs.Rows.{rows_of};
 ghost use Rattle.weighing.specs.Weighing.{Scored};
