@@ -1,5 +1,6 @@
 // Carrying the newly found cuts of one side over the matches to the other, match by match.
 #![tactic(auto)]
+
 ghost use Rattle.std.specs.Prelude.{◌≡◌, true, ◌≤◌, length};
 ghost use Rattle.cut_set.specs.Store.{FoundRun, found_in};
 ghost use Rattle.refining.specs.Columns.{columns_of, Fit};
