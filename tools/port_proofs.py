@@ -115,7 +115,7 @@ class Function:
             segs.pop(0)
         if not segs:
             return "c"
-        head = SAID.get(segs[0], segs[0])
+        head = segs[0] if self.step(place, segs[0]) is not None else SAID.get(segs[0], segs[0])
         callee = None
         if head in OWN:
             if head == "requires":
@@ -130,6 +130,13 @@ class Function:
             it = self.places[self.at[found]]
             head = it[2][1]
             callee = it[3]
+        if found is not None:
+            # what a step of an arm knows stands in the arm
+            arm = (self.n["arms"] or [None] * len(self.places))[self.at[found]]
+            fits = [e for e in (arm or [0, 0, []])[2] if norm(e[1]) == norm(segs[0]) and not e[0].endswith("-own") and segs[1 : 1 + len(e[2])] == e[2]]
+            if fits:
+                best = max(fits, key=lambda e: len(e[2]))
+                return ".".join(["c", arm[0], best[0], *segs[1 + len(best[2]) :]])
         test = head.startswith(("if", "in_", "in-")) or "test" in head
         rest = [s if s in ("left", "taken") and not test else SAID.get(s, s) for s in segs[1:]]
         if callee and rest[:1] == ["kept"]:
@@ -205,6 +212,8 @@ class Function:
             return m[0]
 
         text = re.sub(r"(?<![^\s(,;{\[])(%s)((?:\.(?:«[^»]*»|%s))+)" % (W, W), turn, text)
+        # the arm's own clause, where an equation was carried to the call's
+        text = re.sub(r"rw c\.(in[-_][^\s.]+)\.is at c\.(?!loop)[^\s.()]+\.ensures(?=[\s)])", r"c.\1.ensures", text + " ").rstrip()
         return text
 
 
@@ -277,7 +286,7 @@ def convert(crate, folder, names, kinds):
                 invariants.append("\n".join(comment + [f"abbrev pub {m[2]}-{m[3].replace('-', '_')} : goal.{m[2]}-{m[3].replace('-', '_')}", f"{m[2]}-{m[3].replace('-', '_')} l = {body}"]))
                 left.append(f"{m[1]}: the measure of a recursion")
             continue
-        m = re.match(r"(?:abbrev )?(?:pub )?(\S+) : (.*?)\n\1((?: \S+)*) =\s*(.*)" , decl, re.S)
+        m = re.match(r"(?:abbrev )?(?:pub )?(\S+) : (.*?)\n\1((?: (?!=)\S+)*) =\s*(.*)", decl, re.S)
         if not m:
             left.append("not read: " + decl.split("\n")[0])
             continue
@@ -314,6 +323,8 @@ def convert(crate, folder, names, kinds):
             lets, rest = peel(out.strip())
             if asked and len(asked) > 1 and whole_parens(rest):
                 parts = split(rest[1:-1].strip().rstrip(","))
+                while len(parts) < len(asked) and whole_parens(parts[-1].strip()):
+                    parts = parts[:-1] + split(parts[-1].strip()[1:-1].strip().rstrip(","))
                 if len(parts) > len(asked):
                     parts = parts[: len(asked) - 1] + ["(" + ",".join(parts[len(asked) - 1 :]) + ")"]
                 if len(parts) == len(asked):
