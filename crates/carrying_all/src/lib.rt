@@ -1,5 +1,6 @@
 // A list of positions carried over one match of a script: all of them are tested before the first is written.
 #![tactic(auto)]
+
 ghost use Rattle.std.specs.Prelude.{◌+◌, ◌-◌, ◌≡◌, true, map, length};
 ghost use Rattle.refinement.specs.Match.{between, carry_to};
 ghost use Rattle.positions.specs.CarryingAll.{every, carrying_all_of};
