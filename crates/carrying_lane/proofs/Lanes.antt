@@ -93,12 +93,12 @@ hits-mono l f a (suc d) =
 
 -- a contract's facts in one record
 pub made-ready :
-    {c : Columns} {is gs fb : List ℕ} {n fa ta sets lo hi : ℕ} {xs b : List ℕ} {X : Type 0}
-    → (Fit c × ((count_of c ≤ 4294967296) × (UsableParts is gs n c.from_lefts c.from_rights
-    × (Groups gs n (count_of c) sets × (ClearBook xs fb sets lo hi
-    × (Shelf xs b sets lo hi × (OneOfTwo fa × (OneOfTwo ta × X))))))))
+    {c : Columns} {is gs fb : List ℕ} {n fa ta sets lo hi : ℕ} {xs b : List ℕ}
+    → Fit c → count_of c ≤ 4294967296 → UsableParts is gs n c.from_lefts c.from_rights
+    → Groups gs n (count_of c) sets → ClearBook xs fb sets lo hi → Shelf xs b sets lo hi
+    → OneOfTwo fa → OneOfTwo ta
     → Ready c is gs fb n fa ta sets lo hi xs b
-made-ready (fit, (few, (usable, (groups, (clear, (shelf, (from, (to, rest)))))))) = record {
+made-ready fit few usable groups clear shelf from to = record {
   fit = fit;
   few = few;
   usable = usable;
