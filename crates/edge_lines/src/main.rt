@@ -8,8 +8,8 @@ ghost use Rattle.edge_answers.specs.Lines.{carried_line};
 ghost use Rattle.edge_lines.specs.AllLines.{work_lines, touching_lines, long_lines, many_lines, edge_lines};
 
 use edge_answers::{put_carried, put_read, put_refined};
-use libc::STDOUT_FILENO;
 use refinement::Side;
+use std::io;
 use text::{put_byte, put_bytes};
 
 // With a table of 40 numbers, 32 of work are enough and 31 are not.
@@ -123,8 +123,8 @@ fn put_lines(text: &mut [u8]) -> usize
     put_many_lines(text, long)
 }
 
-fn main() {
+fn main(rt: HostRuntime) -> io::Result<()> {
     let mut text = [0; 1024];
     let length = put_lines(&mut text);
-    io::write_all(STDOUT_FILENO, &text[..length]);
+    rt.write_all(&text[..length])
 }

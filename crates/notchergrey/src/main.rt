@@ -1,6 +1,6 @@
 // Reads a match script from standard input and prints its piece table, or the refusal with its place. If the input
-// cannot be read, or the text cannot be written, it says why on standard error, where no answer ever puts a byte: the
-// language has no exit status, so that is how a caller tells a failure from an answer.
+// cannot be read, or the text cannot be written, it says why on standard error, where no answer ever puts a byte: that
+// is how a caller tells a failure from an answer, since the exit status is 0 for both.
 #![tactic(auto)]
 ghost use Rattle.std.specs.Prelude.{◌≡◌, ◌<◌, ◌≤◌, length, take};
 ghost use Rattle.io.specs.Counts.{IsPrefixLen};
@@ -8,10 +8,11 @@ ghost use Rattle.reporting.specs.Reporting.{report_of, longest_text};
 ghost use Rattle.streams.specs.Counting.{Went};
 
 use brief_report::report_brief;
-use libc::STDERR_FILENO;
 use report::LONGEST_TEXT;
 use reporting::{Brief, Reported};
 use script::limits::LONGEST_SCRIPT;
+use std::env::{Env, FillError};
+use std::io::{Error, Write};
 use streams::{Moved, Output, read_input, write_text};
 
 // A longer script has more matches than a small table has rows.
@@ -50,52 +51,77 @@ fn make_brief(script: &[u8], text: &mut [u8]) -> usize
     }
 }
 
-fn print_large(script: &[u8]) -> Output
+fn print_large<W: Write>(output: &mut W, script: &[u8]) -> Output
     ensures { Went (length (report_of script.now)) result }
 {
     let mut text = [0; LONGEST_TEXT];
     let length = make_text(script, &mut text);
-    write_text(script, &text[..length])
+    write_text(output, script, &text[..length])
 }
 
 // A short text is made in a small buffer: zeros for every text would be most of what a short script costs.
-fn print_short(script: &[u8]) -> Output
+fn print_short<W: Write>(output: &mut W, script: &[u8]) -> Output
     ensures { Went (length (report_of script.now)) result }
 {
     let mut text = [0; SHORT_TEXT];
     let length = make_brief(script, &mut text);
     if length == 0 {
-        return print_large(script);
+        return print_large(output, script);
     }
-    write_text(script, &text[..length])
+    write_text(output, script, &text[..length])
+}
+
+// Says what failed and why, in the system's words without their number.
+fn fail(rt: &(impl Eprint + Alloc), what: &str, error: &Error) {
+    match format!(in rt.alloc(); "{error}") {
+        Ok(said) => {
+            let words = said.as_str();
+            let why = match words.split_once(" (os error ") {
+                Some((before, _)) => before,
+                None => words,
+            };
+            let _ = eprintln!(rt; "notchergrey: {what}: {why}");
+        }
+        Err(_) => {
+            let _ = eprintln!(rt; "notchergrey: {what}: {error}");
+        }
+    }
 }
 
 // Says it if the text could not be written whole.
-fn tell(went: Output) {
+fn tell(rt: &(impl Eprint + Alloc), went: Output) {
     match went {
         Output::Whole(_) => {}
-        Output::Broken(_) => os::fail(b"notchergrey: standard output"),
+        Output::Broken(_, error) => fail(rt, "standard output", &error),
     }
 }
 
-fn main() {
-    if os::arg_count() > 1 {
-        io::write_all(
-            STDERR_FILENO,
-            b"usage: notchergrey <SCRIPT; it takes no argument\n",
-        );
+// Whether the program was given an argument, be it text or not.
+fn has_argument(rt: &impl Env) -> bool {
+    let mut start = [0; 1];
+    match rt.arg(1, &mut start) {
+        Err(FillError::NotPresent) => false,
+        _ => true,
+    }
+}
+
+fn main(rt: HostRuntime) {
+    if has_argument(&rt) {
+        let _ = eprintln!(rt; "usage: notchergrey <SCRIPT; it takes no argument");
         return;
     }
     let mut bytes = [0; LONGEST_SCRIPT + 1];
-    match read_input(&mut bytes) {
+    let mut input = rt.stdin();
+    let mut output = rt.stdout();
+    match read_input(&mut input, &mut bytes) {
         Moved::Bytes(count) => {
             // Called here too, the large text keeps a stack of its own, which a short script never touches.
             if SHORT_SCRIPT < count {
-                tell(print_large(&bytes[..count]));
+                tell(&rt, print_large(&mut output, &bytes[..count]));
             } else {
-                tell(print_short(&bytes[..count]));
+                tell(&rt, print_short(&mut output, &bytes[..count]));
             }
         }
-        Moved::Failed => os::fail(b"notchergrey: standard input"),
+        Moved::Failed(error) => fail(&rt, "standard input", &error),
     }
 }
