@@ -1,6 +1,7 @@
 // The reader of scripts into lists: from any string of bytes to the records of its matches and to its marks, in lent
 // buffers.
 #![tactic(auto)]
+
 ghost use Rattle.std.specs.Prelude.{◌≡◌, ◌+◌, ◌*◌, ◌≤◌, length};
 ghost use Rattle.script.specs.Reading.{read_script};
 ghost use Rattle.script.specs.Columns.{matches_read, marks_read};
