@@ -3,6 +3,7 @@
 // beforehand where the span may end. Where it holds more than there is room for all the same, it is cut short. The rest
 // is for a later pass.
 #![tactic(auto)]
+
 ghost use Rattle.std.specs.Prelude.{◌+◌, ◌≤◌, ◌<◌, ◌≡◌, length};
 ghost use Rattle.rows.specs.Rows.{rows_of};
 ghost use Rattle.table.specs.Distinct.{first_of_each};
@@ -22,7 +23,7 @@ const SAMPLES: usize = 4096;
 const EXPECTED: usize = 6144;
 
 // The pieces from `from` on, and if it is closed only those before `to`.
-#[derive(Drop)]
+#[derive(Clone, Copy)]
 pub struct Span {
     pub from: Row,
     pub to: Row,
@@ -30,7 +31,7 @@ pub struct Span {
 }
 
 // How many numbers are gathered, and the span that they are gathered for.
-#[derive(Drop)]
+#[derive(Clone, Copy)]
 pub struct Window {
     pub used: usize,
     pub span: Span,
