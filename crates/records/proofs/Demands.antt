@@ -1,6 +1,6 @@
--- The two calls as `writingOf` and `listingOf` define them meet their demands.
---     writing-demand      of any reply and buffer that equal `writingOf`'s
---     listing-demand      likewise of `listingOf`, for a string of bytes
+-- The two calls as `writing_of` and `listing_of` define them meet their demands.
+--     writing-demand      of any reply and buffer that equal `writing_of`'s
+--     listing-demand      likewise of `listing_of`, for a string of bytes
 -- Each undoes the other: what is written is admitted and holds the matches of the records and the marks, the matches
 -- first (`written-admitted`, `written-first`), and what is read is written from these, if its matches stand first
 -- (`admitted-written`). Assumes nothing.

@@ -6,7 +6,7 @@
 --     Again           what is written of a script's records and marks, and when that is the script itself
 --     ListingDemand   what the call that reads into lists promises
 -- 02, #101: "Each undoes the other, bytes to records to bytes and records to bytes to records"; of the first, #106 says
--- "only scripts in that order come back byte for byte". `proofs/Demands` shows that `writingOf` and `listingOf` meet
+-- "only scripts in that order come back byte for byte". `proofs/Demands` shows that `writing_of` and `listing_of` meet
 -- them. Assumes nothing.
 use Rattle.std.specs.Prelude.{ℕ, ◌*◌, ◌≤◌, ◌≡◌, List, [], ◌∷◌, ◌++◌, length, take, drop}
 use Rattle.script.specs.Refusals.{number_of, place_of}

@@ -1,4 +1,4 @@
--- What `columnOf` leaves in a lent column, as its demand says it, and in one that is long enough.
+-- What `column_of` leaves in a lent column, as its demand says it, and in one that is long enough.
 --     column-demand      the demand holds of every column, of matches or of marks
 --     columns-demand, marks-demand     and of those that are lent
 --     column-length      a column stays as long as it was

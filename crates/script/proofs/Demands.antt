@@ -1,7 +1,7 @@
--- The reader and the finder as `verdictOf` and `findingOf` define them meet their demands: of the outcomes exactly one
+-- The reader and the finder as `verdict_of` and `finding_of` define them meet their demands: of the outcomes exactly one
 -- applies, and it is the reply.
---     reading-demand, reading-contract     of any reply that equals `verdictOf`; with the equation before it
---     finding-demand, finding-contract     likewise of `findingOf`
+--     reading-demand, reading-contract     of any reply that equals `verdict_of`; with the equation before it
+--     finding-demand, finding-contract     likewise of `finding_of`
 -- Assumes nothing.
 use Prim.Native.Nat.{ℕ}
 use mathlib.Core.Path.{◌≡◌, refl, ap, subst, ◌∙◌}

@@ -1,5 +1,5 @@
--- What a command with its operands comes to, from the computed step and back: views of `matchJudgement`,
--- `markJudgement`, `matchStep`, `markStep` and `lengthsStep` by their cases.
+-- What a command with its operands comes to, from the computed step and back: views of `match_judgement`,
+-- `mark_judgement`, `match_step`, `mark_step` and `lengths_step` by their cases.
 --     Weighed p q place m j       the match m comes to the judgement j, in the words of specs/Outcomes
 --     weighed, weighed-judgement  the computed judgement is weighed so, and what is weighed so is the computed one
 --     Roomy, roomy, roomy-step    there is room for one more, or there is not: the same for matches and for marks

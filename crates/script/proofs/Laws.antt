@@ -5,8 +5,8 @@
 --     bit-told           the number of a direction tells the direction
 --     no-side-beyond     a mark with a side above 1 and a position past both sequences is refused with 20
 -- Not here: the rows of the table of refusals, which `proofs/Outcome` holds to the numbers, places and limits of 01 and
--- 02, and the orders at a match, 6, 7, 8, 9, and at a mark, 19, 20, 21, which `proofs/Judged` holds `matchStep` and
--- `markStep` to.
+-- 02, and the orders at a match, 6, 7, 8, 9, and at a mark, 19, 20, 21, which `proofs/Judged` holds `match_step` and
+-- `mark_step` to.
 -- Assumes nothing.
 use Prim.Native.Nat.{ℕ, ◌+◌, ◌*◌, ◌≤◌, ◌<◌}
 use mathlib.Core.Path.{◌≡◌, refl}

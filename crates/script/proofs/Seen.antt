@@ -1,4 +1,4 @@
--- What stands at an offset of the script, from the computed command and back: a view of `commandOf` by its cases.
+-- What stands at an offset of the script, from the computed command and back: a view of `command_of` by its cases.
 --     number-drop      a number of the remainder is the number of the script, further on
 --     Seen s at c      the command c stands at the offset at, in the words of specs/Outcomes
 --     whole-match, whole-mark     a command byte with its operands behind it is a command

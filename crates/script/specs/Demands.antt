@@ -9,8 +9,8 @@
 --     finding_answer f      the finder's reply in 01's words
 --     FindingOutcome       what may come of asking for the match of a number, by its condition
 --     FindingDemand        exactly one outcome's condition is met, and it is the answer
--- 01, "The script" and "Refused scripts and calls"; 02, #106. `proofs/Demands` shows that `verdictOf` and `findingOf`
--- meet the demands, `proofs/Columns` that `columnOf` does. Assumes nothing.
+-- 01, "The script" and "Refused scripts and calls"; 02, #106. `proofs/Demands` shows that `verdict_of` and `finding_of`
+-- meet the demands, `proofs/Columns` that `column_of` does. Assumes nothing.
 use Rattle.std.specs.Prelude.{ℕ, ◌+◌, ◌≤◌, ◌<◌, ◌≡◌, ◌⊎◌, Bool, List, [], ◌∷◌, ◌++◌, length, get_or}
 use Rattle.script.specs.Refusals.{number_of, place_of}
 use Rattle.script.specs.Answers.{Answer, value, refusal, Contents, contents}

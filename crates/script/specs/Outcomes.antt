@@ -1,7 +1,7 @@
 -- 01's table of refusals a second time, as a relation: a constructor for each row that reading can meet, with the row's
 -- condition, its number and its place, and one for an admitted script. All numbers are 01's, written out, widths and
 -- limits too: a slip made in a definition and in the code together is refused here. `proofs/Outcome` shows that exactly
--- one applies to each string of bytes, and that it is what `readScript` computes. TO READ beside SCOPE, "Refusals" (01,
+-- one applies to each string of bytes, and that it is what `read_script` computes. TO READ beside SCOPE, "Refusals" (01,
 -- "Refused scripts and calls"; 02, #106).
 --     Reach s p q at ms ks     good commands alone stand before the offset at: lengths p q, then the matches ms and the
 --                              marks ks, mixed in any way
