@@ -319,6 +319,7 @@ def convert(crate, folder, names, kinds):
             out = f.term(body, {var: place})
             if re.fullmatch(r"search(?: rules)?", out.strip()):
                 continue
+            out = re.sub(r"c\.([\w-]+)-\d+\.given\.1", lambda m: "c." + ((re.findall(r"in-[A-Z]\w*|in_default", m[1]) or re.findall(r"in-[A-Z]\w*|in_default", goal) or ["ARM"])[-1]) + ".is", out)
             asked = f.n["asked"].get(goal) or f.n["asked"].get(name)
             lets, rest = peel(out.strip())
             if asked and len(asked) > 1 and whole_parens(rest):
