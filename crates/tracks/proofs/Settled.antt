@@ -10,7 +10,7 @@ use lib.ListN.{length}
 use Rattle.refinement.specs.declared.Side.{Side}
 use Rattle.refinement.specs.declared.Side.TheVariants.{A, B}
 use Rattle.refinement.specs.Order.{◌∈◌}
-use Rattle.refinement.specs.Match.{Match, Place, other, track, left, right, place, Spans, carry}
+use Rattle.refinement.specs.Match.{Match, Place, other, left, right, place, Spans, carry}
 use Rattle.refinement.specs.Cut.{Cut, left_end, right_end, end, mark, carried}
 use Rattle.refinement.proofs.Geometry.{end-spanned, carry-meets, meets-end, carry_back, carry-spans}
 use Rattle.runs.specs.Runs.{In}

@@ -17,7 +17,7 @@ use lib.ListN.{get_or}
 use Rattle.refinement.specs.declared.Side.{Side}
 use Rattle.refinement.specs.declared.Side.TheVariants.{A, B}
 use Rattle.refinement.specs.Order.{◌∈◌, Distinct}
-use Rattle.refinement.specs.Match.{Place, other, place, Spans, carry}
+use Rattle.refinement.specs.Match.{Place, other, Spans, carry}
 use Rattle.refinement.specs.Cut.{Cut, carried}
 use Rattle.refinement.proofs.Geometry.{carry-spans}
 use Rattle.refinement.proofs.Lists.{rising-append, rising-weaken}

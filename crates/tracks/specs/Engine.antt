@@ -2,7 +2,7 @@
 -- work buffer. A step takes the newly found cuts of its side over the matches and along them to the other side; what is
 -- finished has been taken. (A worklist: finished and newly found are done and pending.)
 --     FitTracks           the columns fit, and each match names tracks that have a set
---     bookOn, books_of     the books of the two shelves, by side
+--     books_of             the books of the two shelves, by side
 --     half_from, half_to    the places of a side's shelf
 --     Counted             the cuts taken from a side, each once, and the hits of both kinds of lanes
 --     Open                all that holds between two steps, s being the side whose newly found cuts are next
