@@ -1,6 +1,7 @@
 // The best chain from each direct row, from the right end of A to the left: each row is linked to the best row that may
 // follow it, if that gains anything.
 #![tactic(auto)]
+
 ghost use Rattle.std.specs.Prelude.{◌≡◌, ◌+◌, ◌*◌, ◌≤◌, ◌<◌, length};
 ghost use Rattle.rows.specs.Rows.{rows_of};
 ghost use Rattle.backbone.specs.Chains.{Follows, skipped};
@@ -79,7 +80,7 @@ fn foremost(scores: &[u32], first: u32, number: u32) -> u32
 }
 
 // A row, its place by B, the row that it is linked to, 0 for none, and the score of the best chain from it.
-#[derive(Drop)]
+#[derive(Clone, Copy)]
 struct Step {
     pub number: u32,
     pub place: u32,
