@@ -1,6 +1,7 @@
 // One share of a large table, counted run by run: the rows of the share in a run are picked without a branch, which
 // would be guessed wrong at every other row of the share, and then enrolled.
 #![tactic(auto)]
+
 ghost use Rattle.std.specs.Prelude.{◌≡◌, cond, ◌-◌, ◌<◌, ◌≤◌, ◌^◌, length};
 ghost use Rattle.rows.specs.Rows.{rows_of};
 ghost use Rattle.distinct_store.specs.Store.{Empty, Sharing, Dealt};
