@@ -20,7 +20,7 @@ use lib.ListN.{length}
 use Rattle.runs.specs.Runs.{Run, Same}
 use Rattle.runs.proofs.Membership.{in-same, run-same}
 use Rattle.cut_set.specs.Store.{Good, Member, NothingFound, NothingAdded}
-use Rattle.cut_set.specs.Store.{Gathered, Stored, Cramped}
+use Rattle.cut_set.specs.Store.{Stored, Cramped}
 use Rattle.cut_set.specs.declared.CutSet.{CutSet}
 use Rattle.cut_set.proofs.Gathering.{base_done, done-fresh, used-top, used-limit, still_noted}
 use Rattle.cut_set.proofs.Storing.{outside-same}

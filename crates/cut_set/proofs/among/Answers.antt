@@ -1,7 +1,6 @@
 -- `cut_set::among` meets its contract: a run answers for itself, and its answers are joined run by run.
 -- Assumes nothing.
-use Rattle.runs.proofs.Membership.{in-wide}
-use Rattle.runs.proofs.Searching.{answers-yes, answers-later}
+use Rattle.runs.proofs.Searching.{answers-later}
 use borrow.Author.Rules.{rules}
 use Rattle.cut_set.proofs.among.Goals as goal
 

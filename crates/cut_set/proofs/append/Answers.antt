@@ -1,6 +1,5 @@
 -- `cut_set::append` meets its contract: the store is `appended`. Assumes nothing.
 use Rattle.cut_set.proofs.Storing.{appended}
-use borrow.Author.Rules.{rules}
 use Rattle.cut_set.proofs.append.Goals as goal
 
 pub returns : goal.returns

@@ -1,5 +1,5 @@
 -- `cut_set::gather` meets its contract: what was added is sorted, sieved and merged (Gathering). Assumes nothing.
-use Rattle.cut_set.proofs.Gathering.{good-sortable, sorted_apart, new-mergeable, new-spare, new-between, gathered, gathered_none}
+use Rattle.cut_set.proofs.Gathering.{sorted_apart, new-mergeable, new-spare, gathered}
 use borrow.Author.Rules.{rules}
 use Rattle.cut_set.proofs.gather.Goals as goal
 

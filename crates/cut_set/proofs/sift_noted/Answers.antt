@@ -1,11 +1,8 @@
 -- `cut_set::sift_noted` meets its contract: the invariant is Keeping, where what stands in a run is known. The measure is
 -- what is left of the numbers.
 -- Assumes nothing.
-use Prim.Native.Nat.{◌-◌}
-use native.Mathlib.Omega.{arith}
 use mathlib.Core.Path.{refl}
-use Rattle.runs.specs.Runs.{In}
-use Rattle.sifting.proofs.Keeping.{Keeping, keep-start, keep-step, counted-few}
+use Rattle.sifting.proofs.Keeping.{keep-step}
 use Rattle.cut_set.proofs.Sieving.{kept-standing, kept-known, kept_new}
 use borrow.Author.Rules.{rules}
 use Rattle.cut_set.proofs.sift_noted.Goals as goal

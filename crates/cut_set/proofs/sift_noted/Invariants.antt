@@ -2,12 +2,8 @@
 -- what is left of the numbers.
 -- Assumes nothing.
 use Prim.Native.Nat.{◌-◌}
-use native.Mathlib.Omega.{arith}
-use mathlib.Core.Path.{refl}
 use Rattle.runs.specs.Runs.{In}
-use Rattle.sifting.proofs.Keeping.{Keeping, keep-start, keep-step, counted-few}
-use Rattle.cut_set.proofs.Sieving.{kept-standing, kept-known, kept_new}
-use borrow.Author.Rules.{rules}
+use Rattle.sifting.proofs.Keeping.{Keeping}
 use Rattle.cut_set.proofs.sift_noted.Given as goal
 
 abbrev pub invariant-loop-k : goal.invariant-loop-k

@@ -1,5 +1,5 @@
 -- `cut_set::sift_runs` meets its contract: the set's runs are taken out one after the other (Sieving). Assumes nothing.
-use Rattle.cut_set.proofs.Sieving.{sieve-first, sieve-then, sieve-siftable, sieved-all}
+use Rattle.cut_set.proofs.Sieving.{sieve-first, sieve-then, sieved-all}
 use borrow.Author.Rules.{rules}
 use Rattle.cut_set.proofs.sift_runs.Goals as goal
 

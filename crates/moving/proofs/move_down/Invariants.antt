@@ -1,9 +1,7 @@
 -- `moving::move_down` meets its contract. The invariant: the first `k` numbers are moved. The measure is what is left.
 -- Assumes nothing.
 use Prim.Native.Nat.{◌-◌}
-use mathlib.Core.Path.{refl}
-use Rattle.moving.proofs.Moving.{Shifting, shifted_none, shifting-step, shifted-all}
-use borrow.Author.Rules.{rules}
+use Rattle.moving.proofs.Moving.{Shifting}
 use Rattle.moving.proofs.move_down.Given as goal
 
 abbrev pub invariant-loop-k : goal.invariant-loop-k

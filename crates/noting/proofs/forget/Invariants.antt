@@ -1,8 +1,7 @@
 -- `noting::forget` meets its contract: each store is to a place of the notes. The measure is what is left of them.
 -- Assumes nothing.
 use Prim.Native.Nat.{◌-◌}
-use borrow.Author.Rules.{rules}
-use Rattle.noting.proofs.Noting.{Clearing, clear_none, clear_next}
+use Rattle.noting.proofs.Noting.{Clearing}
 use Rattle.noting.proofs.forget.Given as goal
 
 abbrev pub invariant-loop-k : goal.invariant-loop-k

@@ -1,5 +1,4 @@
 -- `noting::note` meets its contract: the store is `noted_one`. Assumes nothing.
-use borrow.Author.Rules.{rules}
 use Rattle.noting.proofs.Noting.{noted_one}
 use Rattle.noting.proofs.note.Goals as goal
 

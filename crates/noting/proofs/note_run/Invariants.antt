@@ -1,11 +1,9 @@
 -- `noting::note_run` meets its contract: the numbers up to k are noted. The measure is what is left of the run.
 -- Assumes nothing.
 use Prim.Native.Nat.{◌-◌, ◌≤◌}
-use mathlib.Core.Path.{◌≡◌, refl}
+use mathlib.Core.Path.{◌≡◌}
 use lib.ListN.{length}
-use borrow.Author.Rules.{rules}
 use Rattle.noting.specs.Notes.{NotedRun}
-use Rattle.noting.proofs.Noting.{noted-none, noted-next, noted-whole}
 use Rattle.noting.proofs.note_run.Given as goal
 
 abbrev pub invariant-loop-k : goal.invariant-loop-k

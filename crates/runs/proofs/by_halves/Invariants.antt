@@ -1,9 +1,7 @@
 -- `runs::by_halves` meets its contract. The invariant: all numbers before `at` are less than x, and all
 -- from `at + size` on are not. The measure is `size`, which halves.
 -- Assumes nothing.
-use Rattle.runs.proofs.Searching.{Bracket, stride_few, bracket-start, bracket-step, bracket-end}
-use native.Mathlib.Omega.{arith}
-use borrow.Author.Rules.{rules}
+use Rattle.runs.proofs.Searching.{Bracket}
 use Rattle.runs.proofs.by_halves.Given as goal
 
 abbrev pub invariant-loop-size : goal.invariant-loop-size

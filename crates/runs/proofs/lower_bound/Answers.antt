@@ -2,8 +2,7 @@
 -- from `at + size` on are not. The measure is `size`.
 -- Assumes nothing.
 use native.Mathlib.Omega.{arith}
-use Rattle.runs.proofs.Searching.{Bracket, stride_few, bracket-quarters}
-use Rattle.runs.proofs.Searching.{bracket-run, bracket-join}
+use Rattle.runs.proofs.Searching.{bracket-quarters}
 use borrow.Author.Rules.{rules}
 use Rattle.runs.proofs.lower_bound.Goals as goal
 

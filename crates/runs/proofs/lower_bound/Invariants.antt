@@ -1,10 +1,7 @@
 -- `runs::lower_bound` meets its contract. The invariant: all numbers before `at` are less than x, and all
 -- from `at + size` on are not. The measure is `size`.
 -- Assumes nothing.
-use native.Mathlib.Omega.{arith}
-use Rattle.runs.proofs.Searching.{Bracket, stride_few, bracket-quarters}
-use Rattle.runs.proofs.Searching.{bracket-run, bracket-join}
-use borrow.Author.Rules.{rules}
+use Rattle.runs.proofs.Searching.{Bracket}
 use Rattle.runs.proofs.lower_bound.Given as goal
 
 abbrev pub invariant-loop-size : goal.invariant-loop-size

@@ -1,7 +1,5 @@
 -- `settling::lengthen` meets its contract: the middle run is short, or goes into the long one. Assumes nothing.
-use mathlib.Core.Path.{refl}
-use Rattle.cut_set.proofs.Laws.{none-added}
-use Rattle.settling.proofs.Settling.{finished-none, lengthened, long-mergeable, spare-places}
+use Rattle.settling.proofs.Settling.{lengthened}
 use borrow.Author.Rules.{rules}
 use Rattle.settling.proofs.lengthen.Goals as goal
 

@@ -1,6 +1,6 @@
 -- `settling::regroup` meets its contract: the short run goes into the middle one, and the newly found run becomes the short
 -- one or follows it. Assumes nothing.
-use Rattle.settling.proofs.Settling.{middle-mergeable, found-mergeable, spare-places, settled-apart, settled-middle}
+use Rattle.settling.proofs.Settling.{found-mergeable, spare-places, settled-apart, settled-middle}
 use borrow.Author.Rules.{rules}
 use Rattle.settling.proofs.regroup.Goals as goal
 

@@ -1,7 +1,7 @@
 -- `settling::settle` meets its contract: nothing is newly found, or it goes into the short run, or the runs are
 -- regrouped.
 -- Assumes nothing.
-use Rattle.settling.proofs.Settling.{short-mergeable, settled-short, finished-none, finished-then}
+use Rattle.settling.proofs.Settling.{settled-short}
 use borrow.Author.Rules.{rules}
 use Rattle.settling.proofs.settle.Goals as goal
 

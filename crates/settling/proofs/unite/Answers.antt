@@ -1,7 +1,7 @@
 -- `settling::unite` meets its contract: the short run goes into the middle one, and that into the long one.
 -- Assumes nothing.
 use Rattle.cut_set.proofs.Laws.{none-added}
-use Rattle.settling.proofs.Settling.{middle-mergeable, last-mergeable, spare-places, joined}
+use Rattle.settling.proofs.Settling.{last-mergeable, spare-places, joined}
 use borrow.Author.Rules.{rules}
 use Rattle.settling.proofs.unite.Goals as goal
 

@@ -2,8 +2,7 @@
 -- measure is what is left of the run.
 -- Assumes nothing.
 use Prim.Native.Nat.{◌-◌}
-use Rattle.sifting.proofs.Nearing.{Nearing, near-start, near_step, near-run, near-found, near-rest}
-use borrow.Author.Rules.{rules}
+use Rattle.sifting.proofs.Nearing.{Nearing}
 use Rattle.sifting.proofs.bound_near.Given as goal
 
 abbrev pub invariant-loop-step : goal.invariant-loop-step

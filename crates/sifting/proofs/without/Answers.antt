@@ -1,13 +1,8 @@
 -- `sifting::without` meets its contract: the two empty runs, and else the invariant Sifting. The measure is what is
 -- left of the second run.
 -- Assumes nothing.
-use Prim.Native.Nat.{◌-◌}
-use native.Mathlib.Omega.{arith}
 use mathlib.Core.Path.{refl}
-use Rattle.runs.proofs.Searching.{run-from, bound-from}
-use Rattle.sifting.proofs.Sifting.{Sifting, sift-start, sift-step, sift-end, sift-run}
-use Rattle.sifting.proofs.Sifting.{sifted-by-none, sifted-none}
-use Rattle.sifting.proofs.Keeping.{counted-few}
+use Rattle.sifting.proofs.Sifting.{sift-step, sift-end}
 use borrow.Author.Rules.{rules}
 use Rattle.sifting.proofs.without.Goals as goal
 

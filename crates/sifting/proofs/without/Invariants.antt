@@ -2,13 +2,7 @@
 -- left of the second run.
 -- Assumes nothing.
 use Prim.Native.Nat.{◌-◌}
-use native.Mathlib.Omega.{arith}
-use mathlib.Core.Path.{refl}
-use Rattle.runs.proofs.Searching.{run-from, bound-from}
-use Rattle.sifting.proofs.Sifting.{Sifting, sift-start, sift-step, sift-end, sift-run}
-use Rattle.sifting.proofs.Sifting.{sifted-by-none, sifted-none}
-use Rattle.sifting.proofs.Keeping.{counted-few}
-use borrow.Author.Rules.{rules}
+use Rattle.sifting.proofs.Sifting.{Sifting}
 use Rattle.sifting.proofs.without.Given as goal
 
 abbrev pub invariant-loop-k : goal.invariant-loop-k
