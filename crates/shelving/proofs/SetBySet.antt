@@ -11,7 +11,7 @@ use mathlib.Core.Path.{◌≡◌, refl, sym, ◌∙◌}
 use mathlib.Core.Bool.{true, false, true≢false}
 use mathlib.Core.List.{List}
 use mathlib.Core.Logic.Iff
-use mathlib.Core.Logic.{◌↔◌, ⊎_elim, ◌≢◌}
+use mathlib.Core.Logic.{◌↔◌, ⊎_elim}
 use lib.ListN.{length}
 use Rattle.runs.specs.Runs.{Same}
 use Rattle.cut_set.specs.Store.{Good, Member, NothingAdded, NothingFound, Kept, Gathered, AllFinished}

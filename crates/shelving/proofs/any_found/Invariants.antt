@@ -2,8 +2,7 @@
 -- the number of sets that are left.
 -- Assumes nothing.
 use Prim.Native.Nat.{◌-◌}
-use Rattle.shelving.proofs.SetBySet.{NoneTo, none-start, none-next, none-whole, some-found}
-use borrow.Author.Rules.{rules}
+use Rattle.shelving.proofs.SetBySet.{NoneTo}
 use Rattle.shelving.proofs.any_found.Given as goal
 
 abbrev pub invariant-loop-j : goal.invariant-loop-j

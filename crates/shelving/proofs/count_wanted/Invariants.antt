@@ -2,10 +2,7 @@
 -- is the number of sets that are left.
 -- Assumes nothing.
 use Prim.Native.Nat.{◌-◌, ◌≤◌}
-use native.Mathlib.Omega.{arith}
-use mathlib.Core.Logic.{⊎_elim}
 use lib.ListN.{length}
-use borrow.Author.Rules.{rules}
 use Rattle.shelving.proofs.count_wanted.Given as goal
 
 abbrev pub invariant-loop-j : goal.invariant-loop-j

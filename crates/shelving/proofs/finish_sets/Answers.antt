@@ -1,8 +1,7 @@
 -- `shelving::finish_sets` meets its contract: the invariant is FinishedTo. The measure is the number of sets that are
 -- left.
 -- Assumes nothing.
-use Prim.Native.Nat.{◌-◌}
-use Rattle.shelving.proofs.SetBySet.{FinishedTo, finish-start, finish-next, finish-whole}
+use Rattle.shelving.proofs.SetBySet.{finish-next}
 use borrow.Author.Rules.{rules}
 use Rattle.shelving.proofs.finish_sets.Goals as goal
 

@@ -2,8 +2,7 @@
 -- left.
 -- Assumes nothing.
 use Prim.Native.Nat.{◌-◌}
-use Rattle.shelving.proofs.SetBySet.{FinishedTo, finish-start, finish-next, finish-whole}
-use borrow.Author.Rules.{rules}
+use Rattle.shelving.proofs.SetBySet.{FinishedTo}
 use Rattle.shelving.proofs.finish_sets.Given as goal
 
 abbrev pub invariant-loop-j : goal.invariant-loop-j

@@ -1,8 +1,7 @@
 -- `shelving::gather_sets` meets its contract: the invariant is GatheredTo. The measure is the number of sets that are
 -- left.
 -- Assumes nothing.
-use Prim.Native.Nat.{◌-◌}
-use Rattle.shelving.proofs.SetBySet.{GatheredTo, gather-start, gather-next, gather-whole}
+use Rattle.shelving.proofs.SetBySet.{gather-next}
 use borrow.Author.Rules.{rules}
 use Rattle.shelving.proofs.gather_sets.Goals as goal
 

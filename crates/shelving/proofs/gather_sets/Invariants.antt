@@ -2,8 +2,7 @@
 -- left.
 -- Assumes nothing.
 use Prim.Native.Nat.{◌-◌}
-use Rattle.shelving.proofs.SetBySet.{GatheredTo, gather-start, gather-next, gather-whole}
-use borrow.Author.Rules.{rules}
+use Rattle.shelving.proofs.SetBySet.{GatheredTo}
 use Rattle.shelving.proofs.gather_sets.Given as goal
 
 abbrev pub invariant-loop-j : goal.invariant-loop-j

@@ -1,10 +1,9 @@
 -- `shelving::lay_out` meets its contract: the invariant is LaidTo. The measure is the number of sets that are left.
 -- Assumes nothing.
 use Prim.Native.Nat.{◌-◌}
-use mathlib.Core.Path.{◌≡◌, refl}
+use mathlib.Core.Path.{◌≡◌}
 use lib.ListN.{length}
-use Rattle.shelving.proofs.Laying.{LaidTo, lay-start, lay-next, lay-whole}
-use borrow.Author.Rules.{rules}
+use Rattle.shelving.proofs.Laying.{LaidTo}
 use Rattle.shelving.proofs.lay_out.Given as goal
 
 abbrev pub invariant-loop-j : goal.invariant-loop-j

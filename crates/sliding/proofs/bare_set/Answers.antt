@@ -1,5 +1,5 @@
 -- `sliding::bare_set` meets its contract: a set is changed in its own part. Assumes nothing.
-use Rattle.sliding.proofs.Sliding.{set-good, bared}
+use Rattle.sliding.proofs.Sliding.{bared}
 use borrow.Author.Rules.{rules}
 use Rattle.sliding.proofs.bare_set.Goals as goal
 

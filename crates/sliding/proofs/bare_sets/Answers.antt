@@ -1,7 +1,6 @@
 -- `sliding::bare_sets` meets its contract. The invariant: the sets before `u` are gathered and have no notes. The
 -- measure is how many are left. Assumes nothing.
-use Prim.Native.Nat.{◌-◌}
-use Rattle.sliding.proofs.Sliding.{Baring, baring-start, baring-step, bared-all}
+use Rattle.sliding.proofs.Sliding.{baring-step}
 use borrow.Author.Rules.{rules}
 use Rattle.sliding.proofs.bare_sets.Goals as goal
 

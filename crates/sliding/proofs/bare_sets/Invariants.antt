@@ -1,8 +1,7 @@
 -- `sliding::bare_sets` meets its contract. The invariant: the sets before `u` are gathered and have no notes. The
 -- measure is how many are left. Assumes nothing.
 use Prim.Native.Nat.{◌-◌}
-use Rattle.sliding.proofs.Sliding.{Baring, baring-start, baring-step, bared-all}
-use borrow.Author.Rules.{rules}
+use Rattle.sliding.proofs.Sliding.{Baring}
 use Rattle.sliding.proofs.bare_sets.Given as goal
 
 abbrev pub invariant-loop-u : goal.invariant-loop-u

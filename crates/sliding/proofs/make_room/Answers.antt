@@ -1,5 +1,5 @@
 -- `sliding::make_room` meets its contract: where a place is free, the reserve is one at least. Assumes nothing.
-use Rattle.sliding.proofs.Sliding.{packed-spreadable, room-none, room-made}
+use Rattle.sliding.proofs.Sliding.{room-none, room-made}
 use borrow.Author.Rules.{rules}
 use Rattle.sliding.proofs.make_room.Goals as goal
 

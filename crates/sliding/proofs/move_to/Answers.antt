@@ -1,5 +1,5 @@
 -- `sliding::move_to` meets its contract: the set's new places are those of no other set. Assumes nothing.
-use Rattle.sliding.proofs.Sliding.{movable, moved_to}
+use Rattle.sliding.proofs.Sliding.{moved_to}
 use borrow.Author.Rules.{rules}
 use Rattle.sliding.proofs.move_to.Goals as goal
 

@@ -1,10 +1,7 @@
 -- `sliding::pack` meets its contract. The invariant: the sets before `u` stand at the front and end at `at`. The
 -- measure is how many are left. Assumes nothing.
 use Prim.Native.Nat.{◌-◌}
-use native.Mathlib.Omega.{arith}
-use Rattle.sliding.proofs.Sliding.{slid-slidable, Packing, packing-start, packing-order, packing-between}
-use Rattle.sliding.proofs.Sliding.{packing-step, packed}
-use borrow.Author.Rules.{rules}
+use Rattle.sliding.proofs.Sliding.{Packing}
 use Rattle.sliding.proofs.pack.Given as goal
 
 abbrev pub invariant-loop-u : goal.invariant-loop-u

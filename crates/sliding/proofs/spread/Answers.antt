@@ -1,9 +1,7 @@
 -- `sliding::spread` meets its contract. The invariant: the sets from `u` on are spread behind `end`, and the reserve is
 -- the set's number `j`, or left before `end`. The measure is `u`. Assumes nothing.
 use Prim.Native.Nat.{◌-◌}
-use native.Mathlib.Omega.{arith}
-use Rattle.sliding.proofs.Sliding.{slid-slidable, Spreading, spreading-start, spreading-order, spreading-free}
-use Rattle.sliding.proofs.Sliding.{spreading-between, spreading-step, spread-out}
+use Rattle.sliding.proofs.Sliding.{spreading-step}
 use borrow.Author.Rules.{rules}
 use Rattle.sliding.proofs.spread.Goals as goal
 

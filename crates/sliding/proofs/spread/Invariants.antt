@@ -1,10 +1,6 @@
 -- `sliding::spread` meets its contract. The invariant: the sets from `u` on are spread behind `end`, and the reserve is
 -- the set's number `j`, or left before `end`. The measure is `u`. Assumes nothing.
-use Prim.Native.Nat.{◌-◌}
-use native.Mathlib.Omega.{arith}
-use Rattle.sliding.proofs.Sliding.{slid-slidable, Spreading, spreading-start, spreading-order, spreading-free}
-use Rattle.sliding.proofs.Sliding.{spreading-between, spreading-step, spread-out}
-use borrow.Author.Rules.{rules}
+use Rattle.sliding.proofs.Sliding.{Spreading}
 use Rattle.sliding.proofs.spread.Given as goal
 
 abbrev pub invariant-loop-u : goal.invariant-loop-u
