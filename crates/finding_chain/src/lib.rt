@@ -1,5 +1,6 @@
 // The backbone of a table that refining made, worked out in the lent buffers.
 #![tactic(auto)]
+
 ghost use Rattle.std.specs.Prelude.{◌≡◌, ◌*◌, ◌^◌, ◌≤◌, ◌<◌, length};
 ghost use Rattle.rows.specs.Rows.{rows_of};
 ghost use Rattle.refining.specs.Refining.{zeroed};
