@@ -46,7 +46,24 @@ def clauses(crates):
                 for kind, name in re.findall(r"^\s*(requires|ensures)\*? ?(\w*) ?\{", m[2], re.M):
                     kinds[kind].append(name)
                 found["::".join([crate, *parts, m[1]])] = kinds
+                MUTS["::".join([crate, *parts, m[1]])] = re.findall(r"(\w+): &mut", m[0].split("{")[0])
     return found
+
+
+MUTS = {}
+
+
+def numbered(names, rest):
+    """The numbered facts of a call's `&mut` arguments by their names."""
+    if len(names) == 1:
+        return [names[0], *rest[1:]] if rest[:1] == ["0"] else rest
+    i, k = 0, 0
+    while i < len(rest) and rest[i] in ("0", "1") and k < len(names):
+        if rest[i] == "0":
+            return [names[k], *rest[i + 1 :]]
+        k += 1
+        i += 1
+    return rest
 
 
 class Function:
@@ -76,20 +93,6 @@ class Function:
             place = self.parent(place)
         return None
 
-    def arm(self, place, segs):
-        """The field of an arm that an old path is today, or None."""
-        while place is not None and place in self.at:
-            it = self.n["arms"][self.at[place]]
-            if it:
-                for new, head, old in it[2]:
-                    if norm(head) == norm(segs[0]) and old and segs[1 : 1 + len(old)] == old:
-                        rest = [SAID.get(s, s) for s in segs[1 + len(old) :]]
-                        if new.endswith("-ensures"):
-                            new = "ensures"
-                        return ".".join(["c", it[0], new, *rest])
-            place = self.parent(place)
-        return None
-
     def by_clause(self, callee, kind, rest):
         """The numbered clauses of a contract by their names: .1.0 of three is the second."""
         names = self.kinds.get(callee, {}).get(kind, [])
@@ -112,10 +115,7 @@ class Function:
             segs.pop(0)
         if not segs:
             return "c"
-        arm = self.arm(place, segs)
-        if arm:
-            return arm
-        head = SAID.get(segs[0], segs[0])
+        head = segs[0] if self.step(place, segs[0]) is not None else SAID.get(segs[0], segs[0])
         callee = None
         if head in OWN:
             if head == "requires":
@@ -130,7 +130,19 @@ class Function:
             it = self.places[self.at[found]]
             head = it[2][1]
             callee = it[3]
-        rest = [SAID.get(s, s) for s in segs[1:]]
+        if found is not None:
+            # what a step of an arm knows stands in the arm
+            arm = (self.n["arms"] or [None] * len(self.places))[self.at[found]]
+            fits = [e for e in (arm or [0, 0, []])[2] if norm(e[1]) == norm(segs[0]) and not e[0].endswith("-own") and segs[1 : 1 + len(e[2])] == e[2]]
+            if fits:
+                best = max(fits, key=lambda e: len(e[2]))
+                return ".".join(["c", arm[0], best[0], *segs[1 + len(best[2]) :]])
+        test = head.startswith(("if", "in_", "in-")) or "test" in head
+        rest = [s if s in ("left", "taken") and not test else SAID.get(s, s) for s in segs[1:]]
+        if callee and rest[:1] == ["kept"]:
+            rest[0] = "auto"
+        if callee and rest[:1] == ["auto"]:
+            rest = ["auto", *numbered(MUTS.get(callee, []), rest[1:])]
         if callee and rest[:1] and rest[0] in ("ensures", "requires"):
             rest = [rest[0], *self.by_clause(callee, rest[0], rest[1:])]
         if callee and rest[:1] == ["new"] and len(rest) > 1:
@@ -164,6 +176,12 @@ class Function:
                 break
             if not again:
                 break
+        aliases = {}
+        for name, var, seg in re.findall(r"let (%s) = (%s)\.(%s) in" % (W, W, W), text):
+            if var in places and name not in places and seg not in OWN and seg != "before":
+                found = self.step(places[var], seg)
+                if found is not None:
+                    aliases[name] = found
         args = {}
         for name, var in re.findall(r"let (%s) = (%s)\.args in" % (W, W), text):
             if var in places:
@@ -176,7 +194,10 @@ class Function:
                 if len(given) < len(params):
                     return m[0]
                 inner = {p: place for p, (place) in params}
-                return "(" + self.term(body, inner) + ")" + (" " + " ".join(given[len(params) :]) if len(given) > len(params) else "")
+                inside = self.term(body, inner)
+                if not re.match(r"(ℕ|Bool|List|Type)\b", ty) and re.search(r"\b(omega|search|rw|simp|cc|record|absurd|elim)\b", inside):
+                    inside = f"let it : {self.term(ty, inner)} = {inside} in it"
+                return "(" + inside + ")" + (" " + " ".join(given[len(params) :]) if len(given) > len(params) else "")
 
             text = pattern.sub(inline, text)
 
@@ -184,11 +205,15 @@ class Function:
             var, segs = m[1], m[2].split(".")[1:]
             if var in places:
                 return self.path(places[var], segs)
+            if var in aliases:
+                return self.path(aliases[var], [self.places[self.at[aliases[var]]][2][0], *segs])
             if var in args:
                 return ".".join([var, segs[0].replace("-", "_"), *segs[1:]])
             return m[0]
 
         text = re.sub(r"(?<![^\s(,;{\[])(%s)((?:\.(?:«[^»]*»|%s))+)" % (W, W), turn, text)
+        # the arm's own clause, where an equation was carried to the call's
+        text = re.sub(r"rw c\.(in[-_][^\s.]+)\.is at c\.(?!loop)[^\s.()]+\.ensures(?=[\s)])", r"c.\1.ensures", text + " ").rstrip()
         return text
 
 
@@ -261,7 +286,7 @@ def convert(crate, folder, names, kinds):
                 invariants.append("\n".join(comment + [f"abbrev pub {m[2]}-{m[3].replace('-', '_')} : goal.{m[2]}-{m[3].replace('-', '_')}", f"{m[2]}-{m[3].replace('-', '_')} l = {body}"]))
                 left.append(f"{m[1]}: the measure of a recursion")
             continue
-        m = re.match(r"(?:abbrev )?(?:pub )?(\S+) : (.*?)\n\1((?: [^\s=]+)*?) =\s*(.*)" , decl, re.S)
+        m = re.match(r"(?:abbrev )?(?:pub )?(\S+) : (.*?)\n\1((?: (?!=)\S+)*) =\s*(.*)", decl, re.S)
         if not m:
             left.append("not read: " + decl.split("\n")[0])
             continue
@@ -282,6 +307,10 @@ def convert(crate, folder, names, kinds):
                 close = [k for k in f.needs if k.replace("-", "") == old.replace("-", "")]
                 old = close[0] if close else old
             if old not in f.needs:
+                # the scripts gave it today's name
+                close = [k for k, v in f.needs.items() if norm(v[0]) == old]
+                old = close[0] if close else old
+            if old not in f.needs:
                 left.append(f"no goal is called {need[1]}: {body[:70]}")
                 continue
             goal, place = f.needs[old]
@@ -290,10 +319,13 @@ def convert(crate, folder, names, kinds):
             out = f.term(body, {var: place})
             if re.fullmatch(r"search(?: rules)?", out.strip()):
                 continue
+            out = re.sub(r"c\.([\w-]+)-\d+\.given\.1", lambda m: "c." + ((re.findall(r"in-[A-Z]\w*|in_default", m[1]) or re.findall(r"in-[A-Z]\w*|in_default", goal) or ["ARM"])[-1]) + ".is", out)
             asked = f.n["asked"].get(goal) or f.n["asked"].get(name)
             lets, rest = peel(out.strip())
             if asked and len(asked) > 1 and whole_parens(rest):
                 parts = split(rest[1:-1].strip().rstrip(","))
+                while len(parts) < len(asked) and whole_parens(parts[-1].strip()):
+                    parts = parts[:-1] + split(parts[-1].strip()[1:-1].strip().rstrip(","))
                 if len(parts) > len(asked):
                     parts = parts[: len(asked) - 1] + ["(" + ",".join(parts[len(asked) - 1 :]) + ")"]
                 if len(parts) == len(asked):
