@@ -3,6 +3,7 @@
 // drawn from all rows, so that no rows can be made for them. Should rows be dealt badly all the same, a count gives up
 // after so many probes; a long table is tried once more with other factors, and at last the pieces are sorted.
 #![tactic(auto)]
+
 ghost use Rattle.std.specs.Prelude.{◌≡◌, ◌^◌, ◌<◌, length};
 ghost use Rattle.rows.specs.Rows.{rows_of};
 ghost use Rattle.table.specs.Distinct.{first_of_each};
