@@ -1,6 +1,7 @@
 // Carrying a few newly found cuts of one side over the matches to the other, cut by cut: the index of the matches tells
 // which of them may span a cut.
 #![tactic(auto)]
+
 ghost use Rattle.std.specs.Prelude.{[], ◌∷◌, ◌≡◌, ◌≤◌, ◌<◌, length};
 ghost use Rattle.cut_set.specs.Store.{Good, FoundRun, found_in};
 ghost use Rattle.refining.specs.Columns.{columns_of, Fit};
