@@ -3,6 +3,7 @@
 // arrays, stretches that touch become one; where that does not make room enough, the window of letters that they are
 // kept for is cut short.
 #![tactic(auto)]
+
 ghost use Rattle.std.specs.Prelude.{◌≤◌, ◌<◌, min, max, ◌≡◌, length};
 ghost use Rattle.stretches.specs.Stores.{Paired, Nested, Rooms, Stored, Held, United, Roomier, Added, Summed};
 
@@ -87,8 +88,7 @@ fn make_room(lows: &mut [u64], highs: &mut [u64], spare: &mut [u64], from: u64, 
 fn add(lows: &mut [u64], highs: &mut [u64], store: Store, from: u64, stretch: Stretch) -> Store
     requires held { Held from lows.old highs.old store }
     requires used_in_bounds { store.used < length lows.old }
-    ensures { Added from stretch lows.old highs.old store lows.new
-        highs.new result }
+    ensures { Added from stretch lows.old highs.old store lows.new highs.new result }
 {
     let used = store.used;
     let low = greater(stretch.low, from);
@@ -115,8 +115,7 @@ pub fn put(
 ) -> Store
     requires rooms { Rooms lows.old highs.old spare.old }
     requires held { Held from lows.old highs.old store }
-    ensures { Added from stretch lows.old highs.old store lows.new
-        highs.new result }
+    ensures { Added from stretch lows.old highs.old store lows.new highs.new result }
 {
     if store.used < lows.len() {
         return add(lows, highs, store, from, stretch);
