@@ -1,5 +1,6 @@
 // The first cuts of the closure: the ends of the matches on A, and the marks that a match spans.
 #![tactic(auto)]
+
 ghost use Rattle.std.specs.Prelude.{◌≡◌, ◌+◌, ◌*◌, ◌≤◌, ◌<◌, length, get_or};
 ghost use Rattle.runs.specs.Runs.{Answers};
 ghost use Rattle.cut_set.specs.Store.{Good};

@@ -1,9 +1,7 @@
 -- `any_spans` meets its contract. The loop keeps that the matches before k do not span x. Assumes nothing.
 use Prim.Native.Nat.{◌-◌}
 use lib.ListN as List
-use borrow.Author.Rules.{rules}
 use Rattle.near_matches.specs.Near.{Passable}
-use Rattle.seeding.proofs.Planting.{look-step, look-found, look_none}
 use Rattle.seeding.proofs.any_spans.Given as goal
 
 abbrev pub invariant-loop-k : goal.invariant-loop-k

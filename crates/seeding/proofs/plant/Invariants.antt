@@ -1,10 +1,7 @@
 -- `plant` meets its contract. The loop keeps `Planting`: the marks before q are planted. Assumes nothing.
 use Prim.Native.Nat.{◌-◌}
 use lib.ListN as List
-use native.Mathlib.Omega.{arith}
-use borrow.Author.Rules.{rules}
-use borrow.Author.Tests.{not-true, not-false}
-use Rattle.seeding.proofs.Planting.{Planting, planting-start, planting-step, planting-full, planting-end}
+use Rattle.seeding.proofs.Planting.{Planting}
 use Rattle.seeding.proofs.plant.Given as goal
 
 abbrev pub invariant-loop-q : goal.invariant-loop-q

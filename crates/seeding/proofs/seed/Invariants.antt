@@ -1,9 +1,7 @@
 -- `seed` meets its contract. The loop keeps `Sown`: the ends of the first k matches are added. Assumes nothing.
 use Prim.Native.Nat.{◌-◌}
-use mathlib.Core.Path.{◌∙◌}
 use lib.ListN as List
-use borrow.Author.Rules.{rules}
-use Rattle.seeding.proofs.Seeds.{Sown, sown-start, sown-step, sown-full, sown-end}
+use Rattle.seeding.proofs.Seeds.{Sown}
 use Rattle.seeding.proofs.seed.Given as goal
 
 abbrev pub invariant-loop-k : goal.invariant-loop-k

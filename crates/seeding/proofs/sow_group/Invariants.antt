@@ -1,10 +1,8 @@
 -- `sow_group` meets its contract. The invariant: Going, only ends have come, to the set number `j`. The measure: where
 -- the set had room, more places are gathered when it is full; where it had none, it has room now. Assumes nothing.
 use lib.ListN as List
-use Rattle.shelf.proofs.Filling.{Going, left, going_start, going_less, going_step, gone, gone-jammed}
+use Rattle.shelf.proofs.Filling.{Going, left}
 use Rattle.seeding.specs.Seeds.{EndOf}
-use borrow.Author.Rules.{rules}
-use borrow.Author.Tests.{not-true, not-false}
 use Rattle.seeding.proofs.sow_group.Given as goal
 
 abbrev pub invariant-loop-sets : goal.invariant-loop-sets

@@ -1,10 +1,7 @@
 -- `sow_groups` meets its contract. The loop keeps `Sowing`: the ends of the matches of the groups before g are added.
 -- Assumes nothing.
 use Prim.Native.Nat.{◌-◌}
-use borrow.Author.Rules.{rules}
-use borrow.Author.Tests.{not-true, not-false}
-use Rattle.seeding.proofs.OneGroup.{Span, group-room, group-span, group-part, group-named}
-use Rattle.seeding.proofs.Sowing.{Sowing, sowing-start, sowing-step, sowing-full, sowing-end}
+use Rattle.seeding.proofs.Sowing.{Sowing}
 use Rattle.seeding.proofs.sow_groups.Given as goal
 
 abbrev pub invariant-loop-g : goal.invariant-loop-g

@@ -1,7 +1,5 @@
 -- `spanned` meets its contract. The loop keeps `Looking`: no match of the groups before g spans x. Assumes nothing.
-use Prim.Native.Nat.{◌-◌}
-use borrow.Author.Rules.{rules}
-use Rattle.seeding.proofs.Planting.{Looking, looking-start, looking-step, looking-found, looking-end}
+use Rattle.seeding.proofs.Planting.{looking-step, looking-found}
 use Rattle.seeding.proofs.spanned.Goals as goal
 
 pub returns-then-group_spans : goal.returns-then-group_spans

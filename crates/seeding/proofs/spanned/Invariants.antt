@@ -1,7 +1,6 @@
 -- `spanned` meets its contract. The loop keeps `Looking`: no match of the groups before g spans x. Assumes nothing.
 use Prim.Native.Nat.{◌-◌}
-use borrow.Author.Rules.{rules}
-use Rattle.seeding.proofs.Planting.{Looking, looking-start, looking-step, looking-found, looking-end}
+use Rattle.seeding.proofs.Planting.{Looking}
 use Rattle.seeding.proofs.spanned.Given as goal
 
 abbrev pub invariant-loop-g : goal.invariant-loop-g

@@ -1,8 +1,6 @@
 -- `want` meets its contract. The loop keeps `Flagging`: the flags of the groups before g are set. Assumes nothing.
 use Prim.Native.Nat.{◌-◌}
-use borrow.Author.Rules.{rules}
-use Rattle.seeding.proofs.Wanting.{Flagging, naming-room, flagging-within}
-use Rattle.seeding.proofs.Wanting.{flagging-start, flagging-step, flagging-end}
+use Rattle.seeding.proofs.Wanting.{Flagging}
 use Rattle.seeding.proofs.want.Given as goal
 
 abbrev pub invariant-loop-g : goal.invariant-loop-g
