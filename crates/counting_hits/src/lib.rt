@@ -1,5 +1,6 @@
 // Counting hits, the pairs of a newly found cut and a match that spans it, before any is carried.
 #![tactic(auto)]
+
 ghost use Rattle.std.specs.Prelude.{◌≡◌, true, ◌<◌, ◌≤◌, length};
 ghost use Rattle.cut_set.specs.Store.{Good, FoundRun, found_in};
 ghost use Rattle.carrying_match.specs.OneMatch.{hits_on};
