@@ -163,16 +163,37 @@ pub record Tabled (script table work : List ℕ) (n : ℕ) (table' work' : List 
   pub rows : table' ≡ written (least_of given) table
   pub clear : work' ≡ zeroed work
 
-made-tabled : {script table work : List ℕ} {reply : Refined} {n : ℕ} {table' work' : List ℕ}
-    → Made script table work reply table' work' → reply ≡ Refined.Rows n → Tabled script table work n table' work'
-made-tabled (unread e) is = let z : ◌≡◌ {A = ℕ} 0 1 = cc in absurd (omega arith)
-made-tabled (matched a (short h)) is = let z : ◌≡◌ {A = ℕ} 0 1 = cc in absurd (omega arith)
-made-tabled (matched a (crowded enough exceeds)) is = let z : ◌≡◌ {A = ℕ} 0 1 = cc in absurd (omega arith)
-made-tabled {n = n} (matched {g} a (writing enough room)) is =
+matched-tabled : {script table work : List ℕ} {g : Given} {reply : Refined} {n : ℕ} {table' work' : List ℕ}
+    → Admitted script g → MatchesCase g table work reply table' work' → reply ≡ Refined.Rows n
+    → Tabled script table work n table' work'
+matched-tabled a (short h) is = let z : ◌≡◌ {A = ℕ} 0 1 = cc in absurd (omega arith)
+matched-tabled a (crowded enough exceeds) is = let z : ◌≡◌ {A = ℕ} 0 1 = cc in absurd (omega arith)
+matched-tabled {g = g} {n = n} a (writing enough room) is =
     let count : n ≡ length (least_of g) = cc in
     record { given = g; admits = a; enough = enough; room = room; count = count; rows = refl; clear = refl }
 
+made-tabled : {script table work : List ℕ} {reply : Refined} {n : ℕ} {table' work' : List ℕ}
+    → Made script table work reply table' work' → reply ≡ Refined.Rows n → Tabled script table work n table' work'
+made-tabled (unread e) is = let z : ◌≡◌ {A = ℕ} 0 1 = cc in absurd (omega arith)
+made-tabled (matched a m) is = matched-tabled a m is
+
 module _ (script : List ℕ) (price : ℕ) (table work chain scores : List ℕ) (lent : Lent price table chain scores) where
+  matched-refused :
+      {g : Given} {reply : Refined} {table' work' : List ℕ} {r : Refusal} → Admitted script g
+      → MatchesCase g table work reply table' work' → reply ≡ Refined.Refused r
+      → Chains script price table work chain scores (Refused r) table' work' chain (scores_after r scores)
+  matched-refused {g = g} {r = r} a (short h) is =
+      let same : r ≡ WorkTooShort = cc in
+      rw same
+      (chaining-admitted script price table work chain scores a ∙ call-short g price table work chain scores h)
+  matched-refused {g = g} {r = r} a (crowded enough exceeds) is =
+      let same : r ≡ TooManyPieces = cc in
+      let many = exceeds-many (admitted-matches a) exceeds in
+      rw same
+      (chaining-admitted script price table work chain scores a
+      ∙ call-crowded g price table work chain scores enough lent many)
+  matched-refused a (writing enough room) is = let z : ◌≡◌ {A = ℕ} 0 1 = cc in absurd (omega arith)
+
   made-refused :
       {reply : Refined} {table' work' : List ℕ} {r : Refusal} → Made script table work reply table' work'
       → reply ≡ Refined.Refused r
@@ -181,17 +202,7 @@ module _ (script : List ℕ) (price : ℕ) (table work chain scores : List ℕ) 
       let same : r ≡ f = cc in
       let other = ne_eqb (number_of f) 12 (script-twelve (read-outcome e)) in
       rw (same, other) (chaining-refused script price table work chain scores e)
-  made-refused {r = r} (matched {g} a (short h)) is =
-      let same : r ≡ WorkTooShort = cc in
-      rw same
-      (chaining-admitted script price table work chain scores a ∙ call-short g price table work chain scores h)
-  made-refused {r = r} (matched {g} a (crowded enough exceeds)) is =
-      let same : r ≡ TooManyPieces = cc in
-      let many = exceeds-many (admitted-matches a) exceeds in
-      rw same
-      (chaining-admitted script price table work chain scores a
-      ∙ call-crowded g price table work chain scores enough lent many)
-  made-refused (matched a (writing enough room)) is = let z : ◌≡◌ {A = ℕ} 0 1 = cc in absurd (omega arith)
+  made-refused (matched a m) is = matched-refused a m is
 
   module _ {n : ℕ} {table' work' : List ℕ} (t : Tabled script table work n table' work') where
     -- the rows in the table's start are those of the least table

@@ -1,5 +1,6 @@
 // The chaining call: the backbone of a cross, which stands above the refining call.
 #![tactic(auto)]
+
 ghost use Rattle.std.specs.Prelude.{◌≡◌};
 ghost use Rattle.backbone.specs.Chaining.{chaining_of};
 ghost use Rattle.backbone.specs.Demands.{Lent, chained_answer, ChainingDemand};
