@@ -1,0 +1,15 @@
+-- `put_refined` meets its contract: the heading, and the answer behind it. Assumes nothing.
+use native.Mathlib.Omega.{arith}
+use Rattle.text.proofs.Stores.{put_then}
+use Rattle.edge_answers.specs.Lines.{refined_text}
+use Rattle.edge_answers.proofs.Putting.{put-answered}
+use borrow.Author.Rules.{rules}
+use Rattle.edge_answers.proofs.put_refined.Goals as goal
+
+pub returns-in-Rows-clause-put : goal.returns-in-Rows-clause-put
+returns-in-Rows-clause-put c =
+    search (rules, put-answered refined_text, put_then)
+
+pub returns-in-Refused-clause-put : goal.returns-in-Refused-clause-put
+returns-in-Refused-clause-put c =
+    search (rules, put-answered refined_text)
