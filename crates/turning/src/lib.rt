@@ -1,5 +1,6 @@
 // The newly found cuts of one set are carried over matches to another set, cut by cut or match by match.
 #![tactic(auto)]
+
 ghost use Rattle.std.specs.Prelude.{◌≡◌, true, ◌≤◌, length};
 ghost use Rattle.cut_set.specs.Store.{Good, NothingAdded, FoundRun, found_in};
 ghost use Rattle.refining.specs.Columns.{columns_of, Fit};
