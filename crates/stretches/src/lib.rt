@@ -10,14 +10,14 @@ ghost use Rattle.stretches.specs.Stores.{Paired, Nested, Rooms, Stored, Held, Un
 use sorted_numbers::sort;
 
 // From `low` up to, not including, `high`.
-#[derive(Drop)]
+#[derive(Clone, Copy)]
 pub struct Stretch {
     pub low: u64,
     pub high: u64,
 }
 
 // How many stretches are gathered, and where the window of letters ends that they are gathered for.
-#[derive(Drop)]
+#[derive(Clone, Copy)]
 pub struct Store {
     pub used: usize,
     pub to: u64,
