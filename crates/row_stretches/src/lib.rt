@@ -2,6 +2,7 @@
 // row's stretch with the next ones while they touch, and stores what is joined. Where there is not room for all, the
 // store has cut the window short.
 #![tactic(auto)]
+
 ghost use Rattle.std.specs.Prelude.{◌≤◌, ◌<◌, ◌≡◌, ◌&&◌, length, leb};
 ghost use Rattle.rows.specs.Rows.{rows_of, row_at};
 ghost use Rattle.stretches.specs.Stores.{Rooms};
@@ -12,7 +13,7 @@ use rows::{row_at, row_count};
 use stretches::{Store, Stretch, greater, lesser, put};
 
 // A pass over the rows: the store, and the run of touching stretches that is not stored yet.
-#[derive(Drop)]
+#[derive(Clone, Copy)]
 pub struct Pass {
     pub used: usize,
     pub to: u64,
@@ -52,8 +53,7 @@ fn take_in(
     requires rooms { Rooms lows.old highs.old spare.old }
     requires running { Running from lows.old highs.old pass }
     requires low_le_high { next.low ≤ next.high }
-    ensures { TakenIn from next lows.old highs.old pass lows.new
-        highs.new result }
+    ensures { TakenIn from next lows.old highs.old pass lows.new highs.new result }
 {
     if next.high <= from {
         return pass;
