@@ -3,6 +3,7 @@
 // `requires` says: it has to start with cut_set_empty, change neither slice but by these calls, call cut_set_gather
 // between an addition and the calls that say so, and start anew once an addition found no room.
 #![tactic(auto)]
+
 ghost use Rattle.std.specs.Prelude.{◌≡◌, ◌≤◌, length};
 ghost use Rattle.runs.specs.Runs.{Answers, Bound};
 ghost use Rattle.cut_set.specs.Store.{Part, FoundRun, NothingAdded, Member, Emptied, Gathered, AllFinished, Joined};
