@@ -1,6 +1,7 @@
 // Carrying the newly found cuts of one set over matches that join the same two tracks, into a set of a shelf. Where that
 // is full, sets slide, and it is carried once more: what is there already is a member again.
 #![tactic(auto)]
+
 ghost use Rattle.std.specs.Prelude.{◌≡◌, true, ◌≤◌, ◌<◌};
 ghost use Rattle.refining.specs.Columns.{columns_of, Fit};
 ghost use Rattle.carrying_cuts.specs.Worker.{EndsKnown};

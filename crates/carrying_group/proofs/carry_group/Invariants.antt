@@ -1,16 +1,11 @@
 -- `carry_group` meets its contract. The invariant, Going: only images have come, to the set number `j`. The measure,
 -- left: where the set had room, more members are gathered when it is full; where it had none, it has room afterwards.
 -- Assumes nothing.
-use mathlib.Core.Path.{sym, ◌∙◌}
-use mathlib.Core.Logic.{inl, inr}
 use lib.ListN as List
 use Rattle.cut_set.specs.Store.{Found}
 use Rattle.refining.specs.Columns.{columns_of}
 use Rattle.carrying_cuts.specs.Worker.{Images}
-use Rattle.shelf.proofs.Filling.{Going, left, going_start, going_less, going_step, gone-jammed}
-use Rattle.carrying_group.proofs.Going.{going-clear, going-ends, going-crammed, carried-all, gone-excess}
-use borrow.Author.Rules.{rules}
-use borrow.Author.Tests.{not-true, not-false}
+use Rattle.shelf.proofs.Filling.{Going, left}
 use Rattle.carrying_group.proofs.carry_group.Given as goal
 
 abbrev pub invariant-loop-count : goal.invariant-loop-count
