@@ -3,6 +3,7 @@
 // the rows chooses the windows of a long table. One that refining made has at most 2,048 stretches to gather, one for
 // each match, and takes one pass.
 #![tactic(auto)]
+
 ghost use Rattle.std.specs.Prelude.{◌+◌, ◌≤◌, ◌<◌, ◌≡◌, length};
 ghost use Rattle.rows.specs.Rows.{rows_of};
 ghost use Rattle.table.specs.Covering.{cover_of};
