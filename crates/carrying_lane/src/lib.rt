@@ -1,6 +1,7 @@
 // Taking the newly found cuts of all sets of one side to the sets of the other, group by group: over the matches, which
 // carry them, or along them, as they are.
 #![tactic(auto)]
+
 ghost use Rattle.std.specs.Prelude.{◌≡◌, true, suc, ◌+◌, ◌*◌, ◌≤◌, ◌<◌, length};
 ghost use Rattle.refining.specs.Columns.{columns_of, Fit};
 ghost use Rattle.carrying_cuts.specs.Worker.{EndsKnown};
