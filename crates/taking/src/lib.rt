@@ -1,6 +1,7 @@
 // One step, told without A and B: the newly found cuts of the sets of one side are taken to the sets of the other, over
 // the matches, which carry them, and along those whose track there is the cut's, as they are. Then they are finished.
 #![tactic(auto)]
+
 ghost use Rattle.std.specs.Prelude.{◌≡◌, true, false, ◌≤◌, length, replicate};
 ghost use Rattle.refining.specs.Columns.{columns_of, Fit};
 ghost use Rattle.tracks.specs.Groups.{lane_by};
