@@ -3,6 +3,7 @@
 --                        what the closure's answer tells: a good set of cuts, or that no table has room
 --     cuts-writable      a set that holds all cuts of A, joined into one run, is what writing the rows needs
 --     rows-tabled        the rows written are the least table
+--     short_refined      the work buffer is too short, which is the call's outcome
 --     cleared-refined    the rows written and the work buffer cleared are the call's outcome
 --     worked_fit, worked-refined
 --                        the matches as they are read fit once their right ends are worked out, and it is they that are
@@ -16,7 +17,7 @@ use mathlib.Core.List.{List}
 use native.Mathlib.Omega.{arith}
 use lib.ListN.{length, replicate}
 use lib.Seq.{slice, sets}
-use Rattle.script.specs.declared.refusal.Refusal.TheVariants.{TooManyPieces}
+use Rattle.script.specs.declared.refusal.Refusal.TheVariants.{TooManyPieces, WorkTooShort}
 use Rattle.refinement.specs.declared.Side.{Side}
 use Rattle.refinement.specs.Order.{◌∈◌}
 use Rattle.refinement.specs.Match.{Match, Place}
@@ -40,7 +41,7 @@ use Rattle.refining.specs.declared.answers.Refined.{Refined}
 use Rattle.closing_two.proofs.TwoTracks.{∈-matches, matches-good}
 use Rattle.carrying_match.proofs.RunLists.{slice_in, in-slice, slice-rising}
 use Rattle.refining_matches.proofs.RowsLeast.{rows-least}
-use Rattle.refining.proofs.RefiningCases.{exceeds-many, written-sets, matches-crowded, matches-written}
+use Rattle.refining.proofs.RefiningCases.{exceeds-many, written-sets, matches-short, matches-crowded, matches-written}
 
 -- what the closure's answer tells
 told_cuts :
@@ -111,6 +112,12 @@ tabled-refined g M table table' work (Refined.Rows n) room t =
     rw (t.0, t.2 ∙ written-sets (least_of g) table t.1) (sym (matches-written g table work room t.1))
 tabled-refined g M table table' work (Refined.Refused f) room t =
     rw (t.0, t.2) (sym (matches-crowded g table work room (exceeds-many M t.1)))
+
+-- the work buffer is too short
+pub short_refined :
+    (g : Given) (table work : List ℕ) → length work < work_needed table
+    → MatchesRefined g table work (Refined.Refused WorkTooShort) table work
+short_refined g table work short = sym (matches-short g table work short)
 
 pub cleared-refined :
     {columns : Columns} → Fit columns → (marks : List Place) (table table' work work' : List ℕ)

@@ -67,6 +67,7 @@ fn cut_and_write(
 }
 
 // The matches of an admitted script, given by their ends, and its marks: 11, then 12, then the rows.
+#[tactic(auto, using(crate::proofs::Tabling::short_refined))]
 fn refine_matches(
     left_a: &[u32],
     right_a: &[u32],

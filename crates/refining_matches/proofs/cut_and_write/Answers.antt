@@ -1,0 +1,14 @@
+-- `cut_and_write` meets its contract: the closure's set holds all cuts of A, and the rows between them are the least
+-- table. Assumes nothing.
+use Rattle.refining_matches.proofs.Tabling.{cuts-writable, rows-tabled}
+use Rattle.refining_matches.proofs.cut_and_write.Goals as goal
+
+pub write_rows-requires-clause-writable : goal.write_rows-requires-clause-writable
+write_rows-requires-clause-writable c =
+    cuts-writable c.requires.fit _ c.args.table.now c.in-CutsOfA.is c.join-cuts.ensures c.all_places-run.ensures
+    c.close_two.ensures c.requires.reversed_len_bound
+
+pub returns-in-CutsOfA : goal.returns-in-CutsOfA
+returns-in-CutsOfA c =
+    rows-tabled c.requires.fit _ c.args.table.now c.in-CutsOfA.is c.join-cuts.ensures c.all_places-run.ensures
+    c.close_two.ensures c.write_rows.ensures
