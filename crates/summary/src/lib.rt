@@ -1,5 +1,6 @@
 // The summary of a table: pieces, distinct pieces, the letters covered on A and on B, and classes.
 #![tactic(auto)]
+
 ghost use Rattle.std.specs.Prelude.{◌≡◌, [], ◌∷◌, ℕ, ◌<◌, eqb};
 ghost use Rattle.refinement.specs.declared.Side.{Side};
 ghost use Rattle.rows.specs.Rows.{rows_of};
