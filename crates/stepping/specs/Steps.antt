@@ -4,7 +4,7 @@
 --     OpenWith, Opened    what holds between two steps, with these marks and with some
 --     AllCuts, Going, Goes     all is carried; what an answer of the two steps means, and what a step does
 -- Assumes nothing.
-use Rattle.std.specs.Prelude.{ℕ, ◌-◌, ◌≤◌, ◌<◌, ◌≡◌, Bool, false, ◌↔◌, List, length, replicate}
+use Rattle.std.specs.Prelude.{ℕ, ◌≤◌, ◌<◌, ◌≡◌, Bool, false, ◌↔◌, List, length, replicate}
 use Rattle.refinement.specs.declared.Side.{Side}
 use Rattle.refinement.specs.declared.Side.TheVariants.{A, B}
 use Rattle.refinement.specs.Match.{Place, on_side}

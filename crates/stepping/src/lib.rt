@@ -1,6 +1,7 @@
 // The A step and the B step, which call each other on the newly found cuts. Sides have sets of their own, one for each
 // track, so that a match of a track with itself carries from one set to another.
 #![tactic(auto)]
+
 ghost use Rattle.refinement.specs.declared.Side.{Side};
 ghost use Rattle.refining.specs.Columns.{columns_of};
 ghost use Rattle.stepping.specs.Steps.{Given, Opened, Goes};
