@@ -1,5 +1,6 @@
 // The closure: steps follow each other until neither side gains a cut.
 #![tactic(auto)]
+
 ghost use Rattle.std.specs.Prelude.{List};
 ghost use Rattle.refinement.specs.Match.{Place};
 ghost use Rattle.refining.specs.Columns.{columns_of};
