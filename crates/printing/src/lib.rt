@@ -1,5 +1,6 @@
 // The text of a refusal or of a table's rows, in a lent buffer if there is room for it.
 #![tactic(auto)]
+
 ghost use Rattle.std.specs.Prelude.{◌≡◌, ◌≤◌, length};
 ghost use Rattle.rows.specs.Rows.{rows_of};
 ghost use Rattle.reporting.specs.Lines.{refusal_text, table_text};

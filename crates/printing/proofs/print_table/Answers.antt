@@ -1,6 +1,6 @@
 -- `print_table` meets its contract: the text was measured before it is put. Assumes nothing.
 use borrow.Author.Rules.{rules}
-use Rattle.printing.proofs.Printing.{reporting-short, reporting-whole}
+use Rattle.printing.proofs.Printing.{reporting-whole}
 use Rattle.printing.proofs.print_table.Goals as goal
 
 pub returns : goal.returns
