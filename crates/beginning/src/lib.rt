@@ -1,5 +1,6 @@
 // Where the closure begins: empty sets, the first cuts in them, and the first steps.
 #![tactic(auto)]
+
 ghost use Rattle.std.specs.Prelude.{◌≡◌, false, ◌*◌, ◌≤◌, length, replicate};
 ghost use Rattle.refining.specs.Columns.{columns_of};
 ghost use Rattle.shelving.specs.AllSets.{Layable, LaidOut};
