@@ -1,5 +1,6 @@
 // Making an index of the matches of each group.
 #![tactic(auto)]
+
 ghost use Rattle.std.specs.Prelude.{◌≡◌, ◌≤◌, length};
 ghost use Rattle.arrangement.specs.Index.{index_room};
 ghost use Rattle.carrying_lane.specs.Parts.{UsableParts};

@@ -1,10 +1,8 @@
 -- `indexing_groups::index_groups` meets its contract. The invariant is `Made`, and the measure how many groups are left.
 -- Assumes nothing.
-use Prim.Native.Nat.{◌-◌, ◌<◌}
-use native.Mathlib.Omega.{arith}
+use Prim.Native.Nat.{◌-◌}
 use lib.ListN.{length}
-use Rattle.indexing_groups.proofs.Making.{group-within, Made, made_none, made_more, made_all}
-use borrow.Author.Rules.{rules}
+use Rattle.indexing_groups.proofs.Making.{Made}
 use Rattle.indexing_groups.proofs.index_groups.Given as goal
 
 abbrev pub invariant-loop-g : goal.invariant-loop-g
