@@ -1,5 +1,6 @@
 // All cuts: the ends of the matches and the marks that they span, taken from side to side until neither gains one.
 #![tactic(auto)]
+
 ghost use Rattle.std.specs.Prelude.{◌≡◌, true, false, ◌*◌, ◌≤◌, length, replicate};
 ghost use Rattle.refining.specs.Columns.{columns_of, Fit};
 ghost use Rattle.tracks.specs.Tracks.{marks_of};
