@@ -1,6 +1,7 @@
 // The closure of the first edition: two tracks, and every match goes from the first to the second. A mark's side is its
 // track.
 #![tactic(auto)]
+
 ghost use Rattle.std.specs.Prelude.{◌≡◌, false, ◌*◌, ◌≤◌, length, replicate};
 ghost use Rattle.refining.specs.Columns.{columns_of, Fit};
 ghost use Rattle.refining.specs.Refining.{held_in};
