@@ -1,5 +1,6 @@
 // Refining the matches and marks of a script that was read: their cuts, and from these the rows of the table.
 #![tactic(auto)]
+
 ghost use Rattle.std.specs.Prelude.{◌≡◌, ◌≤◌, ◌<◌, false, length, replicate, take};
 ghost use Rattle.refining.specs.Columns.{FitRead, RightEnds, columns_of, columns_read, Fit};
 ghost use Rattle.refining.specs.Refining.{held_in, work_needed};
