@@ -1,6 +1,7 @@
 // The closure for any count of tracks, for the comparison alone: a slice arrives as a pointer and a length. Nothing asks a
 // caller in C for what a `requires` says.
 #![tactic(auto)]
+
 ghost use Rattle.std.specs.Prelude.{◌≡◌, false, ◌*◌, ◌≤◌, length, replicate};
 ghost use Rattle.refining.specs.Columns.{columns_of, Fit};
 ghost use Rattle.tracks.specs.Tracks.{marks_of};
