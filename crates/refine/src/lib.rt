@@ -1,5 +1,6 @@
 // The refining call, which stands above the reader, the theory and the store of cuts.
 #![tactic(auto)]
+
 ghost use Rattle.std.specs.Prelude.{◌≡◌, ◌≤◌, length};
 ghost use Rattle.refining.specs.Refining.{refining_of};
 ghost use Rattle.refine.specs.Calls.{Roomy, RoomyMarks, Straight, ScriptRefined, bytes_of};
