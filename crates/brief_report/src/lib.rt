@@ -1,6 +1,7 @@
 // The text of a refused script, and of one whose table has few rows, made with a small table: a short script costs fewer
 // cuts than the zeros of a large one.
 #![tactic(auto)]
+
 ghost use Rattle.std.specs.Prelude.{◌≡◌, ◌*◌, replicate};
 ghost use Rattle.rows.specs.Rows.{row_width};
 ghost use Rattle.reporting.specs.Reporting.{ReadAs, Briefly};

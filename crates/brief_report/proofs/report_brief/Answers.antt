@@ -1,6 +1,6 @@
 -- `report_brief` meets its contract: a refused script is printed as its refusal. Assumes nothing.
 use borrow.Author.Rules.{rules}
-use Rattle.brief_report.proofs.Trying.{report-refused, verdict-told}
+use Rattle.brief_report.proofs.Trying.{report-refused}
 use Rattle.brief_report.proofs.report_brief.Goals as goal
 
 pub returns-in-Refused : goal.returns-in-Refused
