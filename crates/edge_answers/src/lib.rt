@@ -1,5 +1,6 @@
 // Lines put into a lent text from a place on: a heading, and what the library answers. The place behind is returned.
 #![tactic(auto)]
+
 ghost use Rattle.std.specs.Prelude.{◌≡◌, ◌+◌, ◌≤◌, length, replicate};
 ghost use Rattle.refining.specs.Refining.{refining_of};
 ghost use Rattle.text.specs.Putting.{Put};

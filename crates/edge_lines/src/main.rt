@@ -1,6 +1,7 @@
 // Runs the lines of 01, "Small scripts at the edges", that carry no M, and prints what the library answers to each.
 // The slow program prints the same lines, and the two are compared: a line that a failed write loses shows there.
 #![tactic(auto)]
+
 ghost use Rattle.std.specs.Prelude.{◌≡◌, ◌++◌, ◌+◌, ◌*◌, ◌≤◌, length};
 ghost use Rattle.text.specs.Putting.{Put};
 ghost use Rattle.edge_lines.specs.Scripts.{many};

@@ -21,11 +21,10 @@ put_bytes-at-requires-in-loop-k c =
     omega (arith, c.put_bytes-at.ensures, directs-length c.loop-k.k)
 
 pub loop-k-preserved : goal.loop-k-preserved
-loop-k-preserved c =
-    (
-      omega arith,
-      put_same (directs-next c.loop-k.k) (put_then c.loop-k.invariant.1 c.put_bytes-at-in-loop-k.ensures),
-    )
+loop-k-preserved c = (
+  omega arith,
+  put_same (directs-next c.loop-k.k) (put_then c.loop-k.invariant.1 c.put_bytes-at-in-loop-k.ensures),
+)
 
 pub put_byte-requires : goal.put_byte-requires
 put_byte-requires c =

@@ -13,5 +13,5 @@ pub returns-clause-put : goal.returns-clause-put
 unfolding places_within
 returns-clause-put c =
     put_then
-          (put_same (ap (read_line (entry matches_word 2048)) c.put_many.ensures) c.put_read-next.ensures.put)
-          (put_same (ap (read_line (entry matches_word 2049)) c.put_many-2.ensures) c.put_read.ensures.put)
+    (put_same (ap (read_line (entry matches_word 2048)) c.put_many.ensures) c.put_read-next.ensures.put)
+    (put_same (ap (read_line (entry matches_word 2049)) c.put_many-2.ensures) c.put_read.ensures.put)
