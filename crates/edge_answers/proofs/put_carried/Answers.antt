@@ -1,5 +1,4 @@
 -- `put_carried` meets its contract: the heading, and the answer behind it. Assumes nothing.
-use native.Mathlib.Omega.{arith}
 use Rattle.text.proofs.Stores.{put_then}
 use Rattle.edge_answers.specs.Lines.{carried_text}
 use Rattle.edge_answers.proofs.Putting.{put-answered}

@@ -2,7 +2,6 @@
 use native.Mathlib.Omega.{arith}
 use Rattle.text.proofs.Digits.{decimal-short}
 use Rattle.text.proofs.Stores.{put_then}
-use borrow.Author.Rules.{rules}
 use Rattle.edge_answers.proofs.put_entry.Goals as goal
 
 pub returns-clause-put : goal.returns-clause-put

@@ -1,5 +1,4 @@
 -- `put_read` meets its contract: the heading, and the answer behind it. Assumes nothing.
-use native.Mathlib.Omega.{arith}
 use Rattle.edge_answers.proofs.Putting.{put-read}
 use borrow.Author.Rules.{rules}
 use Rattle.edge_answers.proofs.put_read.Goals as goal

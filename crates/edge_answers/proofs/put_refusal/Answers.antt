@@ -1,5 +1,4 @@
 -- `put_refusal` meets its contract. Assumes nothing.
-use native.Mathlib.Omega.{arith}
 use Rattle.edge_answers.proofs.Putting.{put_refused}
 use borrow.Author.Rules.{rules}
 use Rattle.edge_answers.proofs.put_refusal.Goals as goal
