@@ -1,5 +1,6 @@
 // The program's text, made in a lent buffer: what is printed is proved, and the program only reads, calls and writes.
 #![tactic(auto)]
+
 ghost use Rattle.std.specs.Prelude.{◌≡◌};
 ghost use Rattle.reporting.specs.LineTwo.{LineTwoPrinted};
 ghost use Rattle.reporting.specs.Reporting.{lent_table, lent_work, reporting_of, ReadAs};
