@@ -1,5 +1,4 @@
 -- `put_carried_lines` meets its contract: one line behind the other. Assumes nothing.
-use native.Mathlib.Omega.{arith}
 use Rattle.text.proofs.Stores.{put_then}
 use borrow.Author.Rules.{rules}
 use Rattle.edge_lines.proofs.put_carried_lines.Goals as goal

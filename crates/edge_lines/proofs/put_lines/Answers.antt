@@ -1,7 +1,5 @@
 -- `put_lines` meets its contract: the lines of each sentence behind those before. Assumes nothing.
-use native.Mathlib.Omega.{arith}
 use Rattle.text.proofs.Stores.{put_then}
-use borrow.Author.Rules.{rules}
 use Rattle.edge_lines.proofs.put_lines.Goals as goal
 
 pub returns-clause-put : goal.returns-clause-put

@@ -1,14 +1,12 @@
 -- `put_many` meets its contract. The loop has put k matches; the measure is how many are left.
 -- Assumes nothing.
-use Prim.Native.Nat.{◌-◌, ◌≤◌, zero-le}
+use Prim.Native.Nat.{zero-le}
 use mathlib.Core.Path.{◌≡◌, refl, ap}
 use native.Mathlib.Omega.{arith}
 use lib.ListN.{length-append}
-use Rattle.text.specs.Putting.{Put}
 use Rattle.text.proofs.Stores.{put_then, put_same}
 use Rattle.edge_lines.specs.Scripts.{directs, many}
-use Rattle.edge_lines.proofs.WholeScripts.{put-length, put_whole, directs-next, directs-length}
-use borrow.Author.Rules.{rules}
+use Rattle.edge_lines.proofs.WholeScripts.{put_whole, directs-next, directs-length}
 use Rattle.edge_lines.proofs.put_many.Goals as goal
 
 pub loop-k-init : goal.loop-k-init

@@ -1,12 +1,10 @@
 -- `put_many_lines` meets its contract: each buffer holds its script, and one line is put behind the other.
 -- Assumes nothing.
 use mathlib.Core.Path.{ap}
-use native.Mathlib.Omega.{arith}
 use Rattle.text.specs.Decimal.{places_within}
 use Rattle.text.proofs.Stores.{put_then, put_same}
 use Rattle.edge_answers.specs.Lines.{entry, read_line}
 use Rattle.edge_lines.specs.AllLines.{matches_word}
-use borrow.Author.Rules.{rules}
 use Rattle.edge_lines.proofs.put_many_lines.Goals as goal
 
 pub returns-clause-put : goal.returns-clause-put

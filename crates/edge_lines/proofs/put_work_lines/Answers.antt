@@ -1,5 +1,4 @@
 -- `put_work_lines` meets its contract: one line behind the other. Assumes nothing.
-use native.Mathlib.Omega.{arith}
 use Rattle.text.specs.Decimal.{places_within}
 use Rattle.text.proofs.Stores.{put_then}
 use borrow.Author.Rules.{rules}
