@@ -2,6 +2,7 @@
 // cannot be read, or the text cannot be written, it says why on standard error, where no answer ever puts a byte: that
 // is how a caller tells a failure from an answer, since the exit status is 0 for both.
 #![tactic(auto)]
+
 ghost use Rattle.std.specs.Prelude.{◌≡◌, ◌<◌, ◌≤◌, length, take};
 ghost use Rattle.io.specs.Counts.{IsPrefixLen};
 ghost use Rattle.reporting.specs.Reporting.{report_of, longest_text};

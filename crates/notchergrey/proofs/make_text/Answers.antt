@@ -1,14 +1,8 @@
 -- `make_text` meets its contract: the buffer has room for every report. Assumes nothing.
-use Prim.Native.Nat.{ℕ}
 use mathlib.Core.Path.{sym, ap, ◌∙◌}
 use mathlib.Core.Bool.{Bool, true, false, true≢false}
-use native.Mathlib.Omega.{arith}
-use lib.ListN.{length, drop, length-append}
-use lib.Seq.{take-append_seam}
-use Rattle.reporting.specs.Reporting.{report_of}
 use Rattle.reporting.specs.declared.Reported.{Reported}
 use Rattle.reporting.proofs.Fits.{report-printed}
-use borrow.Author.Rules.{rules}
 use Rattle.notchergrey.proofs.make_text.Goals as goal
 
 abbrev is_printed : Reported → Bool
