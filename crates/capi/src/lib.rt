@@ -2,6 +2,7 @@
 // and hands the rest out through pointers. Like a call of the library, a refused one alters no lent number but `place`.
 // The doors on tables refuse nothing.
 #![tactic(auto)]
+
 ghost use Rattle.std.specs.Prelude.{◌≡◌};
 ghost use Rattle.doors.specs.Doors.{read_door, match_door, refine_door, carry_door, carry_from_a, carry_from_b};
 ghost use Rattle.doors.specs.Doors.{carry_all_door, carry_all_from_a, carry_all_from_b};
