@@ -45,7 +45,7 @@ mkfifo "$made/unread" "$made/idle"
 exec 4<>"$made/unread" 5>"$made/unread" 4<&- 6<>"$made/idle"
 dd iflag=nonblock count=0 status=none <&6
 
-# Where there is no answer the program says why. It has no exit status of its own; a signal's is the system's.
+# Where there is no answer the program says why. It has no exit status of its own.
 : >"$made/printed"
 says 0 'notchergrey: standard input: Is a directory' "$program" <. >"$made/printed"
 says 0 'notchergrey: standard input: Bad file descriptor' "$program" <&- >"$made/printed"
@@ -53,7 +53,7 @@ says 0 'notchergrey: standard input: Resource temporarily unavailable' "$program
 says 0 'notchergrey: standard output: No space left on device' "$program" <two-matches.script >/dev/full
 says 0 'notchergrey: standard output: Bad file descriptor' "$program" <two-matches.script >&-
 says 0 'usage: notchergrey <SCRIPT; it takes no argument' "$program" two-matches.script </dev/null >"$made/printed"
-says 141 '' "$program" <two-matches.script >&5
+says 0 'notchergrey: standard output: Broken pipe' "$program" <two-matches.script >&5
 trap '' PIPE
 says 0 'notchergrey: standard output: Broken pipe' "$program" <two-matches.script >&5
 trap - PIPE
@@ -81,7 +81,7 @@ says 1 'notchergrey: standard input: Is a directory' bash "$run" . >"$made/print
 says 1 'run: standard input is closed' bash "$run" <&- >"$made/printed"
 says 1 'notchergrey: standard output: No space left on device' bash "$run" two-matches.script >/dev/full
 says 1 'run: standard output is closed' bash "$run" two-matches.script >&-
-says 1 '' bash "$run" two-matches.script >&5
+says 1 'notchergrey: standard output: Broken pipe' bash "$run" two-matches.script >&5
 
 # A check that fails leaves no program. rt is played by a script that builds one, proves one crate and fails.
 copy=$made/copy

@@ -1,5 +1,6 @@
 // The rows of one match, as a part of the lent table.
 #![tactic(auto)]
+
 ghost use Rattle.std.specs.Prelude.{◌≡◌, ◌+◌, ◌≤◌, length, drop};
 ghost use Rattle.rows.specs.Rows.{rows_of};
 ghost use Rattle.table.specs.Finding.{before, run, start_of, span_of, part_of, further};
