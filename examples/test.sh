@@ -107,7 +107,7 @@ echo 'logic=not-proved'
 exit 1
 END
 chmod +x "$copy/tools/rt"
-said='run: proving and building the program; the first time this takes some eight minutes
+said='run: proving and building the program; the first time this takes some twenty minutes
 run: proved 1 of 3 crates: script
 crate script: modules loaded=0 checked=203
 logic=proved functions=9
