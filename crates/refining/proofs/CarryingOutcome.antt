@@ -16,6 +16,7 @@ use mathlib.Core.List.Memᴰ.{head as here}
 use mathlib.Core.List.Memᴰ.{tail as there}
 use native.Mathlib.Omega.{arith}
 use lib.ListN.{length}
+use Rattle.std.specs.Prelude.{Result, Ok, Err}
 use Rattle.script.specs.Reading.{Reading, admitted, refused, read_script}
 use Rattle.script.specs.Answers.{Answer, value, contents}
 use Rattle.script.specs.Outcomes.{Outcome}
@@ -36,8 +37,6 @@ use Rattle.refinement.proofs.Tiling.{number-unique}
 use Rattle.refining.specs.Refining.{with_number, numbered, Given}
 use Rattle.refining.specs.Demands.{Admitted, reads}
 use Rattle.refining.specs.Carrying.{carrying_over, carrying_of, carried_answer, CarryingOutcome, CarryingDemand}
-use Rattle.refining.specs.declared.answers.Carried.{Carried}
-use Rattle.refining.specs.declared.answers.Carried.TheVariants.{To, Refused}
 use Rattle.refining.proofs.Numbered.{admitted_of, admitted-matches, numbered-range}
 
 -- ---- the match of a number
@@ -100,17 +99,17 @@ untrue true n = absurd (n refl)
 untrue false n = refl
 
 over-spanned : (m : Match) (side : Side) (position : ℕ) → Spans m side position
-    → carrying_over m side position ≡ To (carry m side position)
+    → carrying_over m side position ≡ Ok (carry m side position)
 over-spanned m side position t = rw ((spanned-iff m side position).1 t)
 
 over-off : (m : Match) (side : Side) (position : ℕ) → ¬ Spans m side position
-    → carrying_over m side position ≡ Refused OffTheMatch
+    → carrying_over m side position ≡ Err OffTheMatch
 over-off m side position n =
     rw (untrue (spanned (left m side) m.length position) (λ e. n ((spanned-iff m side position).0 e)))
 
 module _ (script : List ℕ) (number : ℕ) (side : Side) (position : ℕ) where
   pub carrying-refused : {r : Refusal} → finding_of (read_script script) number ≡ Finding.Refused r
-      → carrying_of script number side position ≡ Refused r
+      → carrying_of script number side position ≡ Err r
   unfolding carrying_of
   carrying-refused e = rw e
 
@@ -122,12 +121,12 @@ module _ (script : List ℕ) (number : ℕ) (side : Side) (position : ℕ) where
   module _ {x : ScriptMatch} {from : ℕ} (e : finding_of (read_script script) number ≡ Finding.Found x)
       (from_is : from ≡ on_side side x.left_a x.left_b) where
     pub carrying-off : spanned from x.length position ≡ false
-        → carrying_of script number side position ≡ Refused OffTheMatch
+        → carrying_of script number side position ≡ Err OffTheMatch
     carrying-off test = carrying-found e ∙ rw (← from_is, test)
 
     pub carrying-to : {to : ℕ} → to ≡ on_side (other side) x.left_a x.left_b
         → spanned from x.length position ≡ true
-        → carrying_of script number side position ≡ To (carry_over x.reversed from to x.length position)
+        → carrying_of script number side position ≡ Ok (carry_over x.reversed from to x.length position)
     carrying-to to_is test = carrying-found e ∙ rw (← from_is, ← to_is, test)
 
   -- the match of the theory's list that has the number is the one that is carried over
@@ -138,7 +137,7 @@ module _ (script : List ℕ) (number : ℕ) (side : Side) (position : ℕ) where
       carrying-found found.1 ∙ ap (λ (z : Match). carrying_over z side position) found.2
 
   carrying-unlisted : {g : Given} → Admitted script g → (number ≡ 0) ⊎ (length g.matches < number)
-      → carrying_of script number side position ≡ Refused NoSuchMatch
+      → carrying_of script number side position ≡ Err NoSuchMatch
   carrying-unlisted a h = carrying-refused (unlisted-none number a h)
 
   -- any outcome whose condition is met is what `carrying_of` replies
@@ -177,26 +176,26 @@ module _ (script : List ℕ) (number : ℕ) (side : Side) (position : ℕ) where
 
   -- ---- the law
 
-  pub carrying-demand : {reply : Carried} → reply ≡ carrying_of script number side position
+  pub carrying-demand : {reply : Result ℕ Refusal} → reply ≡ carrying_of script number side position
       → CarryingDemand script number side position (carried_answer reply)
   carrying-demand e = rw e (record { stated = carrying-stated; alone = λ _ o. outcome-carrying o })
 
 -- "Carrying from B to A is the inverse": what is carried to the other side is carried back to where it was
 pub carrying-back :
     (script : List ℕ) (number : ℕ) (side : Side) (position : ℕ) {x : ℕ}
-    → carrying_of script number side position ≡ To x → carrying_of script number (other side) x ≡ To position
+    → carrying_of script number side position ≡ Ok x → carrying_of script number (other side) x ≡ Ok position
 carrying-back script number side position {x} e = by-finding (finding_of (read_script script) number) refl
   where
-    by_span : (m : Match) → Dec (Spans m side position) → carrying_over m side position ≡ To x
-        → carrying_over m (other side) x ≡ To position
+    by_span : (m : Match) → Dec (Spans m side position) → carrying_over m side position ≡ Ok x
+        → carrying_over m (other side) x ≡ Ok position
     by_span m (yes t) e' =
         let there : carry m side position ≡ x = cc (over-spanned m side position t) in
         rw (← there, over-spanned m (other side) (carry m side position) (carry-spans m side position t))
-        (ap To (carry_back m side position t))
+        (ap Ok (carry_back m side position t))
     by_span m (no n) e' = let z : ◌≡◌ {A = ℕ} 0 1 = cc (over-off m side position n) in absurd (omega arith)
 
     by-finding : (f : Finding) → finding_of (read_script script) number ≡ f
-        → carrying_of script number (other side) x ≡ To position
+        → carrying_of script number (other side) x ≡ Ok position
     by-finding (Finding.Refused r) is =
         let z : ◌≡◌ {A = ℕ} 0 1 = cc (carrying-refused script number side position is) in absurd (omega arith)
     by-finding (Finding.Found y) is =

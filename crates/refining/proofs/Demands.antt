@@ -13,8 +13,10 @@ use mathlib.Core.List.{List}
 use native.Mathlib.Omega.{arith}
 use lib.ListN.{length, drop, length-replicate, length-append, length-drop}
 use lib.Seq.{take_at, drop_at}
+use Rattle.std.specs.Prelude.{Result}
 use Rattle.script.specs.Answers.{Answer, value, refusal}
 use Rattle.script.specs.Outcomes.{Outcome}
+use Rattle.script.specs.declared.refusal.Refusal.{Refusal}
 use Rattle.script.proofs.Outcome.{own-number, outcome-alone, outcome-refused}
 use Rattle.rows.specs.Rows.{row_width}
 use Rattle.refinement.specs.Match.{Match}
@@ -26,7 +28,6 @@ use Rattle.refining.specs.Refining.{Given, least_of, capacity_of, work_needed, R
 use Rattle.refining.specs.Refining.{refining_of_matches, refining_of}
 use Rattle.refining.specs.Demands.{answer_of, Fits, MatchesOutcome, Leaves, Stand, MatchesDemand1, MatchesDemand2}
 use Rattle.refining.specs.Demands.{MatchesDemand3, Admitted, reads, RefiningOutcome, Demand1, Demand2, Demand3}
-use Rattle.refining.specs.declared.answers.Refined.{Refined}
 use Rattle.refining.proofs.Standing.{length-numbers}
 use Rattle.refining.proofs.Numbered.{admitted-unique, admitted-matches}
 use Rattle.refining.proofs.RefiningCases.{written, exceeds-many, fits-exceeds, matches-short, matches-crowded}
@@ -70,7 +71,7 @@ kept {number = number} other =
       work_length = refl;
     }
 
-case-leaves : {g : Given} {table work : List ℕ} {reply : Refined} {table' work' : List ℕ}
+case-leaves : {g : Given} {table work : List ℕ} {reply : Result ℕ Refusal} {table' work' : List ℕ}
     → MatchesCase g table work reply table' work' → Leaves table work (answer_of reply) table' work'
 case-leaves (short h) = kept (λ e. omega arith)
 case-leaves {work = work} (crowded enough exceeds) =
@@ -116,7 +117,7 @@ module _ {g : Given} (M : Matches g.matches) where
         let same : length rs ≡ length (least_of g) = omega arith in
         rw (matches-written g table work enough (omega arith), same)
 
-    case-stated : {reply : Refined} {table' work' : List ℕ} → MatchesCase g table work reply table' work'
+    case-stated : {reply : Result ℕ Refusal} {table' work' : List ℕ} → MatchesCase g table work reply table' work'
         → MatchesOutcome g table work (answer_of reply)
     case-stated (short h) = MatchesOutcome.work_too_short h
     case-stated (crowded enough exceeds) = MatchesOutcome.too_many_pieces enough exceeds
@@ -133,7 +134,7 @@ module _ {g : Given} (M : Matches g.matches) where
           pieces = λ _ e. absurd (refusal-value e);
         }
 
-    case-demand2 : {reply : Refined} {table' work' : List ℕ} → MatchesCase g table work reply table' work'
+    case-demand2 : {reply : Result ℕ Refusal} {table' work' : List ℕ} → MatchesCase g table work reply table' work'
         → MatchesDemand2 g table work (answer_of reply) table'
     case-demand2 (short h) = no_value (λ enough _. omega arith)
     case-demand2 (crowded _ exceeds) = no_value (λ _ fits. fits-exceeds fits exceeds)
@@ -152,7 +153,7 @@ module _ {g : Given} (M : Matches g.matches) where
           };
         }
 
-    case-demand3 : {reply : Refined} {table' work' : List ℕ} → MatchesCase g table work reply table' work'
+    case-demand3 : {reply : Result ℕ Refusal} {table' work' : List ℕ} → MatchesCase g table work reply table' work'
         → MatchesDemand3 g table work (answer_of reply) table'
     case-demand3 (short h) =
         record {
@@ -194,7 +195,7 @@ module _ {script table work : List ℕ} where
   outcome-script (RefiningOutcome.of_matches a o) =
       rw (refining-admitted script table work a) (outcome-matches (admitted-matches a) o)
 
-  script-demand1 : {reply : Refined} {table' work' : List ℕ} → Case script table work reply table' work'
+  script-demand1 : {reply : Result ℕ Refusal} {table' work' : List ℕ} → Case script table work reply table' work'
       → ((a : Answer ℕ) → RefiningOutcome script table work a → a ≡ answer_of reply)
       → Demand1 script table work (answer_of reply) table' work'
   script-demand1 (refusing o) alone =
@@ -203,7 +204,7 @@ module _ {script table work : List ℕ} where
       let stated = RefiningOutcome.of_matches a (case-stated (admitted-matches a) c) in
       record { stated = stated; alone = alone; leaves = case-leaves c }
 
-  script-demand2 : {reply : Refined} {table' work' : List ℕ} → Case script table work reply table' work'
+  script-demand2 : {reply : Result ℕ Refusal} {table' work' : List ℕ} → Case script table work reply table' work'
       → Demand2 script table work (answer_of reply) table'
   script-demand2 (refusing o) =
       record {
@@ -216,7 +217,7 @@ module _ {script table work : List ℕ} where
         no_other_script = λ _ _. (g, a);
       }
 
-  script-demand3 : {reply : Refined} {table' work' : List ℕ} → Case script table work reply table' work'
+  script-demand3 : {reply : Result ℕ Refusal} {table' work' : List ℕ} → Case script table work reply table' work'
       → Demand3 script table work (answer_of reply) table'
   script-demand3 (refusing o) = record { of_matches = λ _ a. absurd (refused-admitted o a) }
   script-demand3 (matched a c) =
@@ -224,7 +225,7 @@ module _ {script table work : List ℕ} where
 
 -- ---- the laws
 
-module _ {g : Given} (M : Matches g.matches) (table work : List ℕ) {reply : Refined} {table' : List ℕ}
+module _ {g : Given} (M : Matches g.matches) (table work : List ℕ) {reply : Result ℕ Refusal} {table' : List ℕ}
     (replied : reply ≡ (refining_of_matches g table work).reply)
     (tabled : table' ≡ (refining_of_matches g table work).table) where
   pub matches-demand1 : {work' : List ℕ} → work' ≡ (refining_of_matches g table work).work
@@ -240,7 +241,7 @@ module _ {g : Given} (M : Matches g.matches) (table work : List ℕ) {reply : Re
   pub matches-demand3 : MatchesDemand3 g table work (answer_of reply) table'
   matches-demand3 = rw (replied, tabled) (case-demand3 M (matches-case M table work))
 
-module _ (script table work : List ℕ) {reply : Refined} {table' : List ℕ}
+module _ (script table work : List ℕ) {reply : Result ℕ Refusal} {table' : List ℕ}
     (replied : reply ≡ (refining_of script table work).reply)
     (tabled : table' ≡ (refining_of script table work).table) where
   pub demand1 : {work' : List ℕ} → work' ≡ (refining_of script table work).work

@@ -18,6 +18,7 @@ use native.Mathlib.Decide.{dec_lt}
 use borrow.Author.Tests.{lt-ltb, le-ltb}
 use lib.ListN.{length, drop}
 use lib.Seq.{sets, sets-eq}
+use Rattle.std.specs.Prelude.{Result, Ok, Err}
 use Rattle.script.specs.Refusals.{number_of, place_of}
 use Rattle.script.specs.Reading.{Reading, admitted, refused, read_script}
 use Rattle.script.specs.Answers.{refusal}
@@ -32,8 +33,6 @@ use Rattle.refining.specs.Rows.{piece_numbers}
 use Rattle.refining.specs.Refining.{Given, least_of, capacity_of, work_needed, zeroed}
 use Rattle.refining.specs.Refining.{Refining, refining_of_matches, refining_of}
 use Rattle.refining.specs.Demands.{Admitted, reads, Fits, EveryExceeds}
-use Rattle.refining.specs.declared.answers.Refined.{Refined}
-use Rattle.refining.specs.declared.answers.Refined.TheVariants.{Rows, Refused}
 use Rattle.refining.proofs.Standing.{length-numbers}
 use Rattle.refining.proofs.Numbered.{admitted_of, admitted-matches}
 
@@ -69,12 +68,12 @@ written-sets rs table room =
 
 module _ (g : Given) (table work : List ℕ) where
   pub matches-short : length work < work_needed table
-      → refining_of_matches g table work ≡ record { reply = Refused WorkTooShort; table = table; work = work }
+      → refining_of_matches g table work ≡ record { reply = Err WorkTooShort; table = table; work = work }
   unfolding refining_of_matches
   matches-short short = rw (lt-ltb (length work) (work_needed table) short)
 
   pub matches-crowded : work_needed table ≤ length work → capacity_of table < length (least_of g)
-      → refining_of_matches g table work ≡ record { reply = Refused TooManyPieces; table = table; work = zeroed work }
+      → refining_of_matches g table work ≡ record { reply = Err TooManyPieces; table = table; work = zeroed work }
   unfolding refining_of_matches
   matches-crowded enough many =
       rw (
@@ -84,7 +83,7 @@ module _ (g : Given) (table work : List ℕ) where
 
   pub matches-written : work_needed table ≤ length work → length (least_of g) ≤ capacity_of table
       → refining_of_matches g table work ≡ record {
-        reply = Rows (length (least_of g));
+        reply = Ok (length (least_of g));
         table = written (least_of g) table;
         work = zeroed work;
       }
@@ -96,14 +95,14 @@ module _ (g : Given) (table work : List ℕ) where
       )
 
 -- the reply and the buffers after the call, with the case that they are of
-pub data MatchesCase (g : Given) (table work : List ℕ) : Refined → List ℕ → List ℕ → Type 0 where
-  short : length work < work_needed table → MatchesCase g table work (Refused WorkTooShort) table work
+pub data MatchesCase (g : Given) (table work : List ℕ) : Result ℕ Refusal → List ℕ → List ℕ → Type 0 where
+  short : length work < work_needed table → MatchesCase g table work (Err WorkTooShort) table work
   crowded :
       work_needed table ≤ length work → EveryExceeds g (capacity_of table)
-      → MatchesCase g table work (Refused TooManyPieces) table (zeroed work)
+      → MatchesCase g table work (Err TooManyPieces) table (zeroed work)
   writing :
       work_needed table ≤ length work → length (least_of g) ≤ capacity_of table
-      → MatchesCase g table work (Rows (length (least_of g))) (written (least_of g) table) (zeroed work)
+      → MatchesCase g table work (Ok (length (least_of g))) (written (least_of g) table) (zeroed work)
 
 abbrev MatchesCaseOf : Given → List ℕ → List ℕ → Refining → Type 0
 MatchesCaseOf g table work x = MatchesCase g table work x.reply x.table x.work
@@ -129,7 +128,7 @@ module _ {g : Given} (M : Matches g.matches) (table work : List ℕ) where
 
 module _ (script table work : List ℕ) where
   pub refining-refused : {r : Refusal} → read_script script ≡ refused r
-      → refining_of script table work ≡ record { reply = Refused r; table = table; work = work }
+      → refining_of script table work ≡ record { reply = Err r; table = table; work = work }
   unfolding refining_of
   refining-refused e = rw e
 
@@ -138,11 +137,11 @@ module _ (script table work : List ℕ) where
   unfolding refining_of
   refining-admitted (reads o) = rw (outcome-admitted o)
 
-pub data Case (script table work : List ℕ) : Refined → List ℕ → List ℕ → Type 0 where
+pub data Case (script table work : List ℕ) : Result ℕ Refusal → List ℕ → List ℕ → Type 0 where
   refusing :
-      {r : Refusal} → Outcome script (refusal (number_of r) (place_of r)) → Case script table work (Refused r) table work
+      {r : Refusal} → Outcome script (refusal (number_of r) (place_of r)) → Case script table work (Err r) table work
   matched :
-      {g : Given} {reply : Refined} {table' work' : List ℕ} → Admitted script g
+      {g : Given} {reply : Result ℕ Refusal} {table' work' : List ℕ} → Admitted script g
       → MatchesCase g table work reply table' work' → Case script table work reply table' work'
 
 abbrev CaseOf : List ℕ → List ℕ → List ℕ → Refining → Type 0

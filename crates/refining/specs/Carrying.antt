@@ -5,12 +5,13 @@
 --     CarryingDemand                           exactly one outcome's condition is met, and it is the answer
 -- 01, "Positions and carrying" and "Refused scripts and calls". `proofs/CarryingOutcome` shows that `carrying_of` meets
 -- the demand. Assumes nothing.
-use Rattle.std.specs.Prelude.{ℕ, ◌<◌, ◌≡◌, ◌⊎◌, cond, List, length}
+use Rattle.std.specs.Prelude.{ℕ, ◌<◌, ◌≡◌, ◌⊎◌, cond, List, length, Result, Ok, Err}
 use Rattle.script.specs.Refusals.{number_of, place_of}
 use Rattle.script.specs.Reading.{read_script}
 use Rattle.script.specs.Answers.{Answer, value, refusal}
 use Rattle.script.specs.Outcomes.{Outcome}
 use Rattle.script.specs.Finding.{finding_of}
+use Rattle.script.specs.declared.refusal.Refusal.{Refusal}
 use Rattle.script.specs.declared.refusal.Refusal.TheVariants.{OffTheMatch}
 use Rattle.script.specs.declared.Finding.{Finding}
 use Rattle.refinement.specs.declared.Side.{Side}
@@ -18,25 +19,23 @@ use Rattle.refinement.specs.Order.{◌∈◌}
 use Rattle.refinement.specs.Match.{Match, left, Spans, spanned, carry}
 use Rattle.refining.specs.Refining.{with_number, Given}
 use Rattle.refining.specs.Demands.{Admitted}
-use Rattle.refining.specs.declared.answers.Carried.{Carried}
-use Rattle.refining.specs.declared.answers.Carried.TheVariants.{To, Refused}
 
 -- SCOPE, "Spans": over one match, carried if it spans the position on the side named, its two ends too, and else 14
-abbrev pub carrying_over : Match → Side → ℕ → Carried
+abbrev pub carrying_over : Match → Side → ℕ → Result ℕ Refusal
 carrying_over m side position =
-    cond (spanned (left m side) m.length position) (To (carry m side position)) (Refused OffTheMatch)
+    cond (spanned (left m side) m.length position) (Ok (carry m side position)) (Err OffTheMatch)
 
 -- SCOPE, "Order of carrying": the script's refusals and 13 are the finding's, and 14 comes last
-abbrev pub carrying_of_finding : Finding → ℕ → Side → ℕ → Carried
-carrying_of_finding (Finding.Refused r) number side position = Refused r
+abbrev pub carrying_of_finding : Finding → ℕ → Side → ℕ → Result ℕ Refusal
+carrying_of_finding (Finding.Refused r) number side position = Err r
 carrying_of_finding (Finding.Found m) number side position = carrying_over (with_number number m) side position
 
-unfoldable pub carrying_of : List ℕ → ℕ → Side → ℕ → Carried
+unfoldable pub carrying_of : List ℕ → ℕ → Side → ℕ → Result ℕ Refusal
 carrying_of script number side position = carrying_of_finding (finding_of (read_script script) number) number side position
 
-abbrev pub carried_answer : Carried → Answer ℕ
-carried_answer (Carried.To position) = value position
-carried_answer (Carried.Refused r) = refusal (number_of r) (place_of r)
+abbrev pub carried_answer : Result ℕ Refusal → Answer ℕ
+carried_answer (Ok position) = value position
+carried_answer (Err r) = refusal (number_of r) (place_of r)
 
 -- ---- what may come of a call
 

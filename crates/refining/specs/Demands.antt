@@ -18,13 +18,14 @@
 -- A refinement is a list of rows in any order and of any length. 02, #106: one is resolved if it has the spanned marks
 -- among its cuts, and least and equal are judged among such alone. `proofs/Demands` shows that `refining_of_matches` and
 -- `refining_of` meet the demands. Assumes nothing.
-use Rattle.std.specs.Prelude.{ℕ, ◌*◌, ◌≤◌, ◌<◌, ◌≡◌, ◌↔◌, ◌≢◌, List, length, take, drop}
+use Rattle.std.specs.Prelude.{ℕ, ◌*◌, ◌≤◌, ◌<◌, ◌≡◌, ◌↔◌, ◌≢◌, List, length, take, drop, Result, Ok, Err}
 use Rattle.script.specs.Refusals.{number_of, place_of}
 pub use Rattle.script.specs.Answers.{Answer, value, refusal}
 use Rattle.script.specs.Answers.{contents}
 use Rattle.script.specs.Outcomes.{Outcome}
 use Rattle.script.specs.declared.command.Match.{Match as ScriptMatch}
 use Rattle.script.specs.declared.command.Mark.{Mark}
+use Rattle.script.specs.declared.refusal.Refusal.{Refusal}
 use Rattle.rows.specs.Rows.{row_width}
 use Rattle.refinement.specs.Order.{Rising}
 use Rattle.refinement.specs.Match.{Match}
@@ -32,12 +33,11 @@ use Rattle.refinement.specs.Refinement.{ResolvedRefinement, Before, Least}
 use Rattle.refinement.specs.Paper.{Definition1, Definition2}
 use Rattle.refining.specs.Rows.{piece_numbers}
 use Rattle.refining.specs.Refining.{Given, given_by, capacity_of, work_needed, zeroed}
-use Rattle.refining.specs.declared.answers.Refined.{Refined}
 
 -- SCOPE, "Success" and "Place": the count of rows, or a number and a place
-abbrev pub answer_of : Refined → Answer ℕ
-answer_of (Refined.Rows n) = value n
-answer_of (Refined.Refused r) = refusal (number_of r) (place_of r)
+abbrev pub answer_of : Result ℕ Refusal → Answer ℕ
+answer_of (Ok n) = value n
+answer_of (Err r) = refusal (number_of r) (place_of r)
 
 -- ==== of matches
 

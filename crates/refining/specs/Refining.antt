@@ -12,18 +12,17 @@
 --     Refining                      the reply, and what the table and the work buffer hold after the call
 --     refining_of script table work  all three, by what the script and the two buffers hold before it
 -- 01, "The table and its buffers" and "Refused scripts and calls"; 02, #106. Assumes nothing.
-use Rattle.std.specs.Prelude.{ℕ, suc, ◌*◌, ◌/◌, cond, List, [], ◌∷◌, ◌++◌, map, length, drop, replicate, ltb}
+use Rattle.std.specs.Prelude.{ℕ, suc, ◌*◌, ◌/◌, cond, List, [], ◌∷◌, ◌++◌, map, length, drop, replicate, ltb, Result, Ok, Err}
 use Rattle.script.specs.Reading.{Reading, admitted, refused, read_script}
 use Rattle.script.specs.declared.command.Match.{Match as ScriptMatch}
 use Rattle.script.specs.declared.command.Mark.{Mark}
+use Rattle.script.specs.declared.refusal.Refusal.{Refusal}
 use Rattle.script.specs.declared.refusal.Refusal.TheVariants.{WorkTooShort, TooManyPieces}
 use Rattle.rows.specs.Rows.{row_width}
 use Rattle.refinement.specs.Match.{Match, Place}
 use Rattle.refinement.specs.Least.{least_table}
 use Rattle.refining.specs.Columns.{Columns, matches_of}
 use Rattle.refining.specs.Rows.{piece_numbers}
-use Rattle.refining.specs.declared.answers.Refined.{Refined}
-use Rattle.refining.specs.declared.answers.Refined.TheVariants.{Rows, Refused}
 
 abbrev pub with_number : ℕ → ScriptMatch → Match
 with_number n m =
@@ -76,7 +75,7 @@ abbrev pub zeroed : List ℕ → List ℕ
 zeroed work = replicate (length work) 0
 
 pub record Refining : Type 0 where
-  pub reply : Refined
+  pub reply : Result ℕ Refusal
   pub table : List ℕ
   pub work : List ℕ
 
@@ -87,14 +86,14 @@ refining_of_matches g table work =
     let least = least_of g in
     let rows = piece_numbers least in
     let over = rows ++ drop (length rows) table in
-    let short : Refining = record { reply = Refused WorkTooShort; table = table; work = work } in
-    let crowded : Refining = record { reply = Refused TooManyPieces; table = table; work = zeroed work } in
-    let written : Refining = record { reply = Rows (length least); table = over; work = zeroed work } in
+    let short : Refining = record { reply = Err WorkTooShort; table = table; work = work } in
+    let crowded : Refining = record { reply = Err TooManyPieces; table = table; work = zeroed work } in
+    let written : Refining = record { reply = Ok (length least); table = over; work = zeroed work } in
     cond (ltb (length work) (work_needed table)) short (cond (ltb (capacity_of table) (length least)) crowded written)
 
 -- SCOPE, "Order of refining" and "Kept when refused": the script's own refusal comes first, and alters nothing
 abbrev pub refining_of_reading : Reading → List ℕ → List ℕ → Refining
-refining_of_reading (refused r) table work = record { reply = Refused r; table = table; work = work }
+refining_of_reading (refused r) table work = record { reply = Err r; table = table; work = work }
 refining_of_reading (admitted ls ms ks) table work = refining_of_matches (given_by ms ks) table work
 
 unfoldable pub refining_of : List ℕ → List ℕ → List ℕ → Refining
