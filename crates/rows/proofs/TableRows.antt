@@ -1,11 +1,11 @@
 -- Where the rows of a table lie in its numbers.
 --     rows-length     as many rows as the numbers fill
---     row_inside      a row's numbers lie in the table
 --     row-held        a row is read off the numbers from its place on
 --     row_read        and number by number
 --     take_more       the first rows, with one more
+--     reading         how many rows there are and what each holds: what the functions are proved by
 -- Assumes nothing.
-use Prim.Native.Nat.{ℕ, zero, suc, ◌+◌, ◌*◌, ◌/◌, ◌≤◌, ◌<◌}
+use Prim.Native.Nat.{ℕ, zero, suc, ◌+◌, ◌*◌, ◌/◌, ◌<◌}
 use mathlib.Core.Path.{◌≡◌, refl, ap, ◌∙◌}
 use mathlib.Core.List.{List, [], ◌∷◌, ◌++◌}
 use native.Mathlib.Omega.{arith}
@@ -24,9 +24,6 @@ first-rows-length (suc n) t = ap suc (first-rows-length n (drop row_width t))
 pub rows-length : (t : List ℕ) → length (rows_of t) ≡ length t / row_width
 unfolding rows_of
 rows-length t = first-rows-length (length t / row_width) t
-
-pub row_inside : (t : List ℕ) (k : ℕ) → k < length (rows_of t) → k * row_width + row_width ≤ length t
-row_inside t k h = omega (arith, rows-length t)
 
 first-rows-held : (n : ℕ) (t : List ℕ) (k : ℕ) → k < n → row_at (first_rows n t) k ≡ row_of (drop (k * row_width) t)
 unfolding first_rows
@@ -54,3 +51,5 @@ row_read t k h = rw (row-held t k h) (simp (get_or-drop, add-zero))
 
 pub take_more : (rs : List Row) (k : ℕ) → k < length rs → take (k + 1) rs ≡ take k rs ++ row_at rs k ∷ []
 take_more rs k h = rw (add-one) (take-suc rs k (row_of []) h)
+
+pub ruleset reading = (rows-length, row_read)

@@ -18,12 +18,14 @@ pub struct Row {
 }
 
 // How many rows the table has. Up to four numbers at its end that form no row are ignored.
+#[tactic(auto, using(crate::proofs::TableRows::reading))]
 pub fn row_count(table: &[u32]) -> usize
     ensures { result ≡ length (rows_of table.now) }
 {
     table.len() / ROW_WIDTH
 }
 
+#[tactic(auto, using(crate::proofs::TableRows::reading))]
 pub fn row_at(table: &[u32], k: usize) -> Row
     requires { k < length (rows_of table.now) }
     ensures { result ≡ row_at (rows_of table.now) k }
