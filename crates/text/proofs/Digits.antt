@@ -1,6 +1,5 @@
 -- A number has one fewest count of decimal digits, and `places` computes it.
---     fewest-few        the fewest digits that hold a number of 64 bits are at most 20
---     fewest-decimal    and those of the number in decimal
+--     fewest-decimal    the fewest digits that hold a number of 64 bits are those of the number in decimal
 --     digits-length     so many digits are so long
 --     decimal-short     so a number in decimal has at most 20
 -- Assumes nothing.
@@ -67,9 +66,6 @@ places-few (suc most) n = go (ltb n 10) (places-few most (n / 10))
         → cond b 1 (suc (places_within most (n / 10))) ≤ suc (suc most)
     go true h = omega arith
     go false h = omega arith
-
-pub fewest-few : {n k : ℕ} → n < 2 ^ 64 → IsDigitCount 10 1 n k → k ≤ 20
-fewest-few {n} {k} h f = omega (arith, places-fewest 19 n k (omega arith) f, places-few 19 n)
 
 pub fewest-decimal : {n k : ℕ} {ds : List ℕ} → n < 2 ^ 64 → IsDigitCount 10 1 n k → ds ≡ last_digits 10 k n → ds ≡ decimal n
 fewest-decimal {n} {k} h f e = e ∙ ap (λ (k : ℕ). last_digits 10 k n) (places-fewest 19 n k (omega arith) f)

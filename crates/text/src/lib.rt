@@ -11,10 +11,9 @@ pub fn put_byte(text: &mut [u8], at: usize, byte: u8) -> usize
     requires { at < 4294967296 }
     ensures { Put (byte ∷ []) text.old at text.new result }
 {
-    if text.len() <= at {
-        return at + 1;
+    if at < text.len() {
+        text[at] = byte;
     }
-    text[at] = byte;
     at + 1
 }
 
@@ -23,12 +22,10 @@ pub fn put_bytes(text: &mut [u8], at: usize, bytes: &[u8]) -> usize
     requires { at + length bytes.now < 4294967296 }
     ensures { Put bytes.now text.old at text.new result }
 {
-    let mut k = 0;
-    while k < bytes.len() {
-        put_byte(text, at + k, bytes[k]);
-        k += 1;
+    for (k, byte) in bytes.iter().enumerate() {
+        put_byte(text, at + k, *byte);
     }
-    at + k
+    at + bytes.len()
 }
 
 // Puts a number in decimal, without leading zeros.
