@@ -13,6 +13,7 @@ use native.Mathlib.Omega.{arith}
 use native.Mathlib.Decide.{dec_le}
 use lib.ListN.{length, drop, length-map, length-replicate}
 use borrow.Author.Tests.{lt-ltb, le-ltb}
+use Rattle.std.specs.Prelude.{Result, Ok, Err}
 use Rattle.script.specs.Reading.{Reading, admitted, refused, read_script, letters}
 use Rattle.script.specs.declared.refusal.Refusal.TheVariants.{TooManyPieces}
 use Rattle.rows.specs.Rows.{row_width}
@@ -20,7 +21,7 @@ use Rattle.refining.specs.Rows.{row_of_piece}
 use Rattle.refining.specs.Refining.{Given, given_by, least_of, capacity_of, refining_of_matches}
 use Rattle.reporting.specs.Reporting.{lent_rows, lent_table, lent_work, report_of_refining, report_of_reading, report_of}
 use Rattle.reporting.specs.Reporting.{reporting_of, longest_text}
-use Rattle.reporting.specs.declared.Reported.{Reported}
+use Rattle.reporting.specs.declared.TextTooShort.{TextTooShort}
 use Rattle.reporting.proofs.Bounds.{refusal-text-short, table-text-short}
 use Rattle.reporting.proofs.LeastRows.{report-crowded, report-rows}
 
@@ -51,38 +52,38 @@ pub report-whole :
     (script text : List ℕ) → length (report_of script) ≤ length text
     → reporting_of script text
     ≡ record {
-      reply = Reported.Printed (length (report_of script));
+      reply = Ok (length (report_of script));
       text = report_of script ++ drop (length (report_of script)) text;
     }
 report-whole script text room = rw (le-ltb (length text) (length (report_of script)) room) refl
 
 pub report-short :
     (script text : List ℕ) → length text < length (report_of script)
-    → reporting_of script text ≡ record { reply = Reported.TextTooShort (length (report_of script)); text = text }
+    → reporting_of script text ≡ record { reply = Err (record { needed = length (report_of script) }); text = text }
 report-short script text short = rw (lt-ltb (length text) (length (report_of script)) short) refl
 
 pub report-printed :
     (script text : List ℕ) → longest_text ≤ length text
     → reporting_of script text
     ≡ record {
-      reply = Reported.Printed (length (report_of script));
+      reply = Ok (length (report_of script));
       text = report_of script ++ drop (length (report_of script)) text;
     }
 report-printed script text room = report-whole script text (omega (arith, report-fits script))
 
 pub printed-stands :
     (script text : List ℕ) {n : ℕ} {text' : List ℕ}
-    → reporting_of script text ≡ record { reply = Reported.Printed n; text = text' }
+    → reporting_of script text ≡ record { reply = Ok n; text = text' }
     → (n ≡ length (report_of script)) × (text' ≡ report_of script ++ drop (length (report_of script)) text)
 printed-stands script text {n} e =
     elim (dec_le (length (report_of script)) (length text)) [
       | yes room ↦
           let whole = sym e ∙ report-whole script text room in
-          let told : Reported.Printed n ≡ Reported.Printed (length (report_of script)) = ap (λ x. x.reply) whole in
+          let told : ◌≡◌ {A = Result ℕ TextTooShort} (Ok n) (Ok (length (report_of script))) = ap (λ x. x.reply) whole in
           (cc, ap (λ x. x.text) whole)
       | no many ↦
           let short = sym e ∙ report-short script text (omega arith) in
-          let told : Reported.Printed n ≡ Reported.TextTooShort (length (report_of script)) = ap (λ x. x.reply) short in
+          let told : ◌≡◌ {A = Result ℕ TextTooShort} (Ok n) (Err (record { needed = length (report_of script) })) = ap (λ x. x.reply) short in
           let z : ◌≡◌ {A = ℕ} 0 1 = cc in
           absurd (omega arith)
     ]

@@ -9,6 +9,7 @@ use mathlib.Core.List.{List, map}
 use native.Mathlib.Omega.{arith}
 use lib.ListN.{length, drop, take}
 use lib.Seq.{take_at}
+use Rattle.std.specs.Prelude.{Result, Ok, Err}
 use Rattle.script.specs.declared.refusal.Refusal.{Refusal}
 use Rattle.script.specs.declared.refusal.Refusal.TheVariants.{TooManyPieces}
 use Rattle.refinement.specs.Match.{Match}
@@ -17,8 +18,6 @@ use Rattle.rows.proofs.Numbers.{rows_whole}
 use Rattle.refining.specs.Rows.{row_of_piece, piece_numbers}
 use Rattle.refining.specs.Refining.{Given, least_of, capacity_of, work_needed, refining_of_matches, refining_of}
 use Rattle.refining.specs.Demands.{Admitted}
-use Rattle.refining.specs.declared.answers.Refined.{Refined}
-use Rattle.refining.specs.declared.answers.Refined.TheVariants.{Rows, Refused}
 use Rattle.refining.proofs.Standing.{length-numbers}
 use Rattle.refining.proofs.Numbered.{admitted-unique}
 use Rattle.refining.proofs.RefiningCases.{written, matches-crowded, matches-written, short, crowded, writing}
@@ -38,15 +37,15 @@ pub record LeastRows (g : Given) (n : ℕ) (table : List ℕ) : Type 0 where
   pub count : n ≡ length (least_of g)
   pub rows : rows_of (take (row_width * n) table) ≡ map row_of_piece (least_of g)
 
-refused-rows : {r : Refusal} {n : ℕ} → Refused r ≡ Rows n → ⊥
+refused-rows : {r : Refusal} {n : ℕ} → ◌≡◌ {A = Result ℕ Refusal} (Err r) (Ok n) → ⊥
 refused-rows e = let z : ◌≡◌ {A = ℕ} 0 1 = cc in omega arith
 
 pub least_rows : (script table work : List ℕ) {n : ℕ} {g : Given} → Admitted script g
-    → (refining_of script table work).reply ≡ Rows n → LeastRows g n (refining_of script table work).table
+    → (refining_of script table work).reply ≡ Ok n → LeastRows g n (refining_of script table work).table
 least_rows script table work {n} {g} a e = go (case script table work) e
   where
-    matched-rows : (g' : Given) → Admitted script g' → {reply : Refined} {table' work' : List ℕ}
-        → MatchesCase g' table work reply table' work' → reply ≡ Rows n → LeastRows g n table'
+    matched-rows : (g' : Given) → Admitted script g' → {reply : Result ℕ Refusal} {table' work' : List ℕ}
+        → MatchesCase g' table work reply table' work' → reply ≡ Ok n → LeastRows g n table'
     matched-rows g' a' (short _) e = absurd (refused-rows e)
     matched-rows g' a' (crowded _ _) e = absurd (refused-rows e)
     matched-rows g' a' (writing _ _) e =
@@ -54,7 +53,7 @@ least_rows script table work {n} {g} a e = go (case script table work) e
         rw (admitted-unique a a', count)
         (record { count = refl; rows = rows_written (least_of g') table })
 
-    go : {reply : Refined} {table' work' : List ℕ} → Case script table work reply table' work' → reply ≡ Rows n
+    go : {reply : Result ℕ Refusal} {table' work' : List ℕ} → Case script table work reply table' work' → reply ≡ Ok n
         → LeastRows g n table'
     go (refusing _) e = absurd (refused-rows e)
     go (matched {g = g'} a' c) e = matched-rows g' a' c e

@@ -10,13 +10,13 @@ use mathlib.Core.List.{List, [], ◌∷◌}
 use native.Mathlib.Omega.{arith}
 use native.Mathlib.Decide.{dec_le}
 use lib.ListN.{length, take, length-replicate}
+use Rattle.std.specs.Prelude.{Ok}
 use Rattle.script.specs.Reading.{admitted, read_script}
 use Rattle.script.specs.declared.command.Match.{Match as ScriptMatch}
 use Rattle.script.specs.declared.command.Mark.{Mark}
 use Rattle.rows.specs.Rows.{row_width, rows_of}
 use Rattle.refining.specs.Refining.{Given, given_by, least_of, capacity_of, work_needed, refining_of_matches}
 use Rattle.refining.specs.Refining.{refining_of}
-use Rattle.refining.specs.declared.answers.Refined.TheVariants.{Rows}
 use Rattle.refining.proofs.Numbered.{admitted_of}
 use Rattle.reporting.specs.Lines.{table_text}
 use Rattle.reporting.specs.Reporting.{lent_rows, lent_table, lent_work, report_of_refining, report_of}
@@ -52,7 +52,7 @@ report-of-lent s table work {p} {q} {ms} {ks} read rows numbers =
 pub report-of-rows :
     (s table work : List ℕ) {p q n : ℕ} {ms : List ScriptMatch} {ks : List Mark}
     → read_script s ≡ admitted (p ∷ q ∷ []) ms ks
-    → (refining_of s table work).reply ≡ Rows n → n ≤ lent_rows
+    → (refining_of s table work).reply ≡ Ok n → n ≤ lent_rows
     → table_text p q (length ms) (rows_of (take (row_width * n) (refining_of s table work).table)) ≡ report_of s
 unfolding report_of
 report-of-rows s table work {p} {q} {n} {ms} {ks} read replied few =

@@ -19,6 +19,7 @@ use native.Mathlib.Decide.{dec_le}
 use borrow.Author.Tests.{lt-ltb, le-ltb, le-leb}
 use lib.ListN.{length, take, drop, length-map}
 use lib.Seq.{take_at}
+use Rattle.std.specs.Prelude.{Result, Ok, Err}
 use Rattle.script.specs.Limits.{longest}
 use Rattle.script.specs.Reading.{admitted, read_script}
 use Rattle.script.specs.Answers.{value, contents}
@@ -42,12 +43,11 @@ use Rattle.table.proofs.Covers.{cover-counted, counted-alike}
 use Rattle.table.proofs.Laws.{sum_of, between, classes-sum}
 use Rattle.refining.specs.Rows.{row_of_piece}
 use Rattle.refining.specs.Refining.{with_number, numbered, given_by, least_of, refining_of}
-use Rattle.refining.specs.declared.answers.Refined.TheVariants.{Rows}
 use Rattle.refining.proofs.Numbered.{admitted_of, admitted-matches}
 use Rattle.reporting.specs.Lines.{lengths_line, summary_line, row_lines, class_lines}
 use Rattle.reporting.specs.Reporting.{lent_rows, lent_table, lent_work, report_of}
 use Rattle.reporting.specs.Reporting.{reporting_of_text, reporting_of}
-use Rattle.reporting.specs.declared.Reported.TheVariants.{Printed, TextTooShort}
+use Rattle.reporting.specs.declared.TextTooShort.{TextTooShort}
 use Rattle.reporting.specs.LineTwo.{Matched, LineTwo, LineTwoPrinted}
 use Rattle.reporting.proofs.LeastRows.{LeastRows, least_rows, report-rows}
 use Rattle.reporting.proofs.Lent.{lent_rows-lengths}
@@ -143,7 +143,7 @@ module _ (script : List ℕ) {p q : ℕ} {ms : List ScriptMatch} {ks : List Mark
 
   -- ---- the summary
 
-  module _ (table work : List ℕ) {n : ℕ} (success : (refining_of script table work).reply ≡ Rows n) where
+  module _ (table work : List ℕ) {n : ℕ} (success : (refining_of script table work).reply ≡ Ok n) where
     made : LeastRows (given_by ms ks) n (refining_of script table work).table
     made = least_rows script table work (admitted_of read) success
 
@@ -185,7 +185,7 @@ module _ (script : List ℕ) {p q : ℕ} {ms : List ScriptMatch} {ks : List Mark
       }
 
 -- a text that is printed stands at the buffer's start
-printed-whole : (printed text : List ℕ) {n : ℕ} → (reporting_of_text printed text).reply ≡ Printed n
+printed-whole : (printed text : List ℕ) {n : ℕ} → (reporting_of_text printed text).reply ≡ Ok n
     → take n (reporting_of_text printed text).text ≡ printed
 printed-whole printed text {n} e =
     elim (dec_le (length printed) (length text)) [
@@ -198,7 +198,7 @@ printed-whole printed text {n} e =
           absurd (other (rw told at e))
     ]
   where
-    other : TextTooShort (length printed) ≡ Printed n → ⊥
+    other : {e : TextTooShort} → ◌≡◌ {A = Result ℕ TextTooShort} (Err e) (Ok n) → ⊥
     other e = let z : ◌≡◌ {A = ℕ} 0 1 = cc in omega arith
 
 pub line-two-printed : (script text : List ℕ)

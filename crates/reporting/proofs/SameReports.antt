@@ -15,6 +15,7 @@ use mathlib.Core.List.Memᴰ.{head as here}
 use mathlib.Core.List.Memᴰ.{tail as there}
 use native.Mathlib.Omega.{arith}
 use lib.ListN.{length, take}
+use Rattle.std.specs.Prelude.{Result, Ok, Err}
 use Rattle.script.specs.Commands.{bit_of}
 use Rattle.script.specs.Refusals.{number_of, place_of}
 use Rattle.script.specs.Reading.{Reading, admitted, refused, read_script, letters}
@@ -36,8 +37,6 @@ use Rattle.rows.specs.declared.Row.{Row}
 use Rattle.refining.specs.Rows.{row_of_piece}
 use Rattle.refining.specs.Refining.{Given, numbered, given_by, least_of, Refining, refining_of_matches}
 use Rattle.refining.specs.Refining.{refining_of_reading, refining_of}
-use Rattle.refining.specs.declared.answers.Refined.{Refined}
-use Rattle.refining.specs.declared.answers.Refined.TheVariants.{Rows, Refused}
 use Rattle.refining.proofs.Numbered.{admitted_of, admitted-matches}
 use Rattle.refining.proofs.RefiningCases.{refining-refused, MatchesCase, short, crowded, writing, Case, refusing, matched}
 use Rattle.refining.proofs.RefiningCases.{case}
@@ -56,11 +55,11 @@ refined script = refining_of script lent_table lent_work
 
 pub data Says (script : List ℕ) : Said → Type 0 where
   -- the refusal's number and place
-  refuses : {r : Refusal} → (refined script).reply ≡ Refused r → Says script (Said.refusal (number_of r) (place_of r))
+  refuses : {r : Refusal} → (refined script).reply ≡ Err r → Says script (Said.refusal (number_of r) (place_of r))
   -- p and q, the count of matches, and the rows
   lists :
       {p q n : ℕ} {ms : List ScriptMatch} {ks : List Mark} → read_script script ≡ admitted (p ∷ q ∷ []) ms ks
-      → (refined script).reply ≡ Rows n
+      → (refined script).reply ≡ Ok n
       → Says script (Said.table p q (length ms) (rows_in (refined script) n))
 
 -- ---- the numbers of refusals
@@ -87,17 +86,17 @@ outcome-sayable (Outcome.too_many_marks r _ _) = omega (arith, reach-place r)
 outcome-sayable (Outcome.no_such_side r _ _ _) = omega (arith, reach-place r)
 outcome-sayable (Outcome.mark_beyond r _ _ _) = omega (arith, reach-place r)
 
-refusal-sayable : (script table work : List ℕ) {r : Refusal} → (refining_of script table work).reply ≡ Refused r
+refusal-sayable : (script table work : List ℕ) {r : Refusal} → (refining_of script table work).reply ≡ Err r
     → Sayable (Said.refusal (number_of r) (place_of r))
 refusal-sayable script table work {r} e = go (case script table work) e
   where
-    matched-sayable : (g : Given) {reply : Refined} {table' work' : List ℕ} → MatchesCase g table work reply table' work'
-        → reply ≡ Refused r → Sayable (Said.refusal (number_of r) (place_of r))
+    matched-sayable : (g : Given) {reply : Result ℕ Refusal} {table' work' : List ℕ} → MatchesCase g table work reply table' work'
+        → reply ≡ Err r → Sayable (Said.refusal (number_of r) (place_of r))
     matched-sayable g (short _) e = let same : r ≡ WorkTooShort = cc in rw same (omega arith)
     matched-sayable g (crowded _ _) e = let same : r ≡ TooManyPieces = cc in rw same (omega arith)
     matched-sayable g (writing _ _) e = let z : ◌≡◌ {A = ℕ} 0 1 = cc in absurd (omega arith)
 
-    go : {reply : Refined} {table' work' : List ℕ} → Case script table work reply table' work' → reply ≡ Refused r
+    go : {reply : Result ℕ Refusal} {table' work' : List ℕ} → Case script table work reply table' work' → reply ≡ Err r
         → Sayable (Said.refusal (number_of r) (place_of r))
     go (refusing {r = r'} o) e = let same : r ≡ r' = cc in rw same (outcome-sayable o)
     go (matched {g = g} _ c) e = matched-sayable g c e
@@ -133,7 +132,7 @@ piece-printable {r = r} piece number on_a on_b = record {
 table-sayable :
     (script table work : List ℕ) {p q n : ℕ} {ms : List ScriptMatch} {ks : List Mark}
     → read_script script ≡ admitted (p ∷ q ∷ []) ms ks
-    → (refining_of script table work).reply ≡ Rows n
+    → (refining_of script table work).reply ≡ Ok n
     → Sayable (Said.table p q (length ms) (rows_in (refining_of script table work) n))
 table-sayable script table work {p} {q} {n} {ms} {ks} read e = go (read-outcome read)
   where
@@ -156,7 +155,7 @@ table-sayable script table work {p} {q} {n} {ms} {ks} read e = go (read-outcome 
 -- ---- the laws
 
 refused-no-rows : (script table work : List ℕ) {r : Refusal} {n : ℕ} → read_script script ≡ refused r
-    → (refining_of script table work).reply ≡ Rows n → ⊥
+    → (refining_of script table work).reply ≡ Ok n → ⊥
 refused-no-rows script table work read e =
     let replied = refining-refused script table work read in
     let z : ◌≡◌ {A = ℕ} 0 1 = cc in
@@ -165,18 +164,18 @@ refused-no-rows script table work read e =
 pub says-something : (script : List ℕ) → (a : Said) × Says script a
 says-something script = go (read_script script) refl (refined script).reply refl
   where
-    go : (x : Reading) → read_script script ≡ x → (y : Refined) → (refined script).reply ≡ y
+    go : (x : Reading) → read_script script ≡ x → (y : Result ℕ Refusal) → (refined script).reply ≡ y
         → (a : Said) × Says script a
-    go x read (Refined.Refused r) e = (Said.refusal (number_of r) (place_of r), refuses e)
-    go (admitted ls ms ks) read (Refined.Rows n) e =
+    go x read (Err r) e = (Said.refusal (number_of r) (place_of r), refuses e)
+    go (admitted ls ms ks) read (Ok n) e =
         (_, lists (read ∙ ap (λ l. admitted l ms ks) (admitted-ended read).lengths) e)
-    go (refused r) read (Refined.Rows n) e = absurd (refused-no-rows script lent_table lent_work read e)
+    go (refused r) read (Ok n) e = absurd (refused-no-rows script lent_table lent_work read e)
 
 pub says-printed : {script : List ℕ} {a : Said} → Says script a → report_of script ≡ text_of a
 unfolding report_of refining_of
 says-printed {script} (refuses {r} e) = go (read_script script) e
   where
-    go : (x : Reading) → (refining_of_reading x lent_table lent_work).reply ≡ Refused r → report_of_reading x ≡ refusal_text r
+    go : (x : Reading) → (refining_of_reading x lent_table lent_work).reply ≡ Err r → report_of_reading x ≡ refusal_text r
     go (refused r') e = let same : r' ≡ r = cc in ap refusal_text same
     go (admitted ls ms ks) e =
         let x = refining_of_matches (given_by ms ks) lent_table lent_work in

@@ -4,7 +4,7 @@
 --                              numbers of such letters, for A and for B
 --     LineTwoPrinted           what the call that makes the text promises of it
 -- 02, #102, #105 and #106. Assumes nothing.
-use Rattle.std.specs.Prelude.{ℕ, ◌+◌, ◌≤◌, ◌<◌, ◌≡◌, List, [], ◌∷◌, ◌++◌, map, length, take}
+use Rattle.std.specs.Prelude.{ℕ, ◌+◌, ◌≤◌, ◌<◌, ◌≡◌, List, [], ◌∷◌, ◌++◌, map, length, take, Result, Ok}
 use Rattle.script.specs.Reading.{admitted, read_script}
 use Rattle.script.specs.declared.command.Match.{Match as ScriptMatch}
 use Rattle.script.specs.declared.command.Mark.{Mark}
@@ -19,7 +19,7 @@ use Rattle.refining.specs.Rows.{row_of_piece}
 use Rattle.refining.specs.Refining.{given_by, least_of}
 use Rattle.reporting.specs.Lines.{matches, pieces, distinct, covers, line, lengths_line}
 use Rattle.reporting.specs.Reporting.{lent_rows}
-use Rattle.reporting.specs.declared.Reported.{Reported}
+use Rattle.reporting.specs.declared.TextTooShort.{TextTooShort}
 
 -- SCOPE, "Covers": in our own tables in at least one match
 pub record Matched (s : Side) (ms : List ScriptMatch) (h : ℕ) : Type 0 where
@@ -43,7 +43,7 @@ pub record LineTwo (p q : ℕ) (ms : List ScriptMatch) (ks : List Mark) (text : 
   pub counted_b : CountedOnce (Matched B ms) on_b
 
 -- the text of an admitted script whose pieces have room in the program's table
-pub record LineTwoPrinted (script : List ℕ) (reply : Reported) (text : List ℕ) : Type 0 where
-  pub line_two : {n p q : ℕ} {ms : List ScriptMatch} {ks : List Mark} → reply ≡ Reported.Printed n
+pub record LineTwoPrinted (script : List ℕ) (reply : Result ℕ TextTooShort) (text : List ℕ) : Type 0 where
+  pub line_two : {n p q : ℕ} {ms : List ScriptMatch} {ks : List Mark} → reply ≡ Ok n
       → read_script script ≡ admitted (p ∷ q ∷ []) ms ks → length (least_of (given_by ms ks)) ≤ lent_rows
       → LineTwo p q ms ks (take n text)

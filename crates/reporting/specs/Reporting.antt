@@ -8,15 +8,15 @@
 --     Briefly                  what a try with a small table does, by its answer
 --     longest_text              so many bytes are room for every report; that they are is a law
 -- 01, "One run, complete". Assumes nothing.
-use Rattle.std.specs.Prelude.{ℕ, suc, ◌*◌, ◌≡◌, cond, List, ◌++◌, length, take, drop, replicate, ltb}
+use Rattle.std.specs.Prelude.{ℕ, suc, ◌*◌, ◌≡◌, cond, List, ◌++◌, length, take, drop, replicate, ltb, Result, Ok, Err}
 use Rattle.script.specs.Limits.{longest_script}
 use Rattle.script.specs.Reading.{Reading, admitted, refused, read_script, letters, verdict_of}
 use Rattle.script.specs.declared.Verdict.{Verdict}
+use Rattle.script.specs.declared.refusal.Refusal.{Refusal}
 use Rattle.rows.specs.Rows.{row_width, rows_of}
 use Rattle.refining.specs.Refining.{given_by, Refining, refining_of_matches}
-use Rattle.refining.specs.declared.answers.Refined.{Refined}
 use Rattle.reporting.specs.Lines.{refusal_text, table_text}
-use Rattle.reporting.specs.declared.Reported.{Reported}
+use Rattle.reporting.specs.declared.TextTooShort.{TextTooShort}
 use Rattle.reporting.specs.declared.Brief.{Brief}
 
 -- SCOPE, "Input": one byte more than the longest admitted script has
@@ -35,9 +35,9 @@ abbrev pub lent_work : List ℕ
 lent_work = replicate (4 * lent_rows) 0
 
 -- the table's text, of the rows that refining counts; or the refusal's
-abbrev pub report_of_reply : ℕ → ℕ → ℕ → List ℕ → Refined → List ℕ
-report_of_reply p q count table (Refined.Rows n) = table_text p q count (rows_of (take (row_width * n) table))
-report_of_reply p q count table (Refined.Refused r) = refusal_text r
+abbrev pub report_of_reply : ℕ → ℕ → ℕ → List ℕ → Result ℕ Refusal → List ℕ
+report_of_reply p q count table (Ok n) = table_text p q count (rows_of (take (row_width * n) table))
+report_of_reply p q count table (Err r) = refusal_text r
 
 abbrev pub report_of_refining : ℕ → ℕ → ℕ → Refining → List ℕ
 report_of_refining p q count x = report_of_reply p q count x.table x.reply
@@ -52,15 +52,15 @@ unfoldable pub report_of : List ℕ → List ℕ
 report_of script = report_of_reading (read_script script)
 
 pub record Reporting : Type 0 where
-  pub reply : Reported
+  pub reply : Result ℕ TextTooShort
   pub text : List ℕ
 
 -- a text that fits stands at the buffer's start, and the bytes behind it are kept; one that does not is not begun
 abbrev pub reporting_of_text : List ℕ → List ℕ → Reporting
 reporting_of_text printed text =
-    let short : Reporting = record { reply = Reported.TextTooShort (length printed); text = text } in
+    let short : Reporting = record { reply = Err (record { needed = length printed }); text = text } in
     let over = printed ++ drop (length printed) text in
-    let whole : Reporting = record { reply = Reported.Printed (length printed); text = over } in
+    let whole : Reporting = record { reply = Ok (length printed); text = over } in
     cond (ltb (length text) (length printed)) short whole
 
 abbrev pub reporting_of : List ℕ → List ℕ → Reporting
