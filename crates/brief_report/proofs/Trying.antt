@@ -12,7 +12,7 @@ use lib.ListN.{length, take, replicate, length-replicate}
 use Rattle.script.specs.Reading.{read_script, verdict_of}
 use Rattle.script.specs.declared.refusal.Refusal.{Refusal}
 use Rattle.script.specs.declared.Verdict.{Verdict}
-use Rattle.script.proofs.Admitted.{holds-admitted, reading-refused}
+use Rattle.script.proofs.Holding.{holds-admitted, reading-refused}
 use Rattle.rows.specs.Rows.{row_width, rows_of}
 use Rattle.refining.specs.Refining.{refining_of, capacity_of}
 use Rattle.refining.specs.Demands.{value, answer_of, MatchesOutcome, RefiningOutcome}

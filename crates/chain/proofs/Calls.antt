@@ -23,7 +23,7 @@ use Rattle.script.specs.declared.Verdict.{Verdict}
 use Rattle.script.specs.declared.refusal.Refusal.{Refusal}
 use Rattle.script.specs.declared.refusal.Refusal.TheVariants.{WorkTooShort, TooManyPieces, PriceTooHigh, ChainTooShort}
 use Rattle.script.proofs.Outcome.{read-outcome}
-use Rattle.script.proofs.Admitted.{holds-admitted, reading-refused}
+use Rattle.script.proofs.Holding.{holds-admitted, reading-refused}
 use Rattle.rows.specs.Rows.{row_width, rows_of}
 use Rattle.rows.proofs.TableRows.{rows-length}
 use Rattle.refining.specs.Refining.{Given, given_by, least_of, capacity_of, work_needed, zeroed, Refining, refining_of}

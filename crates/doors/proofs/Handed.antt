@@ -18,7 +18,7 @@ use Rattle.script.specs.declared.refusal.Refusal.{Refusal}
 use Rattle.script.specs.declared.refusal.Refusal.TheVariants.{BufferTooShort}
 use Rattle.script.specs.declared.Finding.{Finding}
 use Rattle.script.specs.declared.Verdict.{Verdict}
-use Rattle.script.proofs.Admitted.{holds-admitted, reading-refused}
+use Rattle.script.proofs.Holding.{holds-admitted, reading-refused}
 use Rattle.records.specs.Writing.{writing_of}
 use Rattle.records.specs.Listing.{listing_of}
 use Rattle.records.specs.declared.Written.{Written}

@@ -22,7 +22,7 @@ use Rattle.script.specs.declared.command.Mark.{Mark}
 use Rattle.script.specs.declared.refusal.Refusal.{Refusal}
 use Rattle.script.specs.declared.step.Step.{Step}
 use Rattle.script.specs.declared.Verdict.{Verdict}
-use Rattle.script.proofs.Admitted.{reading-refused}
+use Rattle.script.proofs.Holding.{reading-refused}
 use Rattle.script.proofs.Columns.{column-length, column-next, columns-demand, marks-demand}
 use Rattle.script.proofs.Demands.{reading-demand}
 use Rattle.reader.specs.Walking.{Admits, next_of, MatchPut, MarkPut}

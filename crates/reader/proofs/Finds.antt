@@ -25,7 +25,7 @@ use Rattle.script.specs.declared.refusal.Refusal.{Refusal}
 use Rattle.script.specs.declared.refusal.Refusal.TheVariants.{NoSuchMatch}
 use Rattle.script.specs.declared.Finding.{Finding}
 use Rattle.script.specs.declared.Verdict.{Verdict}
-use Rattle.script.proofs.Admitted.{Holds, holds-admitted}
+use Rattle.script.proofs.Holding.{Holds, holds-admitted}
 use Rattle.script.proofs.Found.{found-zero, found-above, found_at}
 use Rattle.script.proofs.Places.{match-placed}
 use Rattle.reader.specs.Walking.{Admits, match_seen, next_of, no_match, numbered_match}

@@ -24,7 +24,7 @@ use Rattle.script.specs.declared.refusal.Refusal.{Refusal}
 use Rattle.script.specs.declared.refusal.Refusal.TheVariants.{CutShort, TooManyMatches, TooManyMarks}
 use Rattle.script.specs.declared.step.Step.{Step}
 use Rattle.script.proofs.Seen.{Seen, seen}
-use Rattle.script.proofs.Admitted.{Ended, holds-admitted, admitted-ended}
+use Rattle.script.proofs.Holding.{Ended, holds-admitted, admitted-ended}
 use Rattle.script.proofs.Judged.{Weighed, Judged, judged, Measured, Pointed, pointed, Roomy, roomy}
 use Rattle.reader.specs.Walking.{Admits, match_seen, mark_seen, next_of}
 use Rattle.reader.proofs.Progress.{Progress, step-refused}

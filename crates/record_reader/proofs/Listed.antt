@@ -27,7 +27,7 @@ use Rattle.script.specs.declared.command.Mark.{Mark}
 use Rattle.script.specs.declared.step.Step.{Step}
 use Rattle.script.specs.declared.Verdict.{Verdict}
 use Rattle.script.proofs.Outcome.{reach-read}
-use Rattle.script.proofs.Admitted.{holds-admitted, reading-refused}
+use Rattle.script.proofs.Holding.{holds-admitted, reading-refused}
 use Rattle.reader.specs.Walking.{Admits, next_of}
 use Rattle.reader.proofs.Progress.{Progress, progress_start, step-finished, step-taken, step_kept}
 use Rattle.reader.proofs.Walks.{admits-reach, never-refused, next-is}

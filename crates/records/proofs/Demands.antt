@@ -34,7 +34,7 @@ use Rattle.script.specs.declared.step.Judgement.{Judgement}
 use Rattle.script.specs.declared.step.Judgement.TheVariants.{Sound}
 use Rattle.script.proofs.Outcome.{reach-place, reach-range, reach-tracks, reach-within, reach-on}
 use Rattle.script.proofs.Outcome.{read-outcome, outcome-admitted, outcome-refused}
-use Rattle.script.proofs.Admitted.{admitted-ended}
+use Rattle.script.proofs.Holding.{admitted-ended}
 use Rattle.script.proofs.Judged.{Weighed, weighed-judgement, Measured, measured-judgement, Opens, opens-step}
 use Rattle.records.specs.Records.{numbers_of, list_of, records_of, matches_of, point_numbers, point_list, points_of}
 use Rattle.records.specs.Bytes.{bytes_of}

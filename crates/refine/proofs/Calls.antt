@@ -29,7 +29,7 @@ use Rattle.refining_matches.proofs.MarksHeld.{marks_held}
 use Rattle.tracks.specs.Tracks.{marks_of}
 use Rattle.refine.specs.Calls.{ScriptRefined, Roomy, RoomyMarks, Straight, bytes_of}
 use Rattle.refining.specs.declared.answers.Refined.{Refined}
-use Rattle.script.proofs.Admitted.{Holds, holds-admitted, reading-refused, matches-few, marks-few}
+use Rattle.script.proofs.Holding.{Holds, holds-admitted, reading-refused, matches-few, marks-few}
 use Rattle.script.proofs.Columns.{column-length, column-filled}
 use Rattle.refining.proofs.Numbered.{held-admitted, held-fit}
 use Rattle.refining.proofs.Demands.{refining-contract}

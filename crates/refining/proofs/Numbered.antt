@@ -25,7 +25,7 @@ use Rattle.script.specs.Outcomes.{InRange, Within, Outcome}
 use Rattle.script.specs.declared.command.Match.{Match as ScriptMatch}
 use Rattle.script.specs.declared.command.Mark.{Mark}
 use Rattle.script.proofs.Outcome.{reach-within, reach-range, read-outcome, outcome-admitted}
-use Rattle.script.proofs.Admitted.{Holds}
+use Rattle.script.proofs.Holding.{Holds}
 use Rattle.refinement.specs.Order.{◌∈◌, Rising}
 use Rattle.refinement.specs.declared.Side.{Side}
 use Rattle.refinement.specs.declared.Side.TheVariants.{A, B}

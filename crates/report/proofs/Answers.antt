@@ -8,7 +8,7 @@
 use Prim.Native.Nat.{ℕ, ◌≤◌}
 use mathlib.Core.Path.{◌≡◌, refl, sym, ap, ap₂, subst, ◌∙◌}
 use mathlib.Core.List.{List}
-use Rattle.script.proofs.Admitted.{holds-admitted}
+use Rattle.script.proofs.Holding.{holds-admitted}
 use Rattle.refining.specs.Refining.{Refining, refining_of}
 use Rattle.refining.specs.declared.answers.Refined.{Refined}
 use Rattle.refine.specs.Calls.{ScriptRefined}

@@ -26,7 +26,7 @@ use Rattle.script.specs.declared.refusal.Refusal.TheVariants.{WorkTooShort, TooM
 use Rattle.script.specs.declared.command.Match.{Match as ScriptMatch}
 use Rattle.script.specs.declared.command.Mark.{Mark}
 use Rattle.script.proofs.Outcome.{reach-place, reach-range, reach-within, read-outcome}
-use Rattle.script.proofs.Admitted.{admitted-ended}
+use Rattle.script.proofs.Holding.{admitted-ended}
 use Rattle.refinement.specs.declared.Side.TheVariants.{A, B}
 use Rattle.refinement.specs.Order.{◌∈◌}
 use Rattle.refinement.specs.Match.{Match}

@@ -8,18 +8,19 @@ use mathlib.Core.Path.{◌≡◌, refl, ap, subst, ◌∙◌}
 use mathlib.Core.Logic.{inl, inr}
 use mathlib.Core.List.{List}
 use native.Mathlib.Numerals.{add-one}
+use Rattle.std.specs.Prelude.{Result}
 use Rattle.script.specs.Reading.{Reading, admitted, refused, read_script, verdict_of}
 use Rattle.script.specs.Answers.{Answer, value, contents}
 use Rattle.script.specs.Outcomes.{Outcome}
 use Rattle.script.specs.Finding.{finding_of}
 use Rattle.script.specs.Demands.{Counted, verdict_answer, ReadingOutcome, ReadingDemand}
 use Rattle.script.specs.Demands.{finding_answer, FindingOutcome, FindingDemand}
+use Rattle.script.specs.declared.refusal.Refusal.{Refusal}
 use Rattle.script.specs.declared.command.Match.{Match}
 use Rattle.script.specs.declared.command.Mark.{Mark}
-use Rattle.script.specs.declared.Finding.{Finding}
-use Rattle.script.specs.declared.Verdict.{Verdict}
+use Rattle.script.specs.declared.Admitted.{Admitted}
 use Rattle.script.proofs.Outcome.{read-outcome, outcome-admitted, outcome-refused}
-use Rattle.script.proofs.Admitted.{admitted-ended}
+use Rattle.script.proofs.Holding.{admitted-ended}
 use Rattle.script.proofs.Found.{Numbered, none, behind, numbered, found-zero, found-above, found-behind}
 
 -- ---- reading
@@ -38,7 +39,7 @@ module _ (s : List ℕ) where
           let lengths = (admitted-ended e).lengths in
           rw lengths (ReadingOutcome.script_admitted (read-outcome (e ∙ ap (λ l. admitted l ms ks) lengths)))
 
-  module _ {v : Verdict} (is : v ≡ verdict_of (read_script s)) where
+  module _ {v : Result Admitted Refusal} (is : v ≡ verdict_of (read_script s)) where
     pub reading-demand : ReadingDemand s (verdict_answer v)
     reading-demand = rw is (record { stated = reading-stated; alone = λ _ o. reading-alone o })
 
@@ -58,7 +59,7 @@ module _ (s : List ℕ) (number : ℕ) where
   finding-stated : FindingOutcome s number (finding_answer (finding_of (read_script s) number))
   finding-stated = by-reading (read_script s) refl
     where
-      by_number : {ls : List ℕ} {ms : List Match} {ks : List Mark} {f : Finding}
+      by_number : {ls : List ℕ} {ms : List Match} {ks : List Mark} {f : Result Match Refusal}
           → Outcome s (value (contents ls ms ks)) → Numbered ms number f → FindingOutcome s number (finding_answer f)
       by_number o (none h) = FindingOutcome.no_such_match o h
       by_number {ls} {ks = ks} o (behind before after e n) =
@@ -68,7 +69,7 @@ module _ (s : List ℕ) (number : ℕ) where
       by-reading (refused f) e = FindingOutcome.script_refused (read-outcome e)
       by-reading (admitted ls ms ks) e = by_number (read-outcome e) (numbered ms number)
 
-  module _ {f : Finding} (is : f ≡ finding_of (read_script s) number) where
+  module _ {f : Result Match Refusal} (is : f ≡ finding_of (read_script s) number) where
     pub finding-demand : FindingDemand s number (finding_answer f)
     finding-demand = rw is (record { stated = finding-stated; alone = λ _ o. outcome-finding o })
 

@@ -17,6 +17,7 @@ use native.Mathlib.Omega.{arith}
 use native.Mathlib.Decide.{dec_le, ℕ_discrete}
 use native.Mathlib.Nat.{lt_of_not-le}
 use borrow.Author.Tests.{eq-eqb, ne_eqb, lt-ltb, le-ltb, le-leb, lt-leb}
+use Rattle.std.specs.Prelude.{Result, Ok, Err}
 use Rattle.script.specs.Limits.{longest, most_matches, most_marks}
 use Rattle.script.specs.Steps.{in_range, lengths_step, match_judgement, letters_on, mark_judgement}
 use Rattle.script.specs.Steps.{with_room, unless_faulty, match_step, mark_step}
@@ -27,19 +28,17 @@ use Rattle.script.specs.declared.refusal.Refusal.TheVariants.{EmptyMatch, Beyond
 use Rattle.script.specs.declared.refusal.Refusal.TheVariants.{TooManyMarks, NoSuchSide, MarkBeyond}
 use Rattle.script.specs.declared.command.Match.{Match}
 use Rattle.script.specs.declared.command.Mark.{Mark}
-use Rattle.script.specs.declared.step.Judgement.{Judgement}
-use Rattle.script.specs.declared.step.Judgement.TheVariants.{Sound, Faulty}
-use Rattle.script.specs.declared.step.Opening.{Opening}
+use Rattle.script.specs.declared.step.Lengths.{Lengths}
 use Rattle.script.specs.declared.step.Step.{Step}
 
 -- ---- the numbers of a match
 
-pub data Weighed (p q place : ℕ) (m : Match) : Judgement → Type 0 where
-  empty : m.length ≡ 0 → Weighed p q place m (Faulty (EmptyMatch place))
-  beyond_a : 1 ≤ m.length → p < m.left_a + m.length → Weighed p q place m (Faulty (BeyondA place))
+pub data Weighed (p q place : ℕ) (m : Match) : Result (Unit {0}) Refusal → Type 0 where
+  empty : m.length ≡ 0 → Weighed p q place m (Err (EmptyMatch place))
+  beyond_a : 1 ≤ m.length → p < m.left_a + m.length → Weighed p q place m (Err (BeyondA place))
   beyond_b : 1 ≤ m.length → m.left_a + m.length ≤ p → q < m.left_b + m.length
-      → Weighed p q place m (Faulty (BeyondB place))
-  sound : Within p q m → Weighed p q place m Sound
+      → Weighed p q place m (Err (BeyondB place))
+  sound : Within p q m → Weighed p q place m (Ok tt)
 
 pub weighed : (p q place : ℕ) (m : Match) → Weighed p q place m (match_judgement p q place m)
 weighed p q place m =
@@ -55,7 +54,7 @@ weighed p q place m =
           ])
     ]
 
-pub weighed-judgement : {p q place : ℕ} {m : Match} {j : Judgement} → Weighed p q place m j
+pub weighed-judgement : {p q place : ℕ} {m : Match} {j : Result (Unit {0}) Refusal} → Weighed p q place m j
     → match_judgement p q place m ≡ j
 weighed-judgement {m} (empty e) = rw (eq-eqb m.length 0 e)
 weighed-judgement {p} {m} (beyond_a k a) =
@@ -75,10 +74,10 @@ weighed-judgement {p} {q} {m} (sound w) =
 
 -- ---- the numbers of a mark
 
-pub data Measured (p q place : ℕ) (k : Mark) : Judgement → Type 0 where
-  no_side : 1 < k.side → Measured p q place k (Faulty (NoSuchSide place))
-  beyond : PastSequence p q k → Measured p q place k (Faulty (MarkBeyond place))
-  sound : OnSequence p q k → Measured p q place k Sound
+pub data Measured (p q place : ℕ) (k : Mark) : Result (Unit {0}) Refusal → Type 0 where
+  no_side : 1 < k.side → Measured p q place k (Err (NoSuchSide place))
+  beyond : PastSequence p q k → Measured p q place k (Err (MarkBeyond place))
+  sound : OnSequence p q k → Measured p q place k (Ok tt)
 
 -- a mark on A or on B, by the letters there
 data Sided (p q : ℕ) (k : Mark) : Type 0 where
@@ -117,7 +116,7 @@ past-side : {p q : ℕ} {k : Mark} → PastSequence p q k → (k.side ≤ 1) × 
 past-side (PastSequence.past_a e h) = (omega arith, rw e h)
 past-side (PastSequence.past_b e h) = (omega arith, rw e h)
 
-pub measured-judgement : {p q place : ℕ} {k : Mark} {j : Judgement} → Measured p q place k j
+pub measured-judgement : {p q place : ℕ} {k : Mark} {j : Result (Unit {0}) Refusal} → Measured p q place k j
     → mark_judgement p q place k ≡ j
 measured-judgement {k} (no_side h) = rw (lt-ltb 1 k.side h)
 measured-judgement {p} {q} {k = k} (beyond h) =
@@ -127,62 +126,62 @@ measured-judgement {p} {q} {k = k} (sound h) =
 
 -- ---- room for one more
 
-pub data Roomy (most count : ℕ) (full : Refusal) (next : Step) : Step → Type 0 where
-  too_many : most ≤ count → Roomy most count full next (Step.Refuse full)
+pub data Roomy (most count : ℕ) (full : Refusal) (next : Result Step Refusal) : Result Step Refusal → Type 0 where
+  too_many : most ≤ count → Roomy most count full next (Err full)
   room : count < most → Roomy most count full next next
 
-pub roomy : (most count : ℕ) (full : Refusal) (next : Step) → Roomy most count full next (with_room most count full next)
+pub roomy : (most count : ℕ) (full : Refusal) (next : Result Step Refusal) → Roomy most count full next (with_room most count full next)
 roomy most count full next =
     elim (dec_le most count) [
       | yes h ↦ rw (le-leb most count h) (too_many h)
       | no n ↦ let few = lt_of_not-le n in rw (lt-leb most count few) (room few)
     ]
 
-pub roomy-step : {most count : ℕ} {full : Refusal} {next t : Step} → Roomy most count full next t
+pub roomy-step : {most count : ℕ} {full : Refusal} {next t : Result Step Refusal} → Roomy most count full next t
     → with_room most count full next ≡ t
 roomy-step {most} {count} (too_many h) = rw (le-leb most count h)
 roomy-step {most} {count} (room h) = rw (lt-leb most count h)
 
 -- ---- a match command and a mark command
 
-pub data Judged (p q count at : ℕ) (m : Match) : Step → Type 0 where
-  too_many : most_matches ≤ count → Judged p q count at m (Step.Refuse (TooManyMatches at))
-  room : {j : Judgement} → count < most_matches → Weighed p q at m j
-      → Judged p q count at m (unless_faulty j (Step.Take m))
+pub data Judged (p q count at : ℕ) (m : Match) : Result Step Refusal → Type 0 where
+  too_many : most_matches ≤ count → Judged p q count at m (Err (TooManyMatches at))
+  room : {j : Result (Unit {0}) Refusal} → count < most_matches → Weighed p q at m j
+      → Judged p q count at m (unless_faulty j (Ok (Step.Take m)))
 
 pub judged : (p q count at : ℕ) (m : Match) → Judged p q count at m (match_step p q count at m)
 judged p q count at m =
-    go (roomy most_matches count (TooManyMatches at) (unless_faulty (match_judgement p q at m) (Step.Take m)))
+    go (roomy most_matches count (TooManyMatches at) (unless_faulty (match_judgement p q at m) (Ok (Step.Take m))))
   where
-    go : {t : Step}
-        → Roomy most_matches count (TooManyMatches at) (unless_faulty (match_judgement p q at m) (Step.Take m)) t
+    go : {t : Result Step Refusal}
+        → Roomy most_matches count (TooManyMatches at) (unless_faulty (match_judgement p q at m) (Ok (Step.Take m))) t
         → Judged p q count at m t
     go (Roomy.too_many h) = too_many h
     go (Roomy.room h) = room h (weighed p q at m)
 
-pub judged-step : {p q count at : ℕ} {m : Match} {t : Step} → Judged p q count at m t → match_step p q count at m ≡ t
+pub judged-step : {p q count at : ℕ} {m : Match} {t : Result Step Refusal} → Judged p q count at m t → match_step p q count at m ≡ t
 judged-step {count} (too_many h) = roomy-step (Roomy.too_many h)
 judged-step {count} {m} (room h w) =
-    roomy-step (Roomy.room h) ∙ ap (λ j. unless_faulty j (Step.Take m)) (weighed-judgement w)
+    roomy-step (Roomy.room h) ∙ ap (λ j. unless_faulty j (Ok (Step.Take m))) (weighed-judgement w)
 
-pub data Pointed (p q marks at : ℕ) (k : Mark) : Step → Type 0 where
-  too_many : most_marks ≤ marks → Pointed p q marks at k (Step.Refuse (TooManyMarks at))
-  room : {j : Judgement} → marks < most_marks → Measured p q at k j
-      → Pointed p q marks at k (unless_faulty j (Step.Keep k))
+pub data Pointed (p q marks at : ℕ) (k : Mark) : Result Step Refusal → Type 0 where
+  too_many : most_marks ≤ marks → Pointed p q marks at k (Err (TooManyMarks at))
+  room : {j : Result (Unit {0}) Refusal} → marks < most_marks → Measured p q at k j
+      → Pointed p q marks at k (unless_faulty j (Ok (Step.Keep k)))
 
 pub pointed : (p q marks at : ℕ) (k : Mark) → Pointed p q marks at k (mark_step p q marks at k)
 pointed p q marks at k =
-    go (roomy most_marks marks (TooManyMarks at) (unless_faulty (mark_judgement p q at k) (Step.Keep k)))
+    go (roomy most_marks marks (TooManyMarks at) (unless_faulty (mark_judgement p q at k) (Ok (Step.Keep k))))
   where
-    go : {t : Step} → Roomy most_marks marks (TooManyMarks at) (unless_faulty (mark_judgement p q at k) (Step.Keep k)) t
+    go : {t : Result Step Refusal} → Roomy most_marks marks (TooManyMarks at) (unless_faulty (mark_judgement p q at k) (Ok (Step.Keep k))) t
         → Pointed p q marks at k t
     go (Roomy.too_many h) = too_many h
     go (Roomy.room h) = room h (measured p q at k)
 
-pub pointed-step : {p q marks at : ℕ} {k : Mark} {t : Step} → Pointed p q marks at k t → mark_step p q marks at k ≡ t
+pub pointed-step : {p q marks at : ℕ} {k : Mark} {t : Result Step Refusal} → Pointed p q marks at k t → mark_step p q marks at k ≡ t
 pointed-step (too_many h) = roomy-step (Roomy.too_many h)
 pointed-step {k = k} (room h w) =
-    roomy-step (Roomy.room h) ∙ ap (λ j. unless_faulty j (Step.Keep k)) (measured-judgement w)
+    roomy-step (Roomy.room h) ∙ ap (λ j. unless_faulty j (Ok (Step.Keep k))) (measured-judgement w)
 
 -- ---- lengths
 
@@ -204,9 +203,9 @@ ranged n =
           ]
     ]
 
-pub data Opens (p q : ℕ) : Opening → Type 0 where
-  open_them : InRange p → InRange q → Opens p q (Opening.Open p q)
-  out_of_range : (InRange p → InRange q → ⊥) → Opens p q (Opening.Refuse LengthOutOfRange)
+pub data Opens (p q : ℕ) : Result Lengths Refusal → Type 0 where
+  open_them : InRange p → InRange q → Opens p q (Ok (record { p = p; q = q }))
+  out_of_range : (InRange p → InRange q → ⊥) → Opens p q (Err LengthOutOfRange)
 
 pub opens : (p q : ℕ) → Opens p q (lengths_step p q)
 opens p q = go (ranged p) (ranged q)
@@ -216,11 +215,11 @@ opens p q = go (ranged p) (ranged q)
     go (inside a) (outside n e) = rw (in-range a, e) (out_of_range (λ _ b. n b))
     go (outside n e) b = rw e (out_of_range (λ a _. n a))
 
-pub opens-step : {p q : ℕ} {o : Opening} → Opens p q o → lengths_step p q ≡ o
+pub opens-step : {p q : ℕ} {o : Result Lengths Refusal} → Opens p q o → lengths_step p q ≡ o
 opens-step (open_them a b) = rw (in-range a, in-range b)
 opens-step {p} {q} (out_of_range n) = go (ranged p) (ranged q)
   where
-    go : Ranged p → Ranged q → lengths_step p q ≡ Opening.Refuse LengthOutOfRange
+    go : Ranged p → Ranged q → lengths_step p q ≡ Err LengthOutOfRange
     go (inside a) (inside b) = absurd (n a b)
     go (inside a) (outside _ e) = rw (in-range a, e)
     go (outside _ e) b = rw e

@@ -4,7 +4,7 @@ pub mod Judged
 pub mod Named
 pub mod Outcome
 pub mod Prefix
-pub mod Admitted
+pub mod Holding
 pub mod Found
 pub mod Places
 pub mod Stores

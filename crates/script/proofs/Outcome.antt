@@ -26,6 +26,7 @@ use native.Mathlib.Nat.{lt_of_not-le}
 use native.Mathlib.Numerals.{sub-one}
 use lib.ListN.{length, get_or, drop, length-append}
 use lib.Seq.{drop-drop}
+use Rattle.std.specs.Prelude.{Result, Err}
 use Rattle.script.specs.Limits.{most_matches, most_marks}
 use Rattle.script.specs.Commands.{lengths_width, match_width, mark_width, number_at}
 use Rattle.script.specs.Steps.{opening_of, step_of}
@@ -39,9 +40,8 @@ use Rattle.script.specs.declared.refusal.Refusal.TheVariants.{Headless, CutShort
 use Rattle.script.specs.declared.command.Match.{Match}
 use Rattle.script.specs.declared.command.Mark.{Mark}
 use Rattle.script.specs.declared.command.Command.{Command}
-use Rattle.script.specs.declared.command.Command.TheVariants.{Lengths}
 use Rattle.script.specs.declared.step.Step.{Step}
-use Rattle.script.specs.declared.step.Opening.{Opening}
+use Rattle.script.specs.declared.step.Lengths.{Lengths}
 use Rattle.script.proofs.Seen.{Seen, whole-match, whole-mark, seen, seen-command}
 use Rattle.script.proofs.Judged.{Weighed, Judged, judged, judged-step, Measured, Pointed, pointed, pointed-step}
 use Rattle.script.proofs.Judged.{Roomy, roomy, roomy-step, Opens, opens, opens-step}
@@ -101,7 +101,7 @@ behind_lengths s p q = read_from (length s) p q lengths_width [] [] (drop length
 abbrev pub behind_command : List ℕ → ℕ → ℕ → ℕ → ℕ → ℕ → List Match → List Mark → Reading
 behind_command s bytes p q at width ms ks = read_from bytes p q (at + width) ms ks (drop (at + width) s)
 
-step-at : (s : List ℕ) (p q at bytes : ℕ) (ms : List Match) (ks : List Mark) {c : Command} {t : Step} → 0 < bytes
+step-at : (s : List ℕ) (p q at bytes : ℕ) (ms : List Match) (ks : List Mark) {c : Command} {t : Result Step Refusal} → 0 < bytes
     → Seen s at c → step_of p q (length ms) (length ks) at c ≡ t
     → read_from bytes p q at ms ks (drop at s) ≡ after_step p q ms ks t (behind_command s (bytes - 1) p q at)
 unfolding read_from
@@ -111,12 +111,12 @@ step-at s p q at (suc bytes) ms ks {t = t} h k e =
     (ap (after_step p q ms ks t) (λ i width ms' ks'. read_from bytes p q (at + width) ms' ks' (drop-drop width at s i)))
 
 -- the first command of a script
-pub opening-at : (s : List ℕ) {c : Command} {o : Opening} → Seen s 0 c → opening_of c ≡ o
+pub opening-at : (s : List ℕ) {c : Command} {o : Result Lengths Refusal} → Seen s 0 c → opening_of c ≡ o
     → read_script s ≡ after_opening o (behind_lengths s)
 unfolding read_script
 opening-at s k e = rw (seen-command s 0 k, e)
 
-lengths-seen : {s : List ℕ} {p q : ℕ} → LengthsAt s p q → Seen s 0 (Lengths p q)
+lengths-seen : {s : List ℕ} {p q : ℕ} → LengthsAt s p q → Seen s 0 (Command.Lengths p q)
 lengths-seen l = rw (l.first, l.second) (Seen.lengths l.code l.whole)
 
 -- ---- any outcome that applies is the computed reading
@@ -143,25 +143,25 @@ module _ {s : List ℕ} {p q : ℕ} where
       ∙ ap (λ (n : ℕ). behind_command s n p q at mark_width ms (ks ++ k ∷ [])) (omega (arith, length-snoc ks k))
 
   -- reading comes to what the next command does
-  pub reach-ends : {at : ℕ} {ms : List Match} {ks : List Mark} {c : Command} {t : Step} → Reach s p q at ms ks
+  pub reach-ends : {at : ℕ} {ms : List Match} {ks : List Mark} {c : Command} {t : Result Step Refusal} → Reach s p q at ms ks
       → Seen s at c → step_of p q (length ms) (length ks) at c ≡ t
       → read_script s ≡ after_step p q ms ks t (behind_command s (left s ms ks - 1) p q at)
   reach-ends {at} {ms} {ks} r k e =
       reach-read r ∙ step-at s p q at (left s ms ks) ms ks (omega (arith, reach-place r, reach-inside r)) k e
 
   -- and the answer is in 01's words what that command does
-  ends-answer : {at : ℕ} {ms : List Match} {ks : List Mark} {c : Command} {t : Step} → Reach s p q at ms ks
+  ends-answer : {at : ℕ} {ms : List Match} {ks : List Mark} {c : Command} {t : Result Step Refusal} → Reach s p q at ms ks
       → Seen s at c → step_of p q (length ms) (length ks) at c ≡ t
       → reading_answer (read_script s)
       ≡ reading_answer (after_step p q ms ks t (behind_command s (left s ms ks - 1) p q at))
   ends-answer r k e = ap reading_answer (reach-ends r k e)
 
-opening-answer : (s : List ℕ) {c : Command} {o : Opening} → Seen s 0 c → opening_of c ≡ o
+opening-answer : (s : List ℕ) {c : Command} {o : Result Lengths Refusal} → Seen s 0 c → opening_of c ≡ o
     → reading_answer (read_script s)
     ≡ reading_answer (after_opening o (behind_lengths s))
 opening-answer s k e = ap reading_answer (opening-at s k e)
 
-not-lengths : {s : List ℕ} → (Byte s 0 0x4C → ⊥) → {c : Command} → Seen s 0 c → opening_of c ≡ Opening.Refuse Headless
+not-lengths : {s : List ℕ} → (Byte s 0 0x4C → ⊥) → {c : Command} → Seen s 0 c → opening_of c ≡ Err Headless
 not-lengths n (Seen.missing _) = refl
 not-lengths n (Seen.unknown _ _ _ _ _ _) = refl
 not-lengths n (Seen.lengths b _) = absurd (n b)
@@ -238,14 +238,14 @@ Onward s p q at onward =
     → Outcome s (reading_answer (onward width ms ks))
 
 -- a command that is cut short, by whether there is room for it
-short-stated : {s : List ℕ} (p q : ℕ) {at most count : ℕ} {full : Refusal} (ms : List Match) (ks : List Mark) {t : Step}
-    → Roomy most count full (Step.Refuse (CutShort at)) t → (onward : ℕ → List Match → List Mark → Reading)
+short-stated : {s : List ℕ} (p q : ℕ) {at most count : ℕ} {full : Refusal} (ms : List Match) (ks : List Mark) {t : Result Step Refusal}
+    → Roomy most count full (Err (CutShort at)) t → (onward : ℕ → List Match → List Mark → Reading)
     → (most ≤ count → Outcome s (reading_answer (refused full))) → (count < most → Short s at)
     → Outcome s (reading_answer (after_step p q ms ks t onward))
 short-stated p q ms ks (Roomy.too_many h) onward crowded short = crowded h
 short-stated p q ms ks (Roomy.room h) onward crowded short = Outcome.cut_short (short h)
 
-match-stated : {s : List ℕ} {p q at : ℕ} {ms : List Match} {ks : List Mark} {m : Match} {t : Step}
+match-stated : {s : List ℕ} {p q at : ℕ} {ms : List Match} {ks : List Mark} {m : Match} {t : Result Step Refusal}
     → Reach s p q at ms ks → MatchAt s at m → Judged p q (length ms) at m t
     → (onward : ℕ → List Match → List Mark → Reading) → Onward s p q at onward
     → Outcome s (reading_answer (after_step p q ms ks t onward))
@@ -256,7 +256,7 @@ match-stated r d (Judged.room room (Weighed.beyond_b k a b)) onward next = Outco
 match-stated {ms} {ks} {m} r d (Judged.room room (Weighed.sound w)) onward next =
     next match_width (ms ++ m ∷ []) ks (taken r room d w) (omega arith)
 
-mark-stated : {s : List ℕ} {p q at : ℕ} {ms : List Match} {ks : List Mark} {k : Mark} {t : Step}
+mark-stated : {s : List ℕ} {p q at : ℕ} {ms : List Match} {ks : List Mark} {k : Mark} {t : Result Step Refusal}
     → Reach s p q at ms ks → MarkAt s at k → Pointed p q (length ks) at k t
     → (onward : ℕ → List Match → List Mark → Reading) → Onward s p q at onward
     → Outcome s (reading_answer (after_step p q ms ks t onward))
@@ -276,12 +276,12 @@ step-stated r (Seen.lengths_short b _) onward next = Outcome.second_lengths r b
 step-stated {p} {q} {at} {ms} r (Seen.pairing {m} d) onward next =
     match-stated r d (judged p q (length ms) at m) onward next
 step-stated {p} {q} {at} {ms} {ks} r (Seen.pairing_short b h) onward next =
-    short-stated p q ms ks (roomy most_matches (length ms) (TooManyMatches at) (Step.Refuse (CutShort at))) onward
+    short-stated p q ms ks (roomy most_matches (length ms) (TooManyMatches at) (Err (CutShort at))) onward
     (λ full. Outcome.too_many_matches r (omega (arith, reach-place r)) b) (λ room. Short.pairing r room b h)
 step-stated {p} {q} {at} {ks = ks} r (Seen.marking {k} d) onward next =
     mark-stated r d (pointed p q (length ks) at k) onward next
 step-stated {p} {q} {at} {ms} {ks} r (Seen.marking_short b h) onward next =
-    short-stated p q ms ks (roomy most_marks (length ks) (TooManyMarks at) (Step.Refuse (CutShort at))) onward
+    short-stated p q ms ks (roomy most_marks (length ks) (TooManyMarks at) (Err (CutShort at))) onward
     (λ full. Outcome.too_many_marks r (omega (arith, reach-place r)) b) (λ room. Short.marking r room b h)
 step-stated r (Seen.end b h) onward next = Outcome.is_admitted r b h
 step-stated r (Seen.end_then_more b h) onward next = Outcome.tail r b h
@@ -302,7 +302,7 @@ match-byte : {s : List ℕ} {way : Bool} → MatchByte s 0 way → Outcome s (re
 match-byte (MatchByte.direct b) = other_byte (omega arith) b
 match-byte (MatchByte.backward b) = other_byte (omega arith) b
 
-lengths-stated : {s : List ℕ} {p q : ℕ} {o : Opening} → LengthsAt s p q → Opens p q o
+lengths-stated : {s : List ℕ} {p q : ℕ} {o : Result Lengths Refusal} → LengthsAt s p q → Opens p q o
     → Outcome s (reading_answer (after_opening o (behind_lengths s)))
 lengths-stated {s} l (Opens.open_them a b) = from-stated (length s) (opened l a b) (omega arith)
 lengths-stated l (Opens.out_of_range n) = Outcome.length_out_of_range l n

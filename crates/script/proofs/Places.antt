@@ -13,7 +13,7 @@ use Rattle.script.specs.Outcomes.{MatchAt, Reach, opened, taken, marked}
 use Rattle.script.specs.declared.command.Match.{Match}
 use Rattle.script.specs.declared.command.Mark.{Mark}
 use Rattle.script.proofs.Outcome.{reach-place}
-use Rattle.script.proofs.Admitted.{admitted-ended}
+use Rattle.script.proofs.Holding.{admitted-ended}
 
 reach-match : {s : List ℕ} {p q at : ℕ} {ms : List Match} {ks : List Mark} → Reach s p q at ms ks → length ks ≡ 0
     → (k : ℕ) → k < length ms → (blank : Match) → MatchAt s (9 + 13 * k) (get_or ms k blank)

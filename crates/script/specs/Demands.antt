@@ -11,23 +11,23 @@
 --     FindingDemand        exactly one outcome's condition is met, and it is the answer
 -- 01, "The script" and "Refused scripts and calls"; 02, #106. `proofs/Demands` shows that `verdict_of` and `finding_of`
 -- meet the demands, `proofs/Columns` that `column_of` does. Assumes nothing.
-use Rattle.std.specs.Prelude.{ℕ, ◌+◌, ◌≤◌, ◌<◌, ◌≡◌, ◌⊎◌, Bool, List, [], ◌∷◌, ◌++◌, length, get_or}
+use Rattle.std.specs.Prelude.{ℕ, ◌+◌, ◌≤◌, ◌<◌, ◌≡◌, ◌⊎◌, Bool, List, [], ◌∷◌, ◌++◌, length, get_or, Result, Ok, Err}
 use Rattle.script.specs.Refusals.{number_of, place_of}
 use Rattle.script.specs.Answers.{Answer, value, refusal, Contents, contents}
 use Rattle.script.specs.Outcomes.{Outcome}
+use Rattle.script.specs.declared.refusal.Refusal.{Refusal}
 use Rattle.script.specs.declared.command.Match.{Match}
 use Rattle.script.specs.declared.command.Mark.{Mark}
-use Rattle.script.specs.declared.Finding.{Finding}
-use Rattle.script.specs.declared.Verdict.{Verdict}
+use Rattle.script.specs.declared.Admitted.{Admitted}
 
 -- ---- reading
 
 pub data Counted : Type 0 where
   counted : (p q count marks : ℕ) → Counted
 
-abbrev pub verdict_answer : Verdict → Answer Counted
-verdict_answer (Verdict.Admitted p q count marks) = value (counted p q count marks)
-verdict_answer (Verdict.Refused f) = refusal (number_of f) (place_of f)
+abbrev pub verdict_answer : Result Admitted Refusal → Answer Counted
+verdict_answer (Ok a) = value (counted a.p a.q a.count a.marks)
+verdict_answer (Err f) = refusal (number_of f) (place_of f)
 
 pub data ReadingOutcome (s : List ℕ) : Answer Counted → Type 0 where
   -- 1 to 10, 19 to 21: the script's own refusal
@@ -79,9 +79,9 @@ pub record MarksDemand (s sides positions sides' positions' : List ℕ) : Type 0
 
 -- ---- finding
 
-abbrev pub finding_answer : Finding → Answer Match
-finding_answer (Finding.Found m) = value m
-finding_answer (Finding.Refused f) = refusal (number_of f) (place_of f)
+abbrev pub finding_answer : Result Match Refusal → Answer Match
+finding_answer (Ok m) = value m
+finding_answer (Err f) = refusal (number_of f) (place_of f)
 
 pub data FindingOutcome (script : List ℕ) (number : ℕ) : Answer Match → Type 0 where
   -- 1 to 10, 19 to 21: the script's own refusal

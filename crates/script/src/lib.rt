@@ -10,20 +10,11 @@ pub mod step;
 pub use command::{Mark, Match};
 pub use refusal::Refusal;
 
+// What is told of an admitted script: its two lengths, and how many matches and marks it has.
 #[derive(Clone, Copy)]
-pub enum Verdict {
-    Admitted {
-        p: u32,
-        q: u32,
-        count: usize,
-        marks: usize,
-    },
-    Refused(Refusal),
-}
-
-// One match by its number, or why there is none.
-#[derive(Clone, Copy)]
-pub enum Finding {
-    Found(Match),
-    Refused(Refusal),
+pub struct Admitted {
+    pub p: u32,
+    pub q: u32,
+    pub count: usize,
+    pub marks: usize,
 }

@@ -1,25 +1,16 @@
-// What one command does to the script read so far, and whether a match or a mark has a fault.
+// What one command does to the script read so far, where it has no fault.
 use crate::command::{Mark, Match};
-use crate::refusal::Refusal;
 
-// Whether a match or a mark, in a script or in a list, or a whole list has a fault.
+// The letters of A and of B, which the first command tells.
 #[derive(Clone, Copy)]
-pub enum Judgement {
-    Sound,
-    Faulty(Refusal),
-}
-
-// What the first command does.
-#[derive(Clone, Copy)]
-pub enum Opening {
-    Refuse(Refusal),
-    Open { p: u32, q: u32 },
+pub struct Lengths {
+    pub p: u32,
+    pub q: u32,
 }
 
 // What a later command does.
 #[derive(Clone, Copy)]
 pub enum Step {
-    Refuse(Refusal),
     Finish,
     Take(Match),
     Keep(Mark),

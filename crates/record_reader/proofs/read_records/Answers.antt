@@ -2,7 +2,7 @@
 -- The demand follows from the equations. Assumes nothing.
 use mathlib.Core.Logic.{inl, inr}
 use native.Mathlib.Omega.{arith}
-use Rattle.script.proofs.Admitted.{holds-admitted}
+use Rattle.script.proofs.Holding.{holds-admitted}
 use Rattle.record_reader.proofs.Listed.{unread-listed, short-listed, whole-listed}
 use Rattle.record_reader.proofs.read_records.Goals as goal
 

@@ -4,7 +4,7 @@ use Rattle.std.proofs.Common.{◌≡◌}
 use Rattle.script.specs.Reading.{read_script}
 use Rattle.script.specs.Finding.{finding_of}
 use Rattle.script.specs.declared.Finding.{Finding}
-use Rattle.script.proofs.Admitted.{reading-refused}
+use Rattle.script.proofs.Holding.{reading-refused}
 use Rattle.script.proofs.Demands.{finding-demand}
 use Rattle.reader.proofs.find.find_match.Goals as goal
 

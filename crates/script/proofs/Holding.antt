@@ -8,10 +8,11 @@
 --     matches-few, marks-few    and no more matches and marks than its bytes have room for
 -- Assumes nothing.
 use Prim.Native.Nat.{ℕ, ◌+◌, ◌*◌, ◌≤◌}
-use mathlib.Core.Path.{◌≡◌, refl, sym, ap, ◌∙◌}
+use mathlib.Core.Path.{◌≡◌, refl, sym, ap, subst, ◌∙◌}
 use mathlib.Core.List.{List, [], ◌∷◌, Memᴰ}
 use native.Mathlib.Omega.{arith}
 use lib.ListN.{length}
+use Rattle.std.specs.Prelude.{Result, Ok, Err}
 use Rattle.script.specs.Limits.{most_matches, most_marks, longest_script}
 use Rattle.script.specs.Commands.{match_width, mark_width}
 use Rattle.script.specs.Reading.{Reading, admitted, refused, read_script, verdict_of}
@@ -21,7 +22,7 @@ use Rattle.script.specs.Outcomes.{InRange, Within, OnSequence, Reach, Outcome}
 use Rattle.script.specs.declared.refusal.Refusal.{Refusal}
 use Rattle.script.specs.declared.command.Match.{Match}
 use Rattle.script.specs.declared.command.Mark.{Mark}
-use Rattle.script.specs.declared.Verdict.{Verdict}
+use Rattle.script.specs.declared.Admitted.{Admitted}
 use Rattle.script.proofs.Outcome.{reach-place, reach-tracks, reach-within, reach-on, reach-range, read-outcome}
 
 -- the end behind the good commands of an admitted script
@@ -98,29 +99,24 @@ holds ms ks e reach =
       on_sequence = λ x. reach-on reach x;
     }
 
-module _ (s : List ℕ) {told : Verdict} (reads : told ≡ verdict_of (read_script s)) where
+module _ (s : List ℕ) {told : Result Admitted Refusal} (reads : told ≡ verdict_of (read_script s)) where
   -- the verdict is the reading's own
-  verdict-of : {v : Verdict} {reading : Reading} → told ≡ v → read_script s ≡ reading → verdict_of reading ≡ v
+  verdict-of : {v : Result Admitted Refusal} {reading : Reading} → told ≡ v → read_script s ≡ reading → verdict_of reading ≡ v
   verdict-of v x = sym (ap verdict_of x) ∙ sym reads ∙ v
 
-  pub holds-admitted : {p q count marks : ℕ} → told ≡ Verdict.Admitted p q count marks → Holds s p q count marks
-  holds-admitted {p} {q} {count} {marks} v = go (read_script s) refl
+  pub holds-admitted : {a : Admitted} → told ≡ Ok a → Holds s a.p a.q a.count a.marks
+  holds-admitted {a} v = go (read_script s) refl
     where
-      go : (reading : Reading) → read_script s ≡ reading → Holds s p q count marks
+      go : (reading : Reading) → read_script s ≡ reading → Holds s a.p a.q a.count a.marks
       go (refused f) x = let d = verdict-of v x in let z : ◌≡◌ {A = ℕ} 0 1 = cc in absurd (omega arith)
       go (admitted ls ms ks) x =
           let end = admitted-ended x in
-          let lengths = end.lengths in
-          let x' : read_script s ≡ admitted (end.p ∷ end.q ∷ []) ms ks = x ∙ ap (λ l. admitted l ms ks) lengths in
-          let d : Verdict.Admitted end.p end.q (length ms) (length ks) ≡ Verdict.Admitted p q count marks =
-          verdict-of v x' in
-          let ep : p ≡ end.p = cc in
-          let eq : q ≡ end.q = cc in
-          let ec : count ≡ length ms = cc in
-          let ek : marks ≡ length ks = cc in
-          rw (ep, eq, ec, ek) (holds ms ks x' end.reach)
+          let x' : read_script s ≡ admitted (end.p ∷ end.q ∷ []) ms ks = x ∙ ap (λ l. admitted l ms ks) end.lengths in
+          let d = verdict-of v x' in
+          let same : record { p = end.p; q = end.q; count = length ms; marks = length ks } ≡ a = cc in
+          subst (λ (a : Admitted). Holds s a.p a.q a.count a.marks) same (holds ms ks x' end.reach)
 
-  pub reading-refused : {f : Refusal} → told ≡ Verdict.Refused f → read_script s ≡ refused f
+  pub reading-refused : {f : Refusal} → told ≡ Err f → read_script s ≡ refused f
   reading-refused {f} v = go (read_script s) refl
     where
       go : (reading : Reading) → read_script s ≡ reading → read_script s ≡ refused f
