@@ -1,5 +1,4 @@
--- `runs::lower_bound` meets its contract. The invariant: all numbers before `at` are less than x, and all
--- from `at + size` on are not. The measure is `size`.
+-- The invariant: what `at` and `size` leave brackets the bound.
 -- Assumes nothing.
 use Rattle.runs.proofs.Searching.{Bracket}
 use Rattle.runs.proofs.lower_bound.Given as goal
