@@ -101,7 +101,8 @@ holds ms ks e reach =
 
 module _ (s : List ℕ) {told : Result Admitted Refusal} (reads : told ≡ verdict_of (read_script s)) where
   -- the verdict is the reading's own
-  verdict-of : {v : Result Admitted Refusal} {reading : Reading} → told ≡ v → read_script s ≡ reading → verdict_of reading ≡ v
+  verdict-of : {v : Result Admitted Refusal} {reading : Reading} → told ≡ v → read_script s ≡ reading
+      → verdict_of reading ≡ v
   verdict-of v x = sym (ap verdict_of x) ∙ sym reads ∙ v
 
   pub holds-admitted : {a : Admitted} → told ≡ Ok a → Holds s a.p a.q a.count a.marks

@@ -130,7 +130,8 @@ pub data Roomy (most count : ℕ) (full : Refusal) (next : Result Step Refusal) 
   too_many : most ≤ count → Roomy most count full next (Err full)
   room : count < most → Roomy most count full next next
 
-pub roomy : (most count : ℕ) (full : Refusal) (next : Result Step Refusal) → Roomy most count full next (with_room most count full next)
+pub roomy : (most count : ℕ) (full : Refusal) (next : Result Step Refusal)
+    → Roomy most count full next (with_room most count full next)
 roomy most count full next =
     elim (dec_le most count) [
       | yes h ↦ rw (le-leb most count h) (too_many h)
@@ -159,7 +160,8 @@ judged p q count at m =
     go (Roomy.too_many h) = too_many h
     go (Roomy.room h) = room h (weighed p q at m)
 
-pub judged-step : {p q count at : ℕ} {m : Match} {t : Result Step Refusal} → Judged p q count at m t → match_step p q count at m ≡ t
+pub judged-step : {p q count at : ℕ} {m : Match} {t : Result Step Refusal} → Judged p q count at m t
+    → match_step p q count at m ≡ t
 judged-step {count} (too_many h) = roomy-step (Roomy.too_many h)
 judged-step {count} {m} (room h w) =
     roomy-step (Roomy.room h) ∙ ap (λ j. unless_faulty j (Ok (Step.Take m))) (weighed-judgement w)
@@ -173,12 +175,14 @@ pub pointed : (p q marks at : ℕ) (k : Mark) → Pointed p q marks at k (mark_s
 pointed p q marks at k =
     go (roomy most_marks marks (TooManyMarks at) (unless_faulty (mark_judgement p q at k) (Ok (Step.Keep k))))
   where
-    go : {t : Result Step Refusal} → Roomy most_marks marks (TooManyMarks at) (unless_faulty (mark_judgement p q at k) (Ok (Step.Keep k))) t
+    go : {t : Result Step Refusal}
+        → Roomy most_marks marks (TooManyMarks at) (unless_faulty (mark_judgement p q at k) (Ok (Step.Keep k))) t
         → Pointed p q marks at k t
     go (Roomy.too_many h) = too_many h
     go (Roomy.room h) = room h (measured p q at k)
 
-pub pointed-step : {p q marks at : ℕ} {k : Mark} {t : Result Step Refusal} → Pointed p q marks at k t → mark_step p q marks at k ≡ t
+pub pointed-step : {p q marks at : ℕ} {k : Mark} {t : Result Step Refusal} → Pointed p q marks at k t
+    → mark_step p q marks at k ≡ t
 pointed-step (too_many h) = roomy-step (Roomy.too_many h)
 pointed-step {k = k} (room h w) =
     roomy-step (Roomy.room h) ∙ ap (λ j. unless_faulty j (Ok (Step.Keep k))) (measured-judgement w)

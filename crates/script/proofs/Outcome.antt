@@ -101,8 +101,8 @@ behind_lengths s p q = read_from (length s) p q lengths_width [] [] (drop length
 abbrev pub behind_command : List ℕ → ℕ → ℕ → ℕ → ℕ → ℕ → List Match → List Mark → Reading
 behind_command s bytes p q at width ms ks = read_from bytes p q (at + width) ms ks (drop (at + width) s)
 
-step-at : (s : List ℕ) (p q at bytes : ℕ) (ms : List Match) (ks : List Mark) {c : Command} {t : Result Step Refusal} → 0 < bytes
-    → Seen s at c → step_of p q (length ms) (length ks) at c ≡ t
+step-at : (s : List ℕ) (p q at bytes : ℕ) (ms : List Match) (ks : List Mark) {c : Command} {t : Result Step Refusal}
+    → 0 < bytes → Seen s at c → step_of p q (length ms) (length ks) at c ≡ t
     → read_from bytes p q at ms ks (drop at s) ≡ after_step p q ms ks t (behind_command s (bytes - 1) p q at)
 unfolding read_from
 step-at s p q at zero ms ks h k e = absurd (omega arith)
@@ -143,15 +143,15 @@ module _ {s : List ℕ} {p q : ℕ} where
       ∙ ap (λ (n : ℕ). behind_command s n p q at mark_width ms (ks ++ k ∷ [])) (omega (arith, length-snoc ks k))
 
   -- reading comes to what the next command does
-  pub reach-ends : {at : ℕ} {ms : List Match} {ks : List Mark} {c : Command} {t : Result Step Refusal} → Reach s p q at ms ks
-      → Seen s at c → step_of p q (length ms) (length ks) at c ≡ t
+  pub reach-ends : {at : ℕ} {ms : List Match} {ks : List Mark} {c : Command} {t : Result Step Refusal}
+      → Reach s p q at ms ks → Seen s at c → step_of p q (length ms) (length ks) at c ≡ t
       → read_script s ≡ after_step p q ms ks t (behind_command s (left s ms ks - 1) p q at)
   reach-ends {at} {ms} {ks} r k e =
       reach-read r ∙ step-at s p q at (left s ms ks) ms ks (omega (arith, reach-place r, reach-inside r)) k e
 
   -- and the answer is in 01's words what that command does
-  ends-answer : {at : ℕ} {ms : List Match} {ks : List Mark} {c : Command} {t : Result Step Refusal} → Reach s p q at ms ks
-      → Seen s at c → step_of p q (length ms) (length ks) at c ≡ t
+  ends-answer : {at : ℕ} {ms : List Match} {ks : List Mark} {c : Command} {t : Result Step Refusal}
+      → Reach s p q at ms ks → Seen s at c → step_of p q (length ms) (length ks) at c ≡ t
       → reading_answer (read_script s)
       ≡ reading_answer (after_step p q ms ks t (behind_command s (left s ms ks - 1) p q at))
   ends-answer r k e = ap reading_answer (reach-ends r k e)
@@ -238,8 +238,9 @@ Onward s p q at onward =
     → Outcome s (reading_answer (onward width ms ks))
 
 -- a command that is cut short, by whether there is room for it
-short-stated : {s : List ℕ} (p q : ℕ) {at most count : ℕ} {full : Refusal} (ms : List Match) (ks : List Mark) {t : Result Step Refusal}
-    → Roomy most count full (Err (CutShort at)) t → (onward : ℕ → List Match → List Mark → Reading)
+short-stated : {s : List ℕ} (p q : ℕ) {at most count : ℕ} {full : Refusal} (ms : List Match) (ks : List Mark)
+    {t : Result Step Refusal} → Roomy most count full (Err (CutShort at)) t
+    → (onward : ℕ → List Match → List Mark → Reading)
     → (most ≤ count → Outcome s (reading_answer (refused full))) → (count < most → Short s at)
     → Outcome s (reading_answer (after_step p q ms ks t onward))
 short-stated p q ms ks (Roomy.too_many h) onward crowded short = crowded h

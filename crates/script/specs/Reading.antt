@@ -22,7 +22,8 @@ pub data Reading : Type 0 where
   refused : Refusal → Reading
 
 -- the reading after a step: it ends, or goes on behind one more match or mark, which is so many bytes wide
-abbrev pub after_step : ℕ → ℕ → List Match → List Mark → Result Step Refusal → (ℕ → List Match → List Mark → Reading) → Reading
+abbrev pub after_step : ℕ → ℕ → List Match → List Mark → Result Step Refusal
+    → (ℕ → List Match → List Mark → Reading) → Reading
 after_step p q ms ks (Err r) onward = refused r
 after_step p q ms ks (Ok Step.Finish) onward = admitted (p ∷ q ∷ []) ms ks
 after_step p q ms ks (Ok (Step.Take m)) onward = onward match_width (ms ++ m ∷ []) ks

@@ -79,7 +79,8 @@ cut_short_step count at = with_room most_matches count (TooManyMatches at) (Err 
 
 -- at a mark with its operands: 19, then its numbers
 abbrev pub mark_step : ℕ → ℕ → ℕ → ℕ → Mark → Result Step Refusal
-mark_step p q marks at k = with_room most_marks marks (TooManyMarks at) (unless_faulty (mark_judgement p q at k) (Ok (Keep k)))
+mark_step p q marks at k =
+    with_room most_marks marks (TooManyMarks at) (unless_faulty (mark_judgement p q at k) (Ok (Keep k)))
 
 -- at a mark whose operands are incomplete: 19, 3
 abbrev pub mark_cut_short_step : ℕ → ℕ → Result Step Refusal
