@@ -9,7 +9,10 @@ use Rattle.std.specs.Prelude.{ℕ, ◌+◌, ◌≤◌, ◌<◌, ◌≡◌, Bool,
 use Rattle.refinement.specs.Match.{between, carry_to}
 use Rattle.cut_set.specs.Store.{Good, Member, Stored, Cramped}
 use Rattle.cut_set.specs.declared.CutSet.{CutSet}
-use Rattle.carrying_match.specs.declared.Worked.{Worked}
+use Rattle.std.specs.declared.result.Result.{Result}
+use Rattle.std.specs.declared.result.Result.TheVariants.{Ok, Err}
+use Rattle.carrying_match.specs.declared.Held.{Held}
+use Rattle.carrying_match.specs.declared.Stop.{Stop}
 
 -- an image of a number with P under one match: from the side with the ends i and g to that with the ends k and l
 pub record ImageBy (i g k l : ℕ) (b : Bool) (P : ℕ → Type 0) (y : ℕ) : Type 0 where
@@ -39,8 +42,8 @@ EndsIn xs s k l = Member xs s k × Member xs s l
 
 -- carrying cuts to all that has P, with n more hits than before: to all of it, to some of it until every place was
 -- taken, or with more hits than the most that are allowed
-abbrev pub Carrying : (ℕ → Type 0) → ℕ → List ℕ → CutSet → ℕ → ℕ → List ℕ → Worked → Type 0
-Carrying P n xs to hits most ys (Worked.Held hits' to') =
-    Stored P xs to ys to' × (hits' ≡ hits + n) × (hits' ≤ most)
-Carrying P n xs to hits most ys (Worked.Full to') = Cramped P xs to ys to'
-Carrying P n xs to hits most ys Worked.TooMany = most < hits + n
+abbrev pub Carrying : (ℕ → Type 0) → ℕ → List ℕ → CutSet → ℕ → ℕ → List ℕ → Result Held Stop → Type 0
+Carrying P n xs to hits most ys (Ok held) =
+    Stored P xs to ys held.to × (held.hits ≡ hits + n) × (held.hits ≤ most)
+Carrying P n xs to hits most ys (Err (Stop.Full to')) = Cramped P xs to ys to'
+Carrying P n xs to hits most ys (Err Stop.TooMany) = most < hits + n

@@ -7,12 +7,18 @@ ghost use Rattle.carrying_match.specs.OneMatch.{Ready, EndsIn, ImageBy, hits_on,
 
 use cut_set::{Added, CutSet};
 
-// The hits so far and the set that images went to; or that set where it has no place for one more image: the work can
-// be done again once it has; or that there are more hits than any table lent has room for. The hits stand first: right
-// behind the answer's tag a set would be copied from odd places, which is slow.
+// The hits so far and the set that images went to. The hits stand first: right behind the answer's tag a set would be
+// copied from odd places, which is slow.
 #[derive(Drop)]
-pub enum Worked {
-    Held { hits: usize, to: CutSet },
+pub struct Held {
+    pub hits: usize,
+    pub to: CutSet,
+}
+
+// Why the work stopped: that set has no place for one more image, and the work can be done again once it has; or there
+// are more hits than any table lent has room for.
+#[derive(Drop)]
+pub enum Stop {
     Full { to: CutSet },
     TooMany,
 }
@@ -22,13 +28,7 @@ pub enum Worked {
 fn is_known(left: u32, right: u32, cut: u32, ended: bool) -> bool
     ensures { result ≡ true → (ended ≡ true) × ((cut ≡ left) ⊎ (cut ≡ right)) }
 {
-    if !ended {
-        return false;
-    }
-    if cut == left {
-        return true;
-    }
-    cut == right
+    ended && (cut == left || cut == right)
 }
 
 // Carries the newly found cuts that one match spans: they follow each other in the run. The match is given by its ends
@@ -47,7 +47,7 @@ pub fn carry_match(
     hits: usize,
     most: usize,
     ended: bool,
-) -> Worked
+) -> Result<Held, Stop>
     requires ready { Ready work.old from to }
     requires found_run { FoundRun work.old from }
     requires left_value { other_left + (right - left) ≡ other_right }
@@ -58,20 +58,19 @@ pub fn carry_match(
         work.new result }
 {
     let end = reading_cuts::found_end(from);
+    let first = cut_set::first_found(work, from, left);
     let mut set = to;
     let mut count = hits;
-    let mut at = cut_set::first_found(work, from, left);
-    while at < end {
+    for at in first..end {
         let cut = reading_cuts::found_at(work, from, at);
         if !refinement::spans(left, right, cut) {
             break;
         }
         if count == most {
-            return Worked::TooMany;
+            return Err(Stop::TooMany);
         }
         let image = refinement::carry(left, other_left, other_right, reversed, cut);
         count += 1;
-        at += 1;
         if is_known(left, right, cut, ended) {
             continue;
         }
@@ -81,11 +80,11 @@ pub fn carry_match(
         }
         match cut_set::add(work, set, image) {
             Added::Held(s) => set = s,
-            Added::Full(s) => return Worked::Full { to: s },
+            Added::Full(s) => return Err(Stop::Full { to: s }),
         }
     }
-    Worked::Held {
+    Ok(Held {
         hits: count,
         to: set,
-    }
+    })
 }
