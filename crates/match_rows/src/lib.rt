@@ -12,15 +12,12 @@ fn rows_before(table: &[u32], number: u32) -> usize
     ensures { result ≡ before number (rows_of table.now) }
 {
     let rows = row_count(table);
-    let mut k: usize = 0;
-    while k < rows {
-        let row = row_at(table, k);
-        if row.number == number {
+    for k in 0..rows {
+        if row_at(table, k).number == number {
             return k;
         }
-        k += 1;
     }
-    k
+    rows
 }
 
 fn run_end(table: &[u32], number: u32, start: usize) -> usize
@@ -28,15 +25,12 @@ fn run_end(table: &[u32], number: u32, start: usize) -> usize
     ensures { result ≡ start + run number (drop start (rows_of table.now)) }
 {
     let rows = row_count(table);
-    let mut k = start;
-    while k < rows {
-        let row = row_at(table, k);
-        if row.number != number {
+    for k in start..rows {
+        if row_at(table, k).number != number {
             return k;
         }
-        k += 1;
     }
-    k
+    rows
 }
 
 // Where the rows with that number stand, from the first on until another number follows; 0 and 0 if none has it.
@@ -46,13 +40,13 @@ pub fn span_of(table: &[u32], number: u32) -> Span
     let rows = row_count(table);
     let first = rows_before(table, number);
     if first < rows {
-        let end = run_end(table, number, first);
-        return Span {
+        Span {
             start: first * ROW_WIDTH,
-            end: end * ROW_WIDTH,
-        };
+            end: run_end(table, number, first) * ROW_WIDTH,
+        }
+    } else {
+        Span { start: 0, end: 0 }
     }
-    Span { start: 0, end: 0 }
 }
 
 // The rows with that number from the first on until another number follows; the empty part at the start if none has it.
@@ -61,7 +55,5 @@ pub fn rows_of(table: &[u32], number: u32) -> &[u32]
     ensures place { result.ref_ptr ≡ further (start_of number table.now) table.entry.ref_ptr }
 {
     let span = span_of(table, number);
-    let from = span.start;
-    let to = span.end;
-    &table[from..to]
+    &table[span.start..span.end]
 }

@@ -1,5 +1,5 @@
--- `rows_before` meets its contract. The rows before k are before the match's, and the rest is counted from k on; the
--- measure is how many rows are left. Assumes nothing.
+-- `rows_before` meets its contract: the rows before k are before the match's, and the rest is counted from k on.
+-- Assumes nothing.
 use mathlib.Core.Bool.{not}
 use mathlib.Core.Path.{ap}
 use native.Mathlib.Omega.{arith}
@@ -9,25 +9,19 @@ use Rattle.rows.specs.Rows.{rows_of}
 use Rattle.table.specs.Finding.{has_other}
 use Rattle.match_rows.proofs.rows_before.Goals as goal
 
-pub returns-then-row-number : goal.returns-then-row-number
-returns-then-row-number c =
+pub returns-then-row_at-number : goal.returns-then-row_at-number
+returns-then-row_at-number c =
     let at = c.args in
     let rs = rows_of at.table.now in
-    let stop = ap not (eq-eqb c.row_at-row.result.number at.number c.if-row-number.true) in
-    omega (arith, leading-stop (has_other at.number) rs c.loop-k.k (omega arith) c.row_at-row.ensures stop)
+    let stop = ap not (eq-eqb c.row_at.result.number at.number c.if-row_at-number.true) in
+    omega (arith, leading-stop (has_other at.number) rs c.loop-k.k (omega arith) c.row_at.ensures stop)
 
 pub loop-k-preserved : goal.loop-k-preserved
 loop-k-preserved c =
     let at = c.args in
-    let rs = rows_of at.table.now in
-    let else = has_other at.number in
-    let more = ap not (ne_eqb c.row_at-row.result.number at.number c.if-row-number.false) in (
-      omega arith,
-      omega (arith, leading-more else rs c.loop-k.k (omega arith) c.row_at-row.ensures more),
-    )
+    let more = ap not (ne_eqb c.row_at.result.number at.number c.if-row_at-number.false) in
+    omega (arith, leading-more (has_other at.number) (rows_of at.table.now) c.loop-k.k (omega arith) c.row_at.ensures more)
 
 pub returns : goal.returns
 returns c =
-    let at = c.args in
-    let rs = rows_of at.table.now in
-    omega (arith, leading-none (has_other at.number) rs c.loop-k.k (omega arith))
+    omega (arith, leading-none (has_other c.args.number) (rows_of c.args.table.now) c.loop-k.k (omega arith))

@@ -5,8 +5,8 @@ use Rattle.table.specs.declared.finding.Span.{Span}
 use Rattle.table.proofs.Runs.{part-inside}
 use Rattle.match_rows.proofs.rows_of.Goals as goal
 
-pub offset_bounds-table-from : goal.offset_bounds-table-from
-offset_bounds-table-from c =
+pub offset_bounds-table-span : goal.offset_bounds-table-span
+offset_bounds-table-span c =
     omega (arith, (ap (λ (s : Span). s.start) c.span_of-span.ensures), (part-inside c.args.number c.args.table.now))
 
 pub slice_bounds-result-end : goal.slice_bounds-result-end
