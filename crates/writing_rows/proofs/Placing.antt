@@ -1,5 +1,4 @@
 -- Rows in the table, written one after the other.
---     low-on              the end of a piece that is carried to its left end on B lies on the match
 --     five-stores         the five stores of a piece write its row
 --     Remaining, remaining-..   the loop over the cuts of one match: what remains to be written; a turn keeps it
 --     Done, done-..       the loop over the matches: what is written; a turn keeps it
@@ -9,6 +8,7 @@ use mathlib.Core.Path.{◌≡◌, refl, sym, ap, ap₂, ◌∙◌}
 use mathlib.Core.Bool.{Bool, true, false, cond}
 use mathlib.Core.List.{List, [], ◌∷◌, ◌++◌, map, map-append}
 use native.Mathlib.Omega.{arith}
+use mir.Val.{bool_byte}
 use lib.ListN.{length, get_or, set, length-append}
 use lib.Seq.{slice, slice-cons, slice_empty, sets, length-sets}
 use Rattle.script.specs.Commands.{bit_of}
@@ -19,7 +19,7 @@ use Rattle.refinement.specs.Match.{Match, match_ab, carry_over, carry_to}
 use Rattle.refinement.specs.Least.{piece_of, pieces_between}
 use Rattle.refinement.proofs.Geometry.{carry-ends}
 use Rattle.runs.specs.Runs.{Bound}
-use Rattle.refining.specs.Columns.{Columns, count_of, from_at, from_right_at, to_at, to_right_at, letters_at, way_at}
+use Rattle.refining.specs.Columns.{Columns, count_of, from_at, from_right_at, to_at, letters_at, way_at}
 use Rattle.refining.specs.Columns.{Fit, match_at}
 use Rattle.refining.specs.Rows.{row_of_piece, piece_numbers, within, pieces_cut}
 use Rattle.refining.proofs.Standing.{length-numbers}
@@ -41,11 +41,6 @@ sets_rows rs qs xs =
     ∙ ap (λ n. sets (sets xs 0 (piece_numbers rs)) n (piece_numbers qs)) e)
 
 -- One piece.
-pub low-on :
-    (b : Bool) {i k l x y : ℕ} → Stretch i k l x y → (i ≤ cond b y x) × (k + (cond b y x - i) ≤ l)
-low-on false s = (s.from, omega (arith, s.some, s.to))
-low-on true s = (omega (arith, s.from, s.some), s.to)
-
 low-of-ends :
     (b : Bool) {i k l x y : ℕ} → Stretch i k l x y
     → carry_to b i k l (cond b y x) ≡ min (carry_to b i k l x) (carry_to b i k l y)
@@ -59,13 +54,13 @@ low_end b {i} {k} {l} {x} {y} s =
     let e : l ≡ k + (l - k) = omega (arith, s.to) in
     low-of-ends b s ∙ ap₂ min (carry-ends b i k (l - k) x e) (carry-ends b i k (l - k) y e)
 
-way : (b : Bool) → cond b 1 0 ≡ bit_of b
+way : (b : Bool) → bool_byte b ≡ bit_of b
 way false = refl
 way true = refl
 
 pub five-stores :
     (xs : List ℕ) (at n : ℕ) (b : Bool) {i k l x y low image turn : ℕ} → Stretch i k l x y → low ≡ cond b y x
-    → image ≡ carry_to b i k l low → turn ≡ cond b 1 0
+    → image ≡ carry_to b i k l low → turn ≡ bool_byte b
     → set (set (set (set (set xs at n) (at + 1) x) (at + 2) image) (at + 3) (y - x)) (at + 4) turn
     ≡ sets xs at (row_numbers (row_of_piece (piece_of (match_ab n i k (l - k) b) x y)))
 unfolding piece_of
@@ -95,22 +90,6 @@ pub record Remaining (m : Match) (l : ℕ) (work : List ℕ) (first last row : �
   pub is :
       sets before (row_width * row) (piece_numbers (rows_from m work last first))
       ≡ sets table (row_width * next) (piece_numbers (rows_from m work last at))
-
-pub remaining-start :
-    {m : Match} {l : ℕ} {work : List ℕ} {first last row : ℕ} {before : List ℕ}
-    → Cutting work first last m.left_a (m.left_a + m.length) → m.left_b + m.length ≡ l
-    → row_width * (row + length (rows_from m work last first)) ≤ length before
-    → Remaining m l work first last row before before first row
-remaining-start cuts facing room = record {
-  cuts = cuts;
-  facing = facing;
-  room = room;
-  from = omega arith;
-  to = cuts.order;
-  count = refl;
-  long = refl;
-  is = refl;
-}
 
 module _ {m : Match} {l : ℕ} {work : List ℕ} {first last row : ℕ} {before table : List ℕ} {at next : ℕ}
     (left : Remaining m l work first last row before table at next) where
@@ -221,9 +200,6 @@ module _ {columns : Columns} {work : List ℕ} {lo hi : ℕ} {before : List ℕ}
           let w = done.writable in
           rw (done.fit.from_right k less) at
           (cutting ends w.run (w.left_in k less) (w.right_in k less) left right)
-
-      pub done-ends : to_at columns k ≤ to_right_at columns k
-      done-ends = omega (arith, done.fit.to_right k less)
 
       -- its rows, numbered as the code does
       abbrev here : List Match

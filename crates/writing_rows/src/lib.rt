@@ -1,7 +1,7 @@
 // The rows of the table: a piece between each two neighbouring cuts of a match.
 #![tactic(auto)]
 
-ghost use Rattle.std.specs.Prelude.{◌≡◌, cond, suc, ◌+◌, ◌-◌, ◌*◌, ◌≤◌, length};
+ghost use Rattle.std.specs.Prelude.{◌≡◌, suc, ◌+◌, ◌-◌, ◌*◌, ◌≤◌, length};
 ghost use Rattle.std.proofs.Math.Seq.{slice};
 ghost use Rattle.std.proofs.lemmas.List.Edits.{sets};
 ghost use Rattle.rows.specs.Rows.{row_width, row_numbers};
@@ -13,16 +13,6 @@ ghost use Rattle.writing_rows.specs.Writing.{Stretch, Cutting, Placed, Writable,
 
 use rows::ROW_WIDTH;
 use runs::lower_bound;
-
-// Of two numbers the one for a reversed match, or the one for a direct match.
-fn by_direction(reversed: bool, if_reversed: u32, if_direct: u32) -> u32
-    ensures { result ≡ cond reversed if_reversed if_direct }
-{
-    if reversed {
-        return if_reversed;
-    }
-    if_direct
-}
 
 // Writes the piece of a match from x to y on A as a row whose first number stands at `at`. Its left end on B faces x,
 // or y in a reversed match.
@@ -44,13 +34,13 @@ fn write_piece(
         (row_numbers
         (row_of_piece (piece_of (match_ab number left_a left_b (right_b - left_b) reversed) x y))) }
 {
-    let low = by_direction(reversed, y, x);
+    let low = if reversed { y } else { x };
     let image = refinement::carry(left_a, left_b, right_b, reversed, low);
     table[at] = number;
     table[at + 1] = x;
     table[at + 2] = image;
     table[at + 3] = y - x;
-    table[at + 4] = by_direction(reversed, 1, 0);
+    table[at + 4] = u32::from(reversed);
 }
 
 // Writes the rows of one match, whose cuts on A stand at work[first] to work[last], as the rows from `row` on. Returns
@@ -78,9 +68,8 @@ fn write_match(
         (slice first (suc last) work.now))
         row table.old table.new result }
 {
-    let mut at = first;
     let mut next = row;
-    while at < last {
+    for at in first..last {
         write_piece(
             table,
             ROW_WIDTH * next,
@@ -92,7 +81,6 @@ fn write_match(
             work[at],
             work[at + 1],
         );
-        at += 1;
         next += 1;
     }
     next
@@ -119,8 +107,7 @@ pub fn write_rows(
         (slice lo hi work.now) table.old table.new result }
 {
     let mut row = 0;
-    let mut k = 0;
-    while k < reversed.len() {
+    for k in 0..reversed.len() {
         let left = left_a[k];
         let first = lower_bound(work, lo, hi, left);
         let last = lower_bound(work, lo, hi, right_a[k]);
@@ -136,7 +123,6 @@ pub fn write_rows(
             table,
             row,
         );
-        k += 1;
     }
     row
 }

@@ -1,14 +1,12 @@
 -- The loop over the cuts of one match keeps `Remaining`: what is written and what remains make the rows of the match.
--- The measure is how many cuts are left. Assumes nothing.
+-- Assumes nothing.
 use Rattle.writing_rows.proofs.Placing.{remaining-stretch, remaining-room}
 use Rattle.writing_rows.proofs.Placing.{remaining-step, remaining-end}
 use Rattle.writing_rows.proofs.write_match.Goals as goal
 
 pub write_piece-requires-clause-stretch : goal.write_piece-requires-clause-stretch
 write_piece-requires-clause-stretch c =
-    let inv = c.loop-at.invariant in
-    let less = c.loop-at-test.true in
-    remaining-stretch inv less
+    remaining-stretch c.loop-at.invariant c.loop-at-test.true
 
 pub loop-at-preserved : goal.loop-at-preserved
 loop-at-preserved c =
@@ -20,6 +18,4 @@ returns c =
 
 pub write_piece-requires-clause-row_width_in_bounds : goal.write_piece-requires-clause-row_width_in_bounds
 write_piece-requires-clause-row_width_in_bounds c =
-    let inv = c.loop-at.invariant in
-    let less = c.loop-at-test.true in
-    remaining-room inv less
+    remaining-room c.loop-at.invariant c.loop-at-test.true

@@ -1,5 +1,4 @@
--- The loop over the cuts of one match keeps `Remaining`: what is written and what remains make the rows of the match.
--- The measure is how many cuts are left. Assumes nothing.
+-- What is written of one match and what remains.
 use Prim.Native.Nat.{◌-◌}
 use Rattle.refinement.specs.Match.{match_ab}
 use Rattle.writing_rows.proofs.Placing.{Remaining}
@@ -9,6 +8,3 @@ abbrev pub invariant-loop-at : goal.invariant-loop-at
 invariant-loop-at l =
     Remaining (match_ab l.number l.left_a l.left_b (l.right_b - l.left_b) l.reversed) l.right_b l.work l.first l.last l.row l.initial.table l.table l.at
     l.next
-
-abbrev pub decreases-loop-at : goal.decreases-loop-at
-decreases-loop-at l = l.last - l.at

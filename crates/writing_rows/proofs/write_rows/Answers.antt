@@ -1,5 +1,5 @@
 -- The loop over the matches keeps `Done`: the rows of the matches so far are written. The cuts that a match spans stand
--- between the lower bounds of its ends. The measure is how many matches are left. Assumes nothing.
+-- between the lower bounds of its ends. Assumes nothing.
 use Rattle.writing_rows.proofs.Placing.{done-start, done-cuts, done-room}
 use Rattle.writing_rows.proofs.Placing.{done-step}
 use Rattle.writing_rows.proofs.write_rows.Goals as goal
