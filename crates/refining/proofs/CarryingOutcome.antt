@@ -25,7 +25,6 @@ use Rattle.script.specs.declared.command.Match.{Match as ScriptMatch}
 use Rattle.script.specs.declared.command.Mark.{Mark}
 use Rattle.script.specs.declared.refusal.Refusal.{Refusal}
 use Rattle.script.specs.declared.refusal.Refusal.TheVariants.{NoSuchMatch, OffTheMatch}
-use Rattle.script.specs.declared.Finding.{Finding}
 use Rattle.script.proofs.Outcome.{reach-within, reach-range, read-outcome, outcome-admitted, outcome-refused}
 use Rattle.refinement.specs.declared.Side.{Side}
 use Rattle.refinement.specs.declared.Side.TheVariants.{A, B}
@@ -42,11 +41,11 @@ use Rattle.refining.proofs.Numbered.{admitted_of, admitted-matches, numbered-ran
 -- ---- the match of a number
 
 -- what is found under a number in the theory's list, where it is the k-th
-data Found (ms : List Match) (number k : ℕ) : Finding → Type 0 where
-  some : {x : ScriptMatch} → with_number number x ∈ ms → Found ms number k (Finding.Found x)
-  none : (k ≡ 0) ⊎ (length ms < k) → Found ms number k (Finding.Refused NoSuchMatch)
+data Found (ms : List Match) (number k : ℕ) : Result ScriptMatch Refusal → Type 0 where
+  some : {x : ScriptMatch} → with_number number x ∈ ms → Found ms number k (Ok x)
+  none : (k ≡ 0) ⊎ (length ms < k) → Found ms number k (Err NoSuchMatch)
 
-found-later : {ms : List Match} {m : Match} {number k : ℕ} {f : Finding} → Found ms number (suc k) f
+found-later : {ms : List Match} {m : Match} {number k : ℕ} {f : Result ScriptMatch Refusal} → Found ms number (suc k) f
     → Found (m ∷ ms) number (suc (suc k)) f
 found-later (some i) = some (there i)
 found-later (none (inl e)) = absurd (omega arith)
@@ -74,21 +73,21 @@ listed-number (reads {ms = xs} o) i (inr h) = omega (arith, numbered-range 1 xs 
 -- the match of the theory's list that has the number is the one that is found
 pub listed_found : {script : List ℕ} (number : ℕ) {g : Given} {m : Match} → Admitted script g → m ∈ g.matches
     → m.number ≡ number
-    → (x : ScriptMatch) × (finding_of (read_script script) number ≡ Finding.Found x) × (with_number number x ≡ m)
+    → (x : ScriptMatch) × (finding_of (read_script script) number ≡ Ok x) × (with_number number x ≡ m)
 listed_found {script} number {g} {m} a i e = go refl (finding a number)
   where
-    go : {f : Finding} → finding_of (read_script script) number ≡ f → Found g.matches number number f
-        → (x : ScriptMatch) × (finding_of (read_script script) number ≡ Finding.Found x) × (with_number number x ≡ m)
+    go : {f : Result ScriptMatch Refusal} → finding_of (read_script script) number ≡ f → Found g.matches number number f
+        → (x : ScriptMatch) × (finding_of (read_script script) number ≡ Ok x) × (with_number number x ≡ m)
     go e' (some {x} j) = (x, e', number-unique g.matches (admitted-matches a).numbered j i (sym e))
     go e' (none h) = absurd (listed-number a i (subst (λ (z : ℕ). (z ≡ 0) ⊎ (length g.matches < z)) (sym e) h))
 
 pub unlisted-none : {script : List ℕ} (number : ℕ) {g : Given} → Admitted script g
     → (number ≡ 0) ⊎ (length g.matches < number)
-    → finding_of (read_script script) number ≡ Finding.Refused NoSuchMatch
+    → finding_of (read_script script) number ≡ Err NoSuchMatch
 unlisted-none {script} number {g} a h = go refl (finding a number)
   where
-    go : {f : Finding} → finding_of (read_script script) number ≡ f → Found g.matches number number f
-        → finding_of (read_script script) number ≡ Finding.Refused NoSuchMatch
+    go : {f : Result ScriptMatch Refusal} → finding_of (read_script script) number ≡ f → Found g.matches number number f
+        → finding_of (read_script script) number ≡ Err NoSuchMatch
     go e (some j) = absurd (listed-number a j h)
     go e (none h') = e
 
@@ -108,17 +107,17 @@ over-off m side position n =
     rw (untrue (spanned (left m side) m.length position) (λ e. n ((spanned-iff m side position).0 e)))
 
 module _ (script : List ℕ) (number : ℕ) (side : Side) (position : ℕ) where
-  pub carrying-refused : {r : Refusal} → finding_of (read_script script) number ≡ Finding.Refused r
+  pub carrying-refused : {r : Refusal} → finding_of (read_script script) number ≡ Err r
       → carrying_of script number side position ≡ Err r
   unfolding carrying_of
   carrying-refused e = rw e
 
-  carrying-found : {x : ScriptMatch} → finding_of (read_script script) number ≡ Finding.Found x
+  carrying-found : {x : ScriptMatch} → finding_of (read_script script) number ≡ Ok x
       → carrying_of script number side position ≡ carrying_over (with_number number x) side position
   unfolding carrying_of
   carrying-found e = rw e
 
-  module _ {x : ScriptMatch} {from : ℕ} (e : finding_of (read_script script) number ≡ Finding.Found x)
+  module _ {x : ScriptMatch} {from : ℕ} (e : finding_of (read_script script) number ≡ Ok x)
       (from_is : from ≡ on_side side x.left_a x.left_b) where
     pub carrying-off : spanned from x.length position ≡ false
         → carrying_of script number side position ≡ Err OffTheMatch
@@ -162,7 +161,7 @@ module _ (script : List ℕ) (number : ℕ) (side : Side) (position : ℕ) where
       by_span {m = m} a i e (no n) =
           rw (carrying-listed a i e, over-off m side position n) (CarryingOutcome.off_the_match a i e n)
 
-      by-found : {g : Given} {f : Finding} → Admitted script g → Found g.matches number number f
+      by-found : {g : Given} {f : Result ScriptMatch Refusal} → Admitted script g → Found g.matches number number f
           → CarryingOutcome script number side position (carried_answer (carrying_of script number side position))
       by-found a (some {x} i) = by_span a i refl (spans? (with_number number x) side position)
       by-found a (none h) = rw (carrying-unlisted a h) (CarryingOutcome.no_such_match a h)
@@ -194,25 +193,25 @@ carrying-back script number side position {x} e = by-finding (finding_of (read_s
         (ap Ok (carry_back m side position t))
     by_span m (no n) e' = let z : ◌≡◌ {A = ℕ} 0 1 = cc (over-off m side position n) in absurd (omega arith)
 
-    by-finding : (f : Finding) → finding_of (read_script script) number ≡ f
+    by-finding : (f : Result ScriptMatch Refusal) → finding_of (read_script script) number ≡ f
         → carrying_of script number (other side) x ≡ Ok position
-    by-finding (Finding.Refused r) is =
+    by-finding (Err r) is =
         let z : ◌≡◌ {A = ℕ} 0 1 = cc (carrying-refused script number side position is) in absurd (omega arith)
-    by-finding (Finding.Found y) is =
+    by-finding (Ok y) is =
         let m = with_number number y in
         carrying-found script number (other side) x is
         ∙ by_span m (spans? m side position) (sym (carrying-found script number side position is) ∙ e)
 
 -- ---- carrying over a match that is found never wraps
 
-found-∈ : (ms : List ScriptMatch) (number : ℕ) {x : ScriptMatch} → found_in ms number ≡ Finding.Found x → x ∈ ms
+found-∈ : (ms : List ScriptMatch) (number : ℕ) {x : ScriptMatch} → found_in ms number ≡ Ok x → x ∈ ms
 found-∈ [] number e = let z : ◌≡◌ {A = ℕ} 0 1 = cc in absurd (omega arith)
 found-∈ (m ∷ ms) zero e = let z : ◌≡◌ {A = ℕ} 0 1 = cc in absurd (omega arith)
 found-∈ (m ∷ ms) (suc zero) {x} e = let same : x ≡ m = cc in here same
 found-∈ (m ∷ ms) (suc (suc number)) e = there (found-∈ ms (suc number) e)
 
 pub found-fits :
-    (script : List ℕ) (number : ℕ) {x : ScriptMatch} → finding_of (read_script script) number ≡ Finding.Found x
+    (script : List ℕ) (number : ℕ) {x : ScriptMatch} → finding_of (read_script script) number ≡ Ok x
     → (side : Side) → right (with_number number x) side < 2 ^ 32
 found-fits script number {x} e side = by-reading (read_script script) refl e
   where
@@ -221,7 +220,7 @@ found-fits script number {x} e side = by-reading (read_script script) refl e
     by-outcome (Outcome.is_admitted r b l) i A = omega (arith, reach-within r i, (reach-range r).0.few)
     by-outcome (Outcome.is_admitted r b l) i B = omega (arith, reach-within r i, (reach-range r).1.few)
 
-    by-reading : (reading : Reading) → read_script script ≡ reading → finding_of reading number ≡ Finding.Found x
+    by-reading : (reading : Reading) → read_script script ≡ reading → finding_of reading number ≡ Ok x
         → right (with_number number x) side < 2 ^ 32
     by-reading (refused r) is e' = let z : ◌≡◌ {A = ℕ} 0 1 = cc in absurd (omega arith)
     by-reading (admitted ls ms ks) is e' = by-outcome (read-outcome is) (found-∈ ms number e') side

@@ -11,9 +11,9 @@ use Rattle.script.specs.Reading.{read_script}
 use Rattle.script.specs.Answers.{Answer, value, refusal}
 use Rattle.script.specs.Outcomes.{Outcome}
 use Rattle.script.specs.Finding.{finding_of}
+use Rattle.script.specs.declared.command.Match.{Match as ScriptMatch}
 use Rattle.script.specs.declared.refusal.Refusal.{Refusal}
 use Rattle.script.specs.declared.refusal.Refusal.TheVariants.{OffTheMatch}
-use Rattle.script.specs.declared.Finding.{Finding}
 use Rattle.refinement.specs.declared.Side.{Side}
 use Rattle.refinement.specs.Order.{◌∈◌}
 use Rattle.refinement.specs.Match.{Match, left, Spans, spanned, carry}
@@ -26,9 +26,9 @@ carrying_over m side position =
     cond (spanned (left m side) m.length position) (Ok (carry m side position)) (Err OffTheMatch)
 
 -- SCOPE, "Order of carrying": the script's refusals and 13 are the finding's, and 14 comes last
-abbrev pub carrying_of_finding : Finding → ℕ → Side → ℕ → Result ℕ Refusal
-carrying_of_finding (Finding.Refused r) number side position = Err r
-carrying_of_finding (Finding.Found m) number side position = carrying_over (with_number number m) side position
+abbrev pub carrying_of_finding : Result ScriptMatch Refusal → ℕ → Side → ℕ → Result ℕ Refusal
+carrying_of_finding (Err r) number side position = Err r
+carrying_of_finding (Ok m) number side position = carrying_over (with_number number m) side position
 
 unfoldable pub carrying_of : List ℕ → ℕ → Side → ℕ → Result ℕ Refusal
 carrying_of script number side position = carrying_of_finding (finding_of (read_script script) number) number side position

@@ -12,7 +12,8 @@
 --     Refining                      the reply, and what the table and the work buffer hold after the call
 --     refining_of script table work  all three, by what the script and the two buffers hold before it
 -- 01, "The table and its buffers" and "Refused scripts and calls"; 02, #106. Assumes nothing.
-use Rattle.std.specs.Prelude.{ℕ, suc, ◌*◌, ◌/◌, cond, List, [], ◌∷◌, ◌++◌, map, length, drop, replicate, ltb, Result, Ok, Err}
+use Rattle.std.specs.Prelude.{ℕ, suc, ◌*◌, ◌/◌, cond, List, [], ◌∷◌, ◌++◌, map, length, drop, replicate, ltb}
+use Rattle.std.specs.Prelude.{Result, Ok, Err}
 use Rattle.script.specs.Reading.{Reading, admitted, refused, read_script}
 use Rattle.script.specs.declared.command.Match.{Match as ScriptMatch}
 use Rattle.script.specs.declared.command.Mark.{Mark}
