@@ -1,38 +1,30 @@
 // One command at the start of a remainder of the script: what stands there, without what it means for the script.
 #![tactic(auto)]
 
-ghost use Rattle.std.specs.Prelude.{◌≡◌, ◌||◌, ◌+◌, ◌<◌, ◌≤◌, eqb, length};
+ghost use Rattle.std.specs.Prelude.{◌≡◌, ◌+◌, ◌≤◌, eqb, length};
 ghost use Rattle.script.specs.Commands.{match_width, number_at, command_of, lengths_of, fields_of, match_of};
 ghost use Rattle.script.specs.Commands.{mark_of, end_of, bit_of};
 
 use script::command::{Command, LENGTHS_WIDTH, MARK_WIDTH, MATCH_WIDTH, Mark, Match};
 
-fn wide(byte: u8) -> u32
-    ensures { (result ≡ byte) × (result < 256) }
-{
-    byte as u32
-}
-
-// The number in the four bytes from an offset on.
+// The number in the four bytes from an offset on, the least first.
 pub fn number_at(rest: &[u8], at: usize) -> u32
     requires { at + 4 ≤ length rest.now }
     ensures { result ≡ number_at rest.now at }
 {
-    wide(rest[at])
-        + 256 * wide(rest[at + 1])
-        + 65_536 * wide(rest[at + 2])
-        + 16_777_216 * wide(rest[at + 3])
+    u32::from_le_bytes([rest[at], rest[at + 1], rest[at + 2], rest[at + 3]])
 }
 
 fn read_lengths(rest: &[u8]) -> Command
     ensures { result ≡ lengths_of rest.now }
 {
     if rest.len() < LENGTHS_WIDTH {
-        return Command::LengthsCutShort;
-    }
-    Command::Lengths {
-        p: number_at(rest, 1),
-        q: number_at(rest, 5),
+        Command::LengthsCutShort
+    } else {
+        Command::Lengths {
+            p: number_at(rest, 1),
+            q: number_at(rest, 5),
+        }
     }
 }
 
@@ -55,37 +47,33 @@ fn read_match(rest: &[u8], reversed: bool) -> Command
     ensures { result ≡ match_of reversed rest.now }
 {
     if rest.len() < MATCH_WIDTH {
-        return Command::MatchCutShort;
+        Command::MatchCutShort
+    } else {
+        Command::Pairing(read_fields(rest, reversed))
     }
-    Command::Pairing(read_fields(rest, reversed))
 }
 
 fn read_mark(rest: &[u8]) -> Command
     ensures { result ≡ mark_of rest.now }
 {
     if rest.len() < MARK_WIDTH {
-        return Command::MarkCutShort;
+        Command::MarkCutShort
+    } else {
+        Command::Marking(Mark {
+            side: rest[1],
+            position: number_at(rest, 2),
+        })
     }
-    Command::Marking(Mark {
-        side: rest[1],
-        position: number_at(rest, 2),
-    })
 }
 
 fn read_end(rest: &[u8]) -> Command
     ensures { result ≡ end_of rest.now }
 {
     if 1 < rest.len() {
-        return Command::EndThenMore;
+        Command::EndThenMore
+    } else {
+        Command::End
     }
-    Command::End
-}
-
-// Whether the byte begins a match, of either direction: one answer for both, since scripts mix them in no order.
-fn is_match(code: u8) -> bool
-    ensures { result ≡ eqb code 0x44 || eqb code 0x52 }
-{
-    code == 0x44 || code == 0x52
 }
 
 // Whether a match that begins with this byte is a reversed one.
@@ -106,21 +94,15 @@ pub fn bit(reversed: bool) -> u32
 pub fn read_command(rest: &[u8]) -> Command
     ensures { result ≡ command_of rest.now }
 {
-    if rest.len() == 0 {
+    if rest.is_empty() {
         return Command::Missing;
     }
-    let code = rest[0];
-    if code == 0x4C {
-        return read_lengths(rest);
+    match rest[0] {
+        0x4C => read_lengths(rest),
+        // One arm for both directions, since scripts mix them in no order.
+        code @ (0x44 | 0x52) => read_match(rest, is_reversed(code)),
+        0x4D => read_mark(rest),
+        0x45 => read_end(rest),
+        _ => Command::Unknown,
     }
-    if is_match(code) {
-        return read_match(rest, is_reversed(code));
-    }
-    if code == 0x4D {
-        return read_mark(rest);
-    }
-    if code == 0x45 {
-        return read_end(rest);
-    }
-    Command::Unknown
 }
