@@ -16,11 +16,11 @@ use native.Mathlib.Omega.{arith}
 use native.Mathlib.Decide.{ℕ_discrete}
 use borrow.Author.Tests.{eq-eqb, ne_eqb}
 use lib.ListN.{length, length-map}
+use Rattle.std.specs.Prelude.{Result, Ok, Err}
 use Rattle.script.specs.Refusals.{number_of, place_of}
 use Rattle.script.specs.Reading.{read_script}
 use Rattle.script.specs.Answers.{Answer, value, refusal}
 use Rattle.script.specs.Finding.{finding_of}
-use Rattle.script.specs.declared.Finding.{Finding}
 use Rattle.script.specs.declared.command.Match.{Match as ScriptMatch}
 use Rattle.script.specs.declared.refusal.Refusal.{Refusal}
 use Rattle.script.specs.declared.refusal.Refusal.TheVariants.{OffTheMatch, CountsDiffer}
@@ -38,7 +38,6 @@ use Rattle.refining.proofs.CarryingOutcome.{untrue, listed_found, unlisted-none,
 use Rattle.positions.specs.CarryingAll.{every, CarryingAll, kept_by, carried_by, carrying_all_over, carrying_all_of}
 use Rattle.positions.specs.Demands.{carried_all_answer, singly, OverMatch, CarryingAllOutcome, SomeOff, AsSingly}
 use Rattle.positions.specs.Demands.{BufferLeft, CarryingAllDemand}
-use Rattle.positions.specs.declared.CarriedAll.{CarriedAll}
 use Rattle.positions.proofs.Every.{each-every, every-each, every-not, not-every}
 
 -- the answer of a call
@@ -92,12 +91,12 @@ module _ {script : List ℕ} {number : ℕ} (side : Side) where
 -- ---- the cases
 
 module _ (script : List ℕ) (number : ℕ) (side : Side) (positions lent : List ℕ) where
-  pub all-refused : {r : Refusal} → finding_of (read_script script) number ≡ Finding.Refused r
+  pub all-refused : {r : Refusal} → finding_of (read_script script) number ≡ Err r
       → carrying_all_of script number side positions lent ≡ kept_by r lent
   unfolding carrying_all_of
   all-refused e = rw e
 
-  pub all_found : {x : ScriptMatch} → finding_of (read_script script) number ≡ Finding.Found x
+  pub all_found : {x : ScriptMatch} → finding_of (read_script script) number ≡ Ok x
       → carrying_all_of script number side positions lent ≡ carrying_all_over (with_number number x) side positions lent
   unfolding carrying_all_of
   all_found e = rw e
@@ -252,7 +251,7 @@ module _ (script : List ℕ) (number : ℕ) (side : Side) (positions lent : List
     leaves = told-left (outcome-told o);
   }
 
-  pub all-demand : {reply : CarriedAll} {lent' : List ℕ}
+  pub all-demand : {reply : Result (Unit {0}) Refusal} {lent' : List ℕ}
       → reply ≡ (carrying_all_of script number side positions lent).reply
       → lent' ≡ (carrying_all_of script number side positions lent).carried
       → CarryingAllDemand script number side positions lent (carried_all_answer reply lent') lent'

@@ -13,10 +13,12 @@ use mathlib.Core.List.{List, [], ◌∷◌, map}
 use mathlib.Core.List.Memᴰ.{head as here}
 use mathlib.Core.List.Memᴰ.{tail as there}
 use lib.ListN.{length}
+use Rattle.std.specs.Prelude.{Result, Ok, Err}
 use Rattle.script.specs.Reading.{read_script}
 use Rattle.script.specs.Answers.{Answer, value, refusal}
 use Rattle.script.specs.Finding.{finding_of}
-use Rattle.script.specs.declared.Finding.{Finding}
+use Rattle.script.specs.declared.command.Match.{Match as ScriptMatch}
+use Rattle.script.specs.declared.refusal.Refusal.{Refusal}
 use Rattle.script.specs.declared.refusal.Refusal.TheVariants.{OffTheMatch}
 use Rattle.refinement.specs.declared.Side.{Side}
 use Rattle.refinement.specs.Order.{◌∈◌}
@@ -24,11 +26,9 @@ use Rattle.refinement.specs.Match.{Match, left, other, Spans, spanned, carry}
 use Rattle.refinement.proofs.Geometry.{carry-spans, carry_back}
 use Rattle.refining.specs.Refining.{with_number}
 use Rattle.refining.specs.Carrying.{carrying_of, carrying_of_finding}
-use Rattle.refining.specs.declared.answers.Carried.{Carried}
 use Rattle.refining.proofs.Demands.{refusal-value}
 use Rattle.positions.specs.CarryingAll.{CarryingAll, kept_by, carried_by, carrying_all_of_finding, carrying_all_of}
 use Rattle.positions.specs.Demands.{carried_all_answer, OverMatch, CarryingAllOutcome, CarryingAllDemand}
-use Rattle.positions.specs.declared.CarriedAll.{CarriedAll}
 use Rattle.positions.proofs.Demands.{all-demand}
 
 -- ---- the answer tells the reply and the buffer
@@ -40,13 +40,13 @@ module _ (script : List ℕ) (number : ℕ) (side : Side) (positions lent : List
   answered {a} o = sym ((all-demand script number side positions lent refl refl).alone a o)
 
 value_made : (x : CarryingAll) {xs : List ℕ} → carried_all_answer x.reply x.carried ≡ value xs
-    → x ≡ record { reply = CarriedAll.All; carried = xs }
+    → x ≡ record { reply = Ok tt; carried = xs }
 value_made x {xs} e = go x.reply refl e
   where
-    go : (a : CarriedAll) → x.reply ≡ a → carried_all_answer a x.carried ≡ value xs
-        → x ≡ record { reply = CarriedAll.All; carried = xs }
-    go CarriedAll.All is e' = let same : x.carried ≡ xs = cc in ap₂ (λ r l. record { reply = r; carried = l }) is same
-    go (CarriedAll.Refused r) is e' = absurd (refusal-value e')
+    go : (a : Result (Unit {0}) Refusal) → x.reply ≡ a → carried_all_answer a x.carried ≡ value xs
+        → x ≡ record { reply = Ok tt; carried = xs }
+    go (Ok tt) is e' = let same : x.carried ≡ xs = cc in ap₂ (λ r l. record { reply = r; carried = l }) is same
+    go (Err r) is e' = absurd (refusal-value e')
 
 -- ---- over one match, there and back
 
@@ -71,7 +71,7 @@ there_and_back m side (p ∷ ps) t =
 
 module _ (script : List ℕ) (number : ℕ) (side : Side) where
   empty-passes : {m : Match} → OverMatch script number m
-      → carrying_all_of script number side [] [] ≡ record { reply = CarriedAll.All; carried = [] }
+      → carrying_all_of script number side [] [] ≡ record { reply = Ok tt; carried = [] }
   empty-passes over =
       value_made _ (answered script number side [] []
       (CarryingAllOutcome.all_carried over refl (λ x i. absurd (Memᴰ.not-nil i))))
@@ -83,9 +83,9 @@ module _ (script : List ℕ) (number : ℕ) (side : Side) where
 -- ---- a list of one
 
 -- what the single call says, of a buffer of one number
-abbrev of_one : Carried → ℕ → CarryingAll
-of_one (Carried.To x) lent = record { reply = CarriedAll.All; carried = x ∷ [] }
-of_one (Carried.Refused r) lent = record { reply = CarriedAll.Refused r; carried = lent ∷ [] }
+abbrev of_one : Result ℕ Refusal → ℕ → CarryingAll
+of_one (Ok x) lent = record { reply = Ok tt; carried = x ∷ [] }
+of_one (Err r) lent = record { reply = Err r; carried = lent ∷ [] }
 
 one-as-singly : (script : List ℕ) (number : ℕ) (side : Side) (position lent : ℕ)
     → carrying_all_of script number side (position ∷ []) (lent ∷ []) ≡ of_one (carrying_of script number side position) lent
@@ -94,14 +94,14 @@ one-as-singly script number side position lent = go (finding_of (read_script scr
   where
     by-test : (m : Match) (b : Bool)
         → cond (b && true) (carried_by m side (position ∷ [])) (kept_by OffTheMatch (lent ∷ []))
-        ≡ of_one (cond b (Carried.To (carry m side position)) (Carried.Refused OffTheMatch)) lent
+        ≡ of_one (cond b (Ok (carry m side position)) (Err OffTheMatch)) lent
     by-test m true = refl
     by-test m false = refl
 
-    go : (f : Finding) → carrying_all_of_finding f number side (position ∷ []) (lent ∷ [])
+    go : (f : Result ScriptMatch Refusal) → carrying_all_of_finding f number side (position ∷ []) (lent ∷ [])
         ≡ of_one (carrying_of_finding f number side position) lent
-    go (Finding.Refused r) = refl
-    go (Finding.Found x) =
+    go (Err r) = refl
+    go (Ok x) =
         let m = with_number number x in by-test m (spanned (left m side) m.length position)
 
 -- ---- the way back
@@ -122,9 +122,9 @@ module _ (script : List ℕ) (number : ℕ) (side : Side) (positions lent lent' 
       (CarryingAllOutcome.all_carried over long (λ x i. through.arrives x (rw is i)))
 
   pub carried-back : (xs : List ℕ)
-      → carrying_all_of script number side positions lent ≡ record { reply = CarriedAll.All; carried = xs }
+      → carrying_all_of script number side positions lent ≡ record { reply = Ok tt; carried = xs }
       → length xs ≡ length lent'
-      → carrying_all_of script number (other side) xs lent' ≡ record { reply = CarriedAll.All; carried = positions }
+      → carrying_all_of script number (other side) xs lent' ≡ record { reply = Ok tt; carried = positions }
   carried-back xs made long =
       let there = all-demand script number side positions lent refl refl in
       let told = ap (λ (x : CarryingAll). carried_all_answer x.reply x.carried) made in

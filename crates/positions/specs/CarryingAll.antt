@@ -5,16 +5,15 @@
 --     carrying_all_of ..       both, by what the script, the list and the buffer are before it
 -- 02, #107; SCOPE, "Carrying together" and "Order of carrying together". Assumes nothing.
 use Rattle.std.specs.Prelude.{ℕ, Bool, true, cond, ◌&&◌, List, [], ◌∷◌, map, length, eqb}
+use Rattle.std.specs.Prelude.{Result, Ok, Err}
 use Rattle.script.specs.Reading.{read_script}
 use Rattle.script.specs.Finding.{finding_of}
-use Rattle.script.specs.declared.Finding.{Finding}
+use Rattle.script.specs.declared.command.Match.{Match as ScriptMatch}
 use Rattle.script.specs.declared.refusal.Refusal.{Refusal}
 use Rattle.script.specs.declared.refusal.Refusal.TheVariants.{OffTheMatch, CountsDiffer}
 use Rattle.refinement.specs.declared.Side.{Side}
 use Rattle.refinement.specs.Match.{Match, left, spanned, carry}
 use Rattle.refining.specs.Refining.{with_number}
-use Rattle.positions.specs.declared.CarriedAll.{CarriedAll}
-use Rattle.positions.specs.declared.CarriedAll.TheVariants.{All, Refused}
 
 -- an empty list passes
 abbrev pub every : (ℕ → Bool) → List ℕ → Bool
@@ -22,16 +21,16 @@ every test [] = true
 every test (x ∷ xs) = test x && every test xs
 
 pub record CarryingAll : Type 0 where
-  pub reply : CarriedAll
+  pub reply : Result (Unit {0}) Refusal
   pub carried : List ℕ
 
 -- SCOPE, "Kept when refused": "writes none of it"
 abbrev pub kept_by : Refusal → List ℕ → CarryingAll
-kept_by r lent = record { reply = Refused r; carried = lent }
+kept_by r lent = record { reply = Err r; carried = lent }
 
 -- SCOPE, "Carrying together": "each as the single call would"
 abbrev pub carried_by : Match → Side → List ℕ → CarryingAll
-carried_by m side positions = record { reply = All; carried = map (carry m side) positions }
+carried_by m side positions = record { reply = Ok tt; carried = map (carry m side) positions }
 
 -- SCOPE, "Order of carrying together": over one match 22, then 14
 abbrev pub carrying_all_over : Match → Side → List ℕ → List ℕ → CarryingAll
@@ -41,9 +40,9 @@ carrying_all_over m side positions lent =
     (kept_by CountsDiffer lent)
 
 -- the script's refusals and 13 come before: they are the finding's
-abbrev pub carrying_all_of_finding : Finding → ℕ → Side → List ℕ → List ℕ → CarryingAll
-carrying_all_of_finding (Finding.Refused r) number side positions lent = kept_by r lent
-carrying_all_of_finding (Finding.Found m) number side positions lent =
+abbrev pub carrying_all_of_finding : Result ScriptMatch Refusal → ℕ → Side → List ℕ → List ℕ → CarryingAll
+carrying_all_of_finding (Err r) number side positions lent = kept_by r lent
+carrying_all_of_finding (Ok m) number side positions lent =
     carrying_all_over (with_number number m) side positions lent
 
 unfoldable pub carrying_all_of : List ℕ → ℕ → Side → List ℕ → List ℕ → CarryingAll

@@ -8,22 +8,22 @@
 --     CarryingAllDemand       exactly one outcome's condition is met, and it is the answer; as singly; the buffer
 -- The numbers of 01 and 02 are written out: a slip made in a definition and in the code together is refused here.
 -- `proofs/Demands` shows that `carrying_all_of` meets the demand. Assumes nothing.
-use Rattle.std.specs.Prelude.{ℕ, ◌<◌, ◌≡◌, ◌⊎◌, ◌↔◌, ◌≢◌, List, map, length}
+use Rattle.std.specs.Prelude.{ℕ, ◌<◌, ◌≡◌, ◌⊎◌, ◌↔◌, ◌≢◌, List, map, length, Result, Ok, Err}
 use Rattle.script.specs.Refusals.{number_of, place_of}
 use Rattle.script.specs.Answers.{Answer, value, refusal}
 use Rattle.script.specs.Outcomes.{Outcome}
+use Rattle.script.specs.declared.refusal.Refusal.{Refusal}
 use Rattle.refinement.specs.declared.Side.{Side}
 use Rattle.refinement.specs.Order.{◌∈◌}
 use Rattle.refinement.specs.Match.{Match, Spans, carry}
 use Rattle.refining.specs.Refining.{Given}
 use Rattle.refining.specs.Demands.{Admitted}
 use Rattle.refining.specs.Carrying.{carrying_of, carried_answer}
-use Rattle.positions.specs.declared.CarriedAll.{CarriedAll}
 
 -- SCOPE, "Enums": the numbers in the lent buffer, or the refusal
-abbrev pub carried_all_answer : CarriedAll → List ℕ → Answer (List ℕ)
-carried_all_answer CarriedAll.All carried = value carried
-carried_all_answer (CarriedAll.Refused r) carried = refusal (number_of r) (place_of r)
+abbrev pub carried_all_answer : Result (Unit {0}) Refusal → List ℕ → Answer (List ℕ)
+carried_all_answer (Ok tt) carried = value carried
+carried_all_answer (Err r) carried = refusal (number_of r) (place_of r)
 
 -- 01, "Positions and carrying": the single call, of the same script, match and side
 abbrev pub singly : List ℕ → ℕ → Side → ℕ → Answer ℕ
