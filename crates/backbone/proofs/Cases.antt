@@ -15,6 +15,7 @@ use native.Mathlib.Decide.{dec_le, dec_lt}
 use borrow.Author.Tests.{lt-ltb, le-ltb}
 use lib.Dec.{ltb}
 use lib.ListN.{length, drop}
+use Rattle.std.specs.Prelude.{Ok, Err}
 use Rattle.script.specs.Refusals.{number_of, place_of}
 use Rattle.script.specs.Reading.{Reading, admitted, refused, read_script}
 use Rattle.script.specs.Answers.{refusal}
@@ -30,7 +31,6 @@ use Rattle.backbone.specs.Backbone.{backbone_of, points_of}
 use Rattle.backbone.specs.Chaining.{most_price, most_rows, Chaining, kept_by, least_rows}
 use Rattle.backbone.specs.Chaining.{chaining_after, chaining_of_matches, chaining_of}
 use Rattle.backbone.specs.Demands.{Begun, Lent}
-use Rattle.backbone.specs.declared.Chained.TheVariants.{Best, Refused}
 
 -- 18's condition
 abbrev pub Narrow : List ℕ → List ℕ → List ℕ → Type 0
@@ -40,14 +40,14 @@ Narrow table chain scores =
 -- 12: the score buffer is zero too
 abbrev pub crowded_by : List ℕ → List ℕ → List ℕ → List ℕ → Chaining
 crowded_by table work chain scores =
-    record { reply = Refused TooManyPieces; table = table; work = zeroed work; chain = chain; scores = zeroed scores }
+    record { reply = Err TooManyPieces; table = table; work = zeroed work; chain = chain; scores = zeroed scores }
 
 -- success: the backbone over the start of the chain buffer
 abbrev pub found_by : Given → ℕ → List ℕ → List ℕ → List ℕ → List ℕ → Chaining
 found_by g price table work chain scores =
     let ks = backbone_of price (least_rows g) in
     record {
-      reply = Best (points_of price (least_rows g)) (length (least_of g)) (length ks);
+      reply = Ok (record { score = points_of price (least_rows g); rows = length (least_of g); length = length ks });
       table = written (least_of g) table;
       work = zeroed work;
       chain = ks ++ drop (length ks) chain;

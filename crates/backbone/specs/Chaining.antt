@@ -3,17 +3,15 @@
 --     Chaining                 the reply, and what the four lent buffers hold after the call
 --     chaining_of               all five, by what the script, the price and the buffers are before it
 -- 02, #104; SCOPE, "Order of chaining" and "Buffers of chaining". Assumes nothing.
-use Rattle.std.specs.Prelude.{ℕ, cond, ◌||◌, List, ◌++◌, map, length, drop, ltb}
+use Rattle.std.specs.Prelude.{ℕ, cond, ◌||◌, List, ◌++◌, map, length, drop, ltb, Result, Ok, Err}
 use Rattle.script.specs.Reading.{Reading, admitted, refused, read_script}
 use Rattle.script.specs.declared.refusal.Refusal.{Refusal}
 use Rattle.script.specs.declared.refusal.Refusal.TheVariants.{WorkTooShort, PriceTooHigh, ChainTooShort}
 use Rattle.rows.specs.declared.Row.{Row}
 use Rattle.refining.specs.Rows.{row_of_piece}
 use Rattle.refining.specs.Refining.{Given, given_by, least_of, capacity_of, work_needed, zeroed, Refining, refining_of_matches}
-use Rattle.refining.specs.declared.answers.Refined.{Refined}
 use Rattle.backbone.specs.Backbone.{backbone_of, points_of}
 use Rattle.backbone.specs.declared.Chained.{Chained}
-use Rattle.backbone.specs.declared.Chained.TheVariants.{Best, Refused}
 
 -- 17: "if the gap price is above 1,000"
 abbrev pub most_price : ℕ
@@ -24,7 +22,7 @@ abbrev pub most_rows : ℕ
 most_rows = 4294967295
 
 pub record Chaining : Type 0 where
-  pub reply : Chained
+  pub reply : Result Chained Refusal
   pub table : List ℕ
   pub work : List ℕ
   pub chain : List ℕ
@@ -33,7 +31,7 @@ pub record Chaining : Type 0 where
 -- SCOPE, "Kept when refused": nothing is altered
 abbrev pub kept_by : Refusal → List ℕ → List ℕ → List ℕ → List ℕ → Chaining
 kept_by r table work chain scores =
-    record { reply = Refused r; table = table; work = work; chain = chain; scores = scores }
+    record { reply = Err r; table = table; work = work; chain = chain; scores = scores }
 
 -- the rows of the least table
 abbrev pub least_rows : Given → List Row
@@ -41,13 +39,13 @@ least_rows g = map row_of_piece (least_of g)
 
 -- 12, or the backbone of the rows that refining made. SCOPE, "Buffers of chaining": table and work buffer as refining
 -- leaves them, the row numbers at the chain buffer's start, and the score buffer all zero
-abbrev pub chaining_by : Refined → Given → ℕ → Refining → List ℕ → List ℕ → Chaining
-chaining_by (Refined.Refused r) g price made chain scores =
-    record { reply = Refused r; table = made.table; work = made.work; chain = chain; scores = zeroed scores }
-chaining_by (Refined.Rows n) g price made chain scores =
+abbrev pub chaining_by : Result ℕ Refusal → Given → ℕ → Refining → List ℕ → List ℕ → Chaining
+chaining_by (Err r) g price made chain scores =
+    record { reply = Err r; table = made.table; work = made.work; chain = chain; scores = zeroed scores }
+chaining_by (Ok n) g price made chain scores =
     let ks = backbone_of price (least_rows g) in
     record {
-      reply = Best (points_of price (least_rows g)) n (length ks);
+      reply = Ok (record { score = points_of price (least_rows g); rows = n; length = length ks });
       table = made.table;
       work = made.work;
       chain = ks ++ drop (length ks) chain;

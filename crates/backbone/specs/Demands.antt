@@ -7,10 +7,11 @@
 --     ChainingDemand       exactly one outcome's condition is met, and it is the answer; the buffers; the backbone
 -- The numbers of 01 and 02 are written out: a slip made in a definition and in the code together is refused here.
 -- `proofs/Demands` shows that `chaining_of` meets the demand. Assumes nothing.
-use Rattle.std.specs.Prelude.{ℕ, ◌*◌, ◌≤◌, ◌<◌, ◌≡◌, ◌⊎◌, ◌≢◌, List, map, length, take, drop}
+use Rattle.std.specs.Prelude.{ℕ, ◌*◌, ◌≤◌, ◌<◌, ◌≡◌, ◌⊎◌, ◌≢◌, List, map, length, take, drop, Result, Ok, Err}
 use Rattle.script.specs.Refusals.{number_of, place_of}
 use Rattle.script.specs.Answers.{Answer, value, refusal}
 use Rattle.script.specs.Outcomes.{Outcome}
+use Rattle.script.specs.declared.refusal.Refusal.{Refusal}
 use Rattle.rows.specs.Rows.{rows_of}
 use Rattle.refinement.specs.Match.{Match}
 use Rattle.refinement.specs.Order.{Rising}
@@ -25,9 +26,9 @@ pub data Scored : Type 0 where
   scored : (score rows length : ℕ) → Scored
 
 -- SCOPE, "Enums": the score, the row count and the chain's length, or the refusal
-abbrev pub chained_answer : Chained → Answer Scored
-chained_answer (Chained.Best score rows length) = value (scored score rows length)
-chained_answer (Chained.Refused r) = refusal (number_of r) (place_of r)
+abbrev pub chained_answer : Result Chained Refusal → Answer Scored
+chained_answer (Ok c) = value (scored c.score c.rows c.length)
+chained_answer (Err r) = refusal (number_of r) (place_of r)
 
 abbrev pub rows_answer : Answer Scored → Answer ℕ
 rows_answer (value (scored score rows length)) = value rows

@@ -2,15 +2,10 @@
 // what the call does, proofs/ the laws of it. There is no function here: the call is `chain`'s.
 #![tactic(auto)]
 
-use script::Refusal;
-
-// The score of the best chain, the rows of the table, and how many of them the chain has; or why there is none.
-#[derive(Drop)]
-pub enum Chained {
-    Best {
-        score: u64,
-        rows: usize,
-        length: usize,
-    },
-    Refused(Refusal),
+// The score of the best chain, the rows of the table, and how many of them the chain has.
+#[derive(Clone, Copy)]
+pub struct Chained {
+    pub score: u64,
+    pub rows: usize,
+    pub length: usize,
 }
