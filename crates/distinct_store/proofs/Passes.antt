@@ -1,10 +1,9 @@
 -- What a pass over the rows keeps, that counts the first rows of the pieces of one share.
 --     dealt-starts, dealt-bound      before the first row; no more counted than passed
---     dealt-all                      behind the last row
 --     dealt-other                    after a row of another share
 --     dealt-known, dealt-fresh       after a row whose piece has its first row, and after a first row
 -- Assumes nothing.
-use Rattle.std.proofs.Common.{◌≡◌, ℕ, ◌+◌, ◌<◌, ◌≤◌, Bool, true, false, cond, List, [], length, take, sym, refl, ap, ◌∙◌, zero-le, arith, length-take-le, take_all, eq-eqb, ne_eqb}
+use Rattle.std.proofs.Common.{◌≡◌, ℕ, ◌+◌, ◌<◌, ◌≤◌, Bool, true, false, cond, List, [], length, take, sym, refl, ap, ◌∙◌, zero-le, arith, length-take-le, eq-eqb, ne_eqb}
 use Rattle.rows.specs.Rows.{row_at}
 use Rattle.table.specs.Distinct.{occurs, firsts_after, first_of_each}
 use Rattle.table.specs.Summing.{total, count}
@@ -41,9 +40,6 @@ module _ {by : Dealing} {share : ℕ} {rs : List Row} {slots : List ℕ} {found 
         firsts-inside [] (take k rs),
         length-take-le k rs d.passed,
       )
-
-  pub dealt-all : length rs ≤ k → found ≡ count (in_share by share) (first_of_each rs)
-  dealt-all ended = rw (take_all k rs ended) at d.counted
 
   module _ (inside : k < length rs) where
     none_more : occurs (row_at rs k) (take k rs) ≡ true → found ≡ firsts_dealt by share rs (k + 1)

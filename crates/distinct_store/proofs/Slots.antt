@@ -1,14 +1,11 @@
 -- The slots of the store: how a piece is looked for, and how a row is taken in.
---     product-fits                              a product of two numbers below 2^32 fits 64 bits
 --     same-share                                rows of the same piece are in one share
---     Passing, passing-starts, passing-on       looking for a piece: what was passed is taken and another piece
---     passing-gap, held-here                    what it finds at its end
+--     Passing                                   looking for a piece: what was passed is taken and another piece
 --     known-held, fresh-gap                     what that says of the rows passed
---     kept-inside                               what it stores is inside the table
 --     kept_more                                 the store after one more row that it lacks no piece of
 --     enrolled-known, enrolled-fresh            after a row whose piece it holds, and after one that it takes
 -- Assumes nothing.
-use Rattle.std.proofs.Common.{◌≡◌, ℕ, ◌+◌, ◌-◌, ◌*◌, ◌^◌, ◌<◌, ◌≤◌, true, false, List, length, get_or, take, set, refl, ⊎_elim, lt_of_le_of_lt, mul-le-mul, arith, lit<, get_or-set_other, get_or-set_same}
+use Rattle.std.proofs.Common.{◌≡◌, ℕ, ◌+◌, ◌-◌, ◌<◌, ◌≤◌, true, false, List, length, get_or, take, set, refl, ⊎_elim, arith, get_or-set_other, get_or-set_same}
 use native.Mathlib.Decide.{dec_lt, ℕ_discrete}
 use Rattle.rows.specs.Rows.{row_at}
 use Rattle.table.specs.Distinct.{same, occurs}
@@ -19,9 +16,6 @@ use Rattle.distinct_store.specs.declared.Dealing.{Dealing}
 use Rattle.table.proofs.Pieces.{false_of, never_both, same-fields, occurs-before, occurs-same, occurs-passed}
 
 -- ---- dealing
-
-pub product-fits : (a b : ℕ) → a ≤ 0xFFFF_FFFF → b ≤ 0xFFFF_FFFF → a * b < 2 ^ 64
-product-fits a b h h' = lt_of_le_of_lt (mul-le-mul h h') (lit< tt)
 
 same_spot : (by : Dealing) (r s : Row) → same r s ≡ true → spot by r ≡ spot by s
 unfolding spot mixed summed
@@ -42,42 +36,6 @@ pub record Passing (rs : List Row) (slots : List ℕ) (from : ℕ) (r : Row) (at
   pub start : from ≤ at
   pub taken : (i : ℕ) → from ≤ i → i < at → 0 < get_or slots i 0
   pub others : (i : ℕ) → from ≤ i → i < at → same (stored_at rs slots i) r ≡ false
-
-pub passing-starts : {rs : List Row} {slots : List ℕ} (from : ℕ) (r : Row) → Inside rs slots
-    → Passing rs slots from r from
-passing-starts from r stored =
-    record {
-      stored = stored;
-      start = omega arith;
-      taken = λ i l l'. absurd (omega arith);
-      others = λ i l l'. absurd (omega arith);
-    }
-
-module _ {rs : List Row} {slots : List ℕ} {from : ℕ} {r : Row} {at : ℕ} (p : Passing rs slots from r at) where
-  pub passing-on : 0 < get_or slots at 0 → same (stored_at rs slots at) r ≡ false → Passing rs slots from r (at + 1)
-  passing-on here other =
-      record {
-        stored = p.stored;
-        start = omega (arith, p.start);
-        taken = λ i l l'.
-            elim (ℕ_discrete i at) [
-              | yes e ↦ rw e here
-              | no apart ↦ p.taken i l (omega arith)
-            ];
-        others = λ i l l'.
-            elim (ℕ_discrete i at) [
-              | yes e ↦ rw e other
-              | no apart ↦ p.others i l (omega arith)
-            ];
-      }
-
-  pub passing-gap : at < length slots → get_or slots at 0 ≡ 0 → Gap rs slots from r at
-  passing-gap within free =
-      record { within = within; free = free; start = p.start; taken = p.taken; others = p.others }
-
-pub held-here : (rs : List Row) (slots : List ℕ) (r : Row) (at : ℕ) → 0 < get_or slots at 0
-    → same (stored_at rs slots at) r ≡ true → Held rs slots r
-held-here rs slots r at here e = record { slot = at; taken = here; it = e }
 
 -- ---- what the store says of the rows passed
 
@@ -108,9 +66,6 @@ module _ {by : Dealing} {share : ℕ} {rs : List Row} {k : ℕ} {slots : List �
 
 module _ {by : Dealing} {share : ℕ} {rs : List Row} {k : ℕ} {slots : List ℕ} (h : Kept by share rs k slots)
     (inside : k < length rs) where
-  pub kept-inside : Inside rs slots
-  kept-inside = record { inside = λ j. omega (arith, h.earlier j) }
-
   pub kept_more : ((r : Row) → share_of by r ≡ share → same (row_at rs k) r ≡ true → occurs r (take k rs) ≡ true)
       → Kept by share rs (k + 1) slots
   kept_more lacks-none =

@@ -17,7 +17,7 @@
 --     Sharing                           what the count of one share is, unless it was given up
 -- A slot holds a row's number counted from 1, or 0 where it is free. From a row's home to its slot no slot is free.
 -- Assumes nothing.
-use Rattle.std.specs.Prelude.{◌≡◌, ℕ, ◌+◌, ◌-◌, ◌*◌, ◌/◌, ◌%◌, ◌^◌, ◌<◌, ◌≤◌, Bool, true, false, List, length, take, ◌==◌, bit_xor, slice_index}
+use Rattle.std.specs.Prelude.{◌≡◌, ℕ, ◌+◌, ◌-◌, ◌*◌, ◌/◌, ◌%◌, ◌^◌, ◌<◌, ◌≤◌, Bool, true, false, List, length, take, ◌==◌, bit_xor, slice_index, Result, Ok, Err}
 use Rattle.rows.specs.Rows.{row_at}
 use Rattle.table.specs.Distinct.{same, occurs, first_of_each}
 use Rattle.table.specs.Summing.{count}
@@ -25,7 +25,8 @@ use Rattle.rows.specs.declared.Row.{Row}
 use Rattle.distinct_store.specs.declared.Dealing.{Dealing}
 use Rattle.distinct_store.specs.declared.Sought.{Sought}
 use Rattle.distinct_store.specs.declared.Enrolled.{Enrolled}
-use Rattle.distinct_store.specs.declared.Counting.{Counting}
+use Rattle.distinct_store.specs.declared.Counted.{Counted}
+use Rattle.distinct_store.specs.declared.GaveUp.{GaveUp}
 
 -- the sum of a piece's four numbers, each times its factor
 unfoldable pub summed : Dealing → Row → ℕ
@@ -88,19 +89,19 @@ pub record Gap (rs : List Row) (slots : List ℕ) (from : ℕ) (r : Row) (at : �
   pub taken : (i : ℕ) → from ≤ i → i < at → 0 < slice_index slots i
   pub others : (i : ℕ) → from ≤ i → i < at → same (stored_at rs slots i) r ≡ false
 
-abbrev pub Seeking : List Row → List ℕ → ℕ → Row → Sought → Type 0
-Seeking rs slots from r (Sought.Known left) = Held rs slots r
-Seeking rs slots from r (Sought.Free at left) = Gap rs slots from r at
-Seeking rs slots from r Sought.Lost = Unit {0}
+abbrev pub Seeking : List Row → List ℕ → ℕ → Row → Result Sought GaveUp → Type 0
+Seeking rs slots from r (Ok (Sought.Known left)) = Held rs slots r
+Seeking rs slots from r (Ok (Sought.Free at left)) = Gap rs slots from r at
+Seeking rs slots from r (Err gave_up) = Unit {0}
 
 pub record Entered (by : Dealing) (share : ℕ) (rs : List Row) (k : ℕ) (slots : List ℕ) (known : Bool) : Type 0 where
   pub told : occurs (row_at rs k) (take k rs) ≡ known
   pub kept : Kept by share rs (k + 1) slots
 
-abbrev pub Enrolling : Dealing → ℕ → List Row → ℕ → List ℕ → Enrolled → Type 0
-Enrolling by share rs k slots (Enrolled.Known left) = Entered by share rs k slots true
-Enrolling by share rs k slots (Enrolled.Fresh left) = Entered by share rs k slots false
-Enrolling by share rs k slots Enrolled.Lost = Unit {0}
+abbrev pub Enrolling : Dealing → ℕ → List Row → ℕ → List ℕ → Result Enrolled GaveUp → Type 0
+Enrolling by share rs k slots (Ok (Enrolled.Known left)) = Entered by share rs k slots true
+Enrolling by share rs k slots (Ok (Enrolled.Fresh left)) = Entered by share rs k slots false
+Enrolling by share rs k slots (Err gave_up) = Unit {0}
 
 abbrev pub firsts_dealt : Dealing → ℕ → List Row → ℕ → ℕ
 firsts_dealt by share rs k = count (in_share by share) (first_of_each (take k rs))
@@ -110,6 +111,6 @@ pub record Dealt (by : Dealing) (share : ℕ) (rs : List Row) (slots : List ℕ)
   pub counted : found ≡ firsts_dealt by share rs k
   pub kept : Kept by share rs k slots
 
-abbrev pub Sharing : Dealing → ℕ → List Row → Counting → Type 0
-Sharing by share rs (Counting.Counted found left) = found ≡ count (in_share by share) (first_of_each rs)
-Sharing by share rs Counting.GaveUp = Unit {0}
+abbrev pub Sharing : Dealing → ℕ → List Row → Result Counted GaveUp → Type 0
+Sharing by share rs (Ok counted) = counted.found ≡ count (in_share by share) (first_of_each rs)
+Sharing by share rs (Err gave_up) = Unit {0}

@@ -27,42 +27,38 @@ pub struct Dealing {
     pub homes: u32,
 }
 
+// Looking for a piece was given up, and so is what it was looked for.
+#[derive(Clone, Copy)]
+pub struct GaveUp;
+
 // What looking for a piece finds; `left` is how many probes may still be spent.
 #[derive(Drop)]
 pub enum Sought {
     Known(usize),
     Free { at: usize, left: usize },
-    Lost,
 }
 
-// What a row is that a store was asked to take in.
+// What a row is that a store was asked to take in, with the probes that are left.
 #[derive(Drop)]
 pub enum Enrolled {
     Known(usize),
     Fresh(usize),
-    Lost,
 }
 
-// A count, with the probes that are left, or that it was given up.
-#[derive(Drop)]
-pub enum Counting {
-    Counted { found: usize, left: usize },
-    GaveUp,
+// A count, with the probes that are left.
+#[derive(Clone, Copy)]
+pub struct Counted {
+    pub found: usize,
+    pub left: usize,
 }
 
 pub fn same_piece(r: Row, s: Row) -> bool
     ensures { result ≡ same r s }
 {
-    if r.left_a != s.left_a {
-        return false;
-    }
-    if r.left_b != s.left_b {
-        return false;
-    }
-    if r.length != s.length {
-        return false;
-    }
-    r.direction == s.direction
+    r.left_a == s.left_a
+        && r.left_b == s.left_b
+        && r.length == s.length
+        && r.direction == s.direction
 }
 
 fn product(a: u32, b: u32) -> u64
@@ -71,6 +67,7 @@ fn product(a: u32, b: u32) -> u64
     a as u64 * b as u64
 }
 
+#[tactic(auto, unfolding(crate::specs::Store::summed))]
 fn sum_of(row: Row, by: Dealing) -> u64
     ensures { result ≡ summed by row }
 {
@@ -85,6 +82,7 @@ fn sum_of(row: Row, by: Dealing) -> u64
     std::num::wrapping_add_u64(lefts, rest)
 }
 
+#[tactic(auto, unfolding(crate::specs::Store::folded))]
 fn folded_of(x: u64) -> u32
     ensures { result ≡ folded x }
 {
@@ -92,6 +90,7 @@ fn folded_of(x: u64) -> u32
 }
 
 // Numbers at equal distances are at equal distances no more, which under some factors would be close together.
+#[tactic(auto, unfolding(crate::specs::Store::scattered))]
 fn scattered_of(x: u32) -> u32
     ensures { result ≡ scattered x }
 {
@@ -99,12 +98,14 @@ fn scattered_of(x: u32) -> u32
     ((y ^ y / 0x1_0000) % 0x1_0000_0000) as u32
 }
 
+#[tactic(auto, unfolding(crate::specs::Store::mixed))]
 fn mixed_of(row: Row, by: Dealing) -> u32
     ensures { result ≡ mixed by row }
 {
     scattered_of(folded_of(sum_of(row, by)))
 }
 
+#[tactic(auto, unfolding(crate::specs::Store::spot))]
 pub fn spot_of(row: Row, by: Dealing) -> u64
     ensures { result ≡ spot by row }
 {
@@ -112,27 +113,31 @@ pub fn spot_of(row: Row, by: Dealing) -> u64
 }
 
 // Looks for the piece from a slot on.
-fn seek(table: &[u32], slots: &[u32], from: usize, row: Row, probes: usize) -> Sought
+fn seek(
+    table: &[u32],
+    slots: &[u32],
+    from: usize,
+    row: Row,
+    probes: usize,
+) -> Result<Sought, GaveUp>
     requires { Inside (rows_of table.now) slots.now }
     ensures { Seeking (rows_of table.now) slots.now from row result }
 {
-    let mut at = from;
     let mut left = probes;
-    while at < slots.len() {
+    for at in from..slots.len() {
         let stored = slots[at];
         if stored == 0 {
-            return Sought::Free { at, left };
+            return Ok(Sought::Free { at, left });
         }
         if left == 0 {
-            return Sought::Lost;
+            return Err(GaveUp);
         }
         left -= 1;
         if same_piece(row_at(table, (stored - 1) as usize), row) {
-            return Sought::Known(left);
+            return Ok(Sought::Known(left));
         }
-        at += 1;
     }
-    Sought::Lost
+    Err(GaveUp)
 }
 
 // Takes row k in, which is `row` and dealt to `dealt`, unless its piece is there.
@@ -144,20 +149,19 @@ pub fn enroll(
     dealt: u64,
     k: usize,
     probes: usize,
-) -> Enrolled
+) -> Result<Enrolled, GaveUp>
     requires k_in_bounds { (k < length (rows_of table.now)) × (k + 1 < 2 ^ 32) }
     requires row_value { (row ≡ row_at (rows_of table.now) k) × (dealt ≡ spot by row) }
     requires kept { Kept by (share_of by row) (rows_of table.now) k slots.old }
     ensures { Enrolling by (share_of by row) (rows_of table.now) k slots.new result }
 {
     let home = product((dealt % 0x1_0000_0000) as u32, by.homes) / 0x1_0000_0000;
-    match seek(table, slots, home as usize, row, probes) {
-        Sought::Known(left) => Enrolled::Known(left),
+    match seek(table, slots, home as usize, row, probes)? {
+        Sought::Known(left) => Ok(Enrolled::Known(left)),
         Sought::Free { at, left } => {
             slots[at] = k as u32 + 1;
-            Enrolled::Fresh(left)
+            Ok(Enrolled::Fresh(left))
         }
-        Sought::Lost => Enrolled::Lost,
     }
 }
 
@@ -168,31 +172,26 @@ pub fn count_share(
     by: Dealing,
     share: u64,
     probes: usize,
-) -> Counting
+) -> Result<Counted, GaveUp>
     requires table_len_bound { length (rows_of table.now) < 2 ^ 32 }
     requires empty { Empty slots.old }
     ensures { Sharing by share (rows_of table.now) result }
 {
-    let rows = row_count(table);
     let mut left = probes;
     let mut found: usize = 0;
-    let mut k: usize = 0;
-    while k < rows {
-        let at = k;
-        let row = row_at(table, at);
+    for k in 0..row_count(table) {
+        let row = row_at(table, k);
         let dealt = spot_of(row, by);
-        k += 1;
         if dealt / 0x1_0000_0000 != share {
             continue;
         }
-        match enroll(table, slots, by, row, dealt, at, left) {
+        match enroll(table, slots, by, row, dealt, k, left)? {
             Enrolled::Known(l) => left = l,
             Enrolled::Fresh(l) => {
                 left = l;
                 found += 1;
             }
-            Enrolled::Lost => return Counting::GaveUp,
         }
     }
-    Counting::Counted { found, left }
+    Ok(Counted { found, left })
 }

@@ -1,12 +1,7 @@
--- `seek` meets its contract. The loop keeps `Passing`: each slot from `from` on is taken, and by another piece. The
--- measure is how many slots are left. Assumes nothing.
-use Rattle.std.proofs.Common.{◌-◌, length}
+-- Each slot from `from` on is taken, and by another piece.
 use Rattle.rows.specs.Rows.{rows_of}
 use Rattle.distinct_store.proofs.Slots.{Passing}
 use Rattle.distinct_store.proofs.seek.Given as goal
 
 abbrev pub invariant-loop-at : goal.invariant-loop-at
 invariant-loop-at l = Passing (rows_of l.table) l.slots l.from l.row l.at
-
-abbrev pub decreases-loop-at : goal.decreases-loop-at
-decreases-loop-at l = length l.slots - l.at
