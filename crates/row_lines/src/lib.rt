@@ -28,9 +28,10 @@ fn put_sign(text: &mut [u8], at: usize, direction: u32) -> usize
     ensures { Put (sign direction ++ 10 ∷ []) text.old at text.new result }
 {
     if direction == 0 {
-        return put_bytes(text, at, b"+\n");
+        put_bytes(text, at, b"+\n")
+    } else {
+        put_bytes(text, at, b"-\n")
     }
-    put_bytes(text, at, b"-\n")
 }
 
 // The line of a row.
@@ -51,12 +52,9 @@ pub fn put_rows(text: &mut [u8], at: usize, table: &[u32]) -> usize
     ensures put { Put (row_lines (rows_of table.now)) text.old at text.new result }
     ensures upper_bound { result ≤ at + 86 * length (rows_of table.now) }
 {
-    let rows = row_count(table);
     let mut next = at;
-    let mut k: usize = 0;
-    while k < rows {
+    for k in 0..row_count(table) {
         next = put_row(text, next, row_at(table, k));
-        k += 1;
     }
     next
 }

@@ -1,9 +1,6 @@
--- `put_rows` meets its contract. The loop has put the lines of the first k rows; the measure is how many are left.
--- Assumes nothing.
-use Prim.Native.Nat.{◌<◌}
-use mathlib.Core.Path.{ap}
+-- `put_rows` meets its contract: the loop has put the lines of the first k rows. Assumes nothing.
 use native.Mathlib.Omega.{arith}
-use lib.ListN.{length, take}
+use lib.ListN.{take}
 use lib.Seq.{take_all, length-take-le}
 use borrow.Author.Rules.{rules}
 use Rattle.rows.specs.Rows.{rows_of}
@@ -21,20 +18,16 @@ loop-k-init c =
 pub put_row-next-requires : goal.put_row-next-requires
 put_row-next-requires c =
     let rs = rows_of c.args.table.now in
-    let k = c.loop-k.k in
-    omega (arith, row-lines-short (take k rs), length-take-le k rs c.loop-k.invariant.0)
+    omega (arith, row-lines-short (take c.loop-k.k rs), length-take-le c.loop-k.k rs (omega arith))
 
 pub loop-k-preserved : goal.loop-k-preserved
 loop-k-preserved c =
     let rs = rows_of c.args.table.now in
-    let more : c.loop-k.k < length rs = omega arith in (
-      omega arith,
-      put_same (row-lines-more rs c.loop-k.k more c.row_at.ensures)
-          (put_then c.loop-k.invariant.1 c.put_row-next.ensures),
-    )
+    put_same (row-lines-more rs c.loop-k.k (omega arith) c.row_at.ensures)
+    (put_then c.loop-k.invariant c.put_row-next.ensures)
 
 pub returns-clause-upper_bound : goal.returns-clause-upper_bound
 returns-clause-upper_bound c =
     let rs = rows_of c.args.table.now in
-    let whole = put_same (ap row_lines (take_all c.loop-k.k rs (omega arith))) c.loop-k.invariant.1 in
+    let whole = rw (take_all c.loop-k.k rs (omega arith)) at c.loop-k.invariant in
     omega (arith, whole.place, row-lines-short rs)
