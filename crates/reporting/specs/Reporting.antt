@@ -11,7 +11,6 @@
 use Rattle.std.specs.Prelude.{ℕ, suc, ◌*◌, ◌≡◌, cond, List, ◌++◌, length, take, drop, replicate, ltb, Result, Ok, Err}
 use Rattle.script.specs.Limits.{longest_script}
 use Rattle.script.specs.Reading.{Reading, admitted, refused, read_script, letters, verdict_of}
-use Rattle.script.specs.declared.Verdict.{Verdict}
 use Rattle.script.specs.declared.refusal.Refusal.{Refusal}
 use Rattle.rows.specs.Rows.{row_width, rows_of}
 use Rattle.refining.specs.Refining.{given_by, Refining, refining_of_matches}
@@ -69,7 +68,7 @@ reporting_of script text = reporting_of_text (report_of script) text
 -- of the marks the text says nothing
 pub record ReadAs (script : List ℕ) (p q count : ℕ) : Type 0 where
   pub marks : ℕ
-  pub told : verdict_of (read_script script) ≡ Verdict.Admitted p q count marks
+  pub told : verdict_of (read_script script) ≡ Ok (record { p = p; q = q; count = count; marks = marks })
 
 -- an answer is that of the call; without one the script is admitted, and the buffer as it was
 abbrev pub Briefly : List ℕ → List ℕ → List ℕ → Brief → Type 0
