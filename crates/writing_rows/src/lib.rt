@@ -7,10 +7,11 @@ ghost use Rattle.std.proofs.lemmas.List.Edits.{sets};
 ghost use Rattle.rows.specs.Rows.{row_width, row_numbers};
 ghost use Rattle.refinement.specs.Match.{match_ab};
 ghost use Rattle.refinement.specs.Least.{piece_of, pieces_between};
-ghost use Rattle.refining.specs.Columns.{columns_of, Fit};
+ghost use Rattle.match_columns.specs.Held.{columns_in};
 ghost use Rattle.refining.specs.Rows.{row_of_piece};
 ghost use Rattle.writing_rows.specs.Writing.{Stretch, Cutting, Placed, Writable, Written};
 
+use match_columns::MatchColumns;
 use rows::ROW_WIDTH;
 use runs::lower_bound;
 
@@ -86,40 +87,32 @@ fn write_match(
     next
 }
 
-// Writes the rows of every match from the table's start, and returns how many they are. [lo, hi) holds the cuts of A.
+// Writes the rows of every match from the table's start, and returns how many they are. The matches are carried from A,
+// whose cuts stand at [lo, hi).
 pub fn write_rows(
-    left_a: &[u32],
-    right_a: &[u32],
-    left_b: &[u32],
-    right_b: &[u32],
-    reversed: &[bool],
+    matches: &MatchColumns<'_>,
     work: &[u32],
     lo: usize,
     hi: usize,
     table: &mut [u32],
 ) -> usize
-    requires fit { Fit (columns_of left_a.now right_a.now left_b.now right_b.now reversed.now) }
-    requires writable { Writable (columns_of left_a.now right_a.now left_b.now right_b.now reversed.now) work.now
-        lo hi table.old }
-    ensures { Written
-        (columns_of left_a.now right_a.now left_b.now right_b.now
-        reversed.now)
-        (slice lo hi work.now) table.old table.new result }
+    requires { Writable (columns_in matches.now) work.now lo hi table.old }
+    ensures { Written (columns_in matches.now) (slice lo hi work.now) table.old table.new result }
 {
     let mut row = 0;
-    for k in 0..reversed.len() {
-        let left = left_a[k];
+    for k in 0..matches.reversed.len() {
+        let left = matches.lefts[k];
         let first = lower_bound(work, lo, hi, left);
-        let last = lower_bound(work, lo, hi, right_a[k]);
+        let last = lower_bound(work, lo, hi, matches.rights[k]);
         row = write_match(
             work,
             first,
             last,
             (k + 1) as u32,
             left,
-            left_b[k],
-            right_b[k],
-            reversed[k],
+            matches.other_lefts[k],
+            matches.other_rights[k],
+            matches.reversed[k],
             table,
             row,
         );

@@ -6,7 +6,7 @@ use Rattle.writing_rows.proofs.write_rows.Goals as goal
 
 pub loop-k-init : goal.loop-k-init
 loop-k-init c =
-    done-start c.requires.fit c.requires.writable
+    done-start c.args.matches.now.fit c.requires
 
 pub write_match-row-requires-clause-cutting : goal.write_match-row-requires-clause-cutting
 write_match-row-requires-clause-cutting c =
