@@ -19,6 +19,7 @@ use borrow.Author.Tests.{eq-eqb, lt-ltb, le-ltb}
 use lib.Dec.{ltb}
 use lib.ListN.{length, get_or, take, drop, length-append, length-drop}
 use lib.Seq.{take_at, drop_at, get_or-append-add, get_or-append_seam}
+use Rattle.std.specs.Prelude.{Result, Ok, Err}
 use Rattle.script.specs.Refusals.{number_of, place_of}
 use Rattle.script.specs.Commands.{bit_of}
 use Rattle.script.specs.Steps.{match_judgement, mark_judgement}
@@ -30,8 +31,6 @@ use Rattle.script.specs.declared.command.Match.{Match}
 use Rattle.script.specs.declared.command.Mark.{Mark}
 use Rattle.script.specs.declared.refusal.Refusal.{Refusal}
 use Rattle.script.specs.declared.refusal.Refusal.TheVariants.{BufferTooShort}
-use Rattle.script.specs.declared.step.Judgement.{Judgement}
-use Rattle.script.specs.declared.step.Judgement.TheVariants.{Sound}
 use Rattle.script.proofs.Outcome.{reach-place, reach-range, reach-tracks, reach-within, reach-on}
 use Rattle.script.proofs.Outcome.{read-outcome, outcome-admitted, outcome-refused}
 use Rattle.script.proofs.Holding.{admitted-ended}
@@ -42,7 +41,6 @@ use Rattle.records.specs.Outcomes.{WayAt, Says, SaysMark, Marked, ListingOutcome
 use Rattle.records.specs.Writing.{record_judgement, judged_from, Writing, writing_of_judgement, writing_of}
 use Rattle.records.specs.Listing.{Listing, listing_of_reading, listing_of}
 use Rattle.records.specs.Demands.{written_answer, Back, WritingDemand, listed_answer, Again, ListingDemand}
-use Rattle.records.specs.declared.Written.{Written}
 use Rattle.records.specs.declared.Listed.{Listed}
 use Rattle.records.proofs.Bytes.{Bytes}
 use Rattle.records.proofs.Scripts.{flat_append, bytes-length, Tracked}
@@ -118,7 +116,7 @@ module _ (p q : ℕ) (ns zs : List ℕ) where
       past : {n : ℕ} → written_answer w.reply ≡ value n → drop n w.script ≡ drop n out
       undone : {n : ℕ} → written_answer w.reply ≡ value n → Back p q ns zs (take n w.script)
 
-    refused-leaves : (f : Refusal) → Leaves (record { reply = Written.Refused f; script = out })
+    refused-leaves : (f : Refusal) → Leaves (record { reply = Err f; script = out })
     refused-leaves f =
         record {
           as_long = refl;
@@ -128,7 +126,7 @@ module _ (p q : ℕ) (ns zs : List ℕ) where
         }
 
     written-leaves : {bytes : List ℕ} → Back p q ns zs bytes → length bytes ≤ length out
-        → Leaves (record { reply = Written.Bytes (length bytes); script = bytes ++ drop (length bytes) out })
+        → Leaves (record { reply = Ok (length bytes); script = bytes ++ drop (length bytes) out })
     written-leaves {bytes} back room =
         record {
           as_long = over-length bytes out room;
@@ -137,7 +135,7 @@ module _ (p q : ℕ) (ns zs : List ℕ) where
           undone = λ {n} e. let is : n ≡ length bytes = cc in rw (over-front bytes out room is) back;
         }
 
-    leaves_by : {j : Judgement} → Judging p q ns zs j
+    leaves_by : {j : Result (Unit {0}) Refusal} → Judging p q ns zs j
         → Leaves (writing_of_judgement j (bytes_of p q (matches_of ns) (points_of zs)) out)
     leaves_by (faulty {f} _) = refused-leaves f
     leaves_by (sound r e) =
@@ -147,7 +145,7 @@ module _ (p q : ℕ) (ns zs : List ℕ) where
           | no short ↦ rw (lt-ltb (length out) (length bytes) (lt_of_not-le short)) (refused-leaves BufferTooShort)
         ]
 
-    pub writing-demand : {reply : Written} {out' : List ℕ} → reply ≡ (writing_of p q ns zs out).reply
+    pub writing-demand : {reply : Result ℕ Refusal} {out' : List ℕ} → reply ≡ (writing_of p q ns zs out).reply
         → out' ≡ (writing_of p q ns zs out).script → WritingDemand p q ns zs out out' (written_answer reply)
     writing-demand is is' =
         let leaves = leaves_by (judging p q ns zs) in
@@ -215,20 +213,20 @@ points-say others rest k tail =
 
 -- matches within A and B, as records, have no fault
 list-judged : (p q : ℕ) (ms : List Match) (number : ℕ) → ((m : Match) → Memᴰ m ms → Within p q m)
-    → judged_from (record_judgement p q) number (records_of (list_of ms)) ≡ Sound
+    → judged_from (record_judgement p q) number (records_of (list_of ms)) ≡ Ok tt
 unfolding judged_from records_of flat_map
 list-judged p q [] number within = refl
 list-judged p q (m ∷ ms) number within =
-    let judged : match_judgement p q number m ≡ Sound = weighed-judgement (Weighed.sound (within m (here refl))) in
+    let judged : match_judgement p q number m ≡ Ok tt = weighed-judgement (Weighed.sound (within m (here refl))) in
     rw (bit-few m.reversed, judged) (list-judged p q ms (number + 1) (λ n i. within n (there i)))
 
 -- nor have marks on them
 points-judged : (p q : ℕ) (ks : List Mark) (number : ℕ) → ((k : Mark) → Memᴰ k ks → OnSequence p q k)
-    → judged_from (mark_judgement p q) number ks ≡ Sound
+    → judged_from (mark_judgement p q) number ks ≡ Ok tt
 unfolding judged_from
 points-judged p q [] number on = refl
 points-judged p q (k ∷ ks) number on =
-    let judged : mark_judgement p q number k ≡ Sound = measured-judgement (Measured.sound (on k (here refl))) in
+    let judged : mark_judgement p q number k ≡ Ok tt = measured-judgement (Measured.sound (on k (here refl))) in
     rw judged (points-judged p q ks (number + 1) (λ n i. on n (there i)))
 
 module _ (s : List ℕ) (bytes : Bytes s) where
@@ -315,7 +313,7 @@ module _ (s : List ℕ) (bytes : Bytes s) where
           → Again s p q (take (4 * count) l.records) (take (2 * marks) l.marks)
 
     refused-lists : (f : Refusal) → ListingOutcome s (length out) (length points) (refusal (number_of f) (place_of f))
-        → Lists (record { reply = Listed.Refused f; records = out; marks = points })
+        → Lists (record { reply = Err f; records = out; marks = points })
     refused-lists f o =
         record {
           stated = o;
@@ -333,7 +331,7 @@ module _ (s : List ℕ) (bytes : Bytes s) where
     listed-lists : {p q : ℕ} {ms : List Match} {ks : List Mark} → Outcome s (value (contents (p ∷ q ∷ []) ms ks))
         → 4 * length ms ≤ length out → 2 * length ks ≤ length points
         → Lists (record {
-          reply = Listed.Records p q (length ms) (length ks);
+          reply = Ok (record { p = p; q = q; count = length ms; marks = length ks });
           records = list_of ms ++ drop (4 * length ms) out;
           marks = point_list ks ++ drop (2 * length ks) points;
         })
@@ -383,7 +381,7 @@ module _ (s : List ℕ) (bytes : Bytes s) where
         let lengths = x.lengths in
         let o : Outcome s (value (contents (x.p ∷ x.q ∷ []) ms ks)) = rw lengths at (read-outcome e) in
         let short : (length out < 4 * length ms) ⊎ (length points < 2 * length ks)
-        → Lists (record { reply = Listed.Refused BufferTooShort; records = out; marks = points }) =
+        → Lists (record { reply = Err BufferTooShort; records = out; marks = points }) =
         λ less. refused-lists BufferTooShort (ListingOutcome.buffer_too_short o less) in
         elim (dec_le (4 * length ms) (length out)) [
           | no less ↦ let h = lt_of_not-le less in rw (lt-ltb (length out) (4 * length ms) h) (short (inl h))
@@ -394,7 +392,7 @@ module _ (s : List ℕ) (bytes : Bytes s) where
           ])
         ]
 
-    pub listing-demand : {reply : Listed} {out' points' : List ℕ} → reply ≡ (listing_of s out points).reply
+    pub listing-demand : {reply : Result Listed Refusal} {out' points' : List ℕ} → reply ≡ (listing_of s out points).reply
         → out' ≡ (listing_of s out points).records → points' ≡ (listing_of s out points).marks
         → ListingDemand s out points out' points' (listed_answer reply)
     listing-demand is is' is'' =

@@ -21,14 +21,13 @@ use native.Mathlib.Decide.{ℕ_discrete, dec_lt}
 use borrow.Author.Tests.{ltb-false, eq-eqb, le-ltb}
 use lib.Dec.{ltb, eqb}
 use lib.ListN.{length, get_or, drop, length-append, drop_of_length-le}
+use Rattle.std.specs.Prelude.{Result, Ok, Err}
 use Rattle.script.specs.Commands.{bit_of}
 use Rattle.script.specs.Steps.{match_judgement, mark_judgement}
 use Rattle.script.specs.Outcomes.{Within, OnSequence}
 use Rattle.script.specs.declared.command.Match.{Match}
 use Rattle.script.specs.declared.command.Mark.{Mark}
 use Rattle.script.specs.declared.refusal.Refusal.{Refusal}
-use Rattle.script.specs.declared.step.Judgement.{Judgement}
-use Rattle.script.specs.declared.step.Judgement.TheVariants.{Sound, Faulty}
 use Rattle.script.proofs.Judged.{Weighed, weighed-judgement, Measured, measured-judgement, Opens, opens-step}
 use Rattle.records.specs.Records.{numbers_of, list_of, records_of, no_record, record_at, match_of, matches_of}
 use Rattle.records.specs.Records.{point_numbers, point_list, points_of, no_mark, point_at}
@@ -107,7 +106,7 @@ says_two {zs} {n} s = drop-two zs 0 (2 * n) s.whole ∙ rw (s.side, s.position)
 -- ---- one after the other
 
 -- judging one by one
-pub judged-here : {X : Type 0} (judge : ℕ → X → Judgement) (number : ℕ) (xs : List X) (blank : X) (n : ℕ)
+pub judged-here : {X : Type 0} (judge : ℕ → X → Result (Unit {0}) Refusal) (number : ℕ) (xs : List X) (blank : X) (n : ℕ)
     → n < length xs
     → judged_from judge number (drop n xs)
     ≡ first_fault (judge number (get_or xs n blank)) (judged_from judge (number + 1) (drop (n + 1) xs))
@@ -235,10 +234,10 @@ module _ {p q : ℕ} {ns zs : List ℕ} where
 
   -- and a faulty one is the list's fault
   pub fault-judged : {ms : List Match} {f : Refusal} → Passed p q ns zs ms → 4 * length ms + 4 ≤ length ns
-      → record_judgement p q (length ms + 1) (record_at (records_of ns) (length ms)) ≡ Faulty f
-      → judgement_of p q ns zs ≡ Faulty f
+      → record_judgement p q (length ms + 1) (record_at (records_of ns) (length ms)) ≡ Err f
+      → judgement_of p q ns zs ≡ Err f
   fault-judged {ms} {f} r h e =
-      let here : records_judgement p q ns ≡ Faulty f =
+      let here : records_judgement p q ns ≡ Err f =
       passed-judged r
       ∙ judged-here (record_judgement p q) (length ms + 1) (records_of ns) no_record (length ms)
       (omega (arith, records-length ns))
@@ -247,7 +246,7 @@ module _ {p q : ℕ} {ns zs : List ℕ} where
 
   -- behind the last record there is none
   records-judged : {ms : List Match} → Passed p q ns zs ms → length ns ≡ 4 * length ms
-      → records_judgement p q ns ≡ Sound
+      → records_judgement p q ns ≡ Ok tt
   unfolding judged_from
   records-judged {ms} r e =
       passed-judged r
@@ -272,8 +271,8 @@ module _ {p q : ℕ} {ns zs : List ℕ} where
 
   -- and a faulty one is the lists' fault
   pub mark-judged : {ms : List Match} {ks : List Mark} {k : Mark} {f : Refusal} → Marked p q ns zs ms ks
-      → SaysMark zs (length ks) k → mark_judgement p q (length ms + length ks + 1) k ≡ Faulty f
-      → judgement_of p q ns zs ≡ Faulty f
+      → SaysMark zs (length ks) k → mark_judgement p q (length ms + length ks + 1) k ≡ Err f
+      → judgement_of p q ns zs ≡ Err f
   mark-judged {ms} {ks} r s e =
       marked-judged r
       ∙ judged-here (mark_judgement p q) (length ms + length ks + 1) (points_of zs) no_mark (length ks)
@@ -282,7 +281,7 @@ module _ {p q : ℕ} {ns zs : List ℕ} where
 
   -- behind the last mark there is none
   pub all-judged : {ms : List Match} {ks : List Mark} → Marked p q ns zs ms ks → length zs ≡ 2 * length ks
-      → judgement_of p q ns zs ≡ Sound
+      → judgement_of p q ns zs ≡ Ok tt
   unfolding judged_from
   all-judged {ks = ks} r e =
       marked-judged r

@@ -15,6 +15,7 @@ use native.Mathlib.Decide.{dec_le, ℕ_discrete}
 use native.Mathlib.Nat.{lt_of_not-le}
 use borrow.Author.Tests.{eq-eqb, ne_eqb, lt-ltb, le-ltb}
 use lib.ListN.{length, get_or, drop, length-append, drop_of_length-le}
+use Rattle.std.specs.Prelude.{Result, Ok, Err}
 use Rattle.script.specs.Refusals.{number_of, place_of}
 use Rattle.script.specs.Answers.{Answer, refusal}
 use Rattle.script.specs.Steps.{mark_judgement}
@@ -24,9 +25,7 @@ use Rattle.script.specs.declared.command.Mark.{Mark}
 use Rattle.script.specs.declared.refusal.Refusal.{Refusal}
 use Rattle.script.specs.declared.refusal.Refusal.TheVariants.{LengthOutOfRange, TooManyMatches, MalformedRecords}
 use Rattle.script.specs.declared.refusal.Refusal.TheVariants.{TooManyMarks}
-use Rattle.script.specs.declared.step.Opening.{Opening}
-use Rattle.script.specs.declared.step.Judgement.{Judgement}
-use Rattle.script.specs.declared.step.Judgement.TheVariants.{Sound, Faulty}
+use Rattle.script.specs.declared.step.Lengths.{Lengths}
 use Rattle.script.proofs.Judged.{Weighed, weighed, weighed-judgement, Measured, measured, measured-judgement}
 use Rattle.script.proofs.Judged.{Opens, opens, opens-step}
 use Rattle.records.specs.Records.{records_of, no_record, record_at, match_of, matches_of, points_of, no_mark, point_at}
@@ -45,18 +44,18 @@ use Rattle.records.proofs.Passed.{fault-judged, mark-judged, all-judged}
 
 -- ---- the judgement
 
-fault-assoc : (j later last : Judgement) → first_fault (first_fault j later) last ≡ first_fault j (first_fault later last)
-fault-assoc Sound later last = refl
-fault-assoc (Faulty f) later last = refl
+fault-assoc : (j later last : Result (Unit {0}) Refusal) → first_fault (first_fault j later) last ≡ first_fault j (first_fault later last)
+fault-assoc (Ok _) later last = refl
+fault-assoc (Err f) later last = refl
 
 module _ (p q : ℕ) (ns zs : List ℕ) where
-  pub data Judging : Judgement → Type 0 where
+  pub data Judging : Result (Unit {0}) Refusal → Type 0 where
     faulty : {f : Refusal} → ((room : ℕ) → WritingOutcome p q ns zs room (refusal (number_of f) (place_of f)))
-        → Judging (Faulty f)
-    sound : {ms : List Match} {ks : List Mark} → Marked p q ns zs ms ks → length zs ≡ 2 * length ks → Judging Sound
+        → Judging (Err f)
+    sound : {ms : List Match} {ks : List Mark} → Marked p q ns zs ms ks → length zs ≡ 2 * length ks → Judging (Ok tt)
 
   -- a record that says a match, by what the match comes to
-  match-judging : {ms : List Match} {m : Match} {j later : Judgement} → Passed p q ns zs ms → Says ns (length ms) m
+  match-judging : {ms : List Match} {m : Match} {j later : Result (Unit {0}) Refusal} → Passed p q ns zs ms → Says ns (length ms) m
       → Weighed p q (length ms + 1) m j → (Passed p q ns zs (ms ++ m ∷ []) → Judging later)
       → Judging (first_fault j later)
   match-judging r s (Weighed.empty e) next = faulty (λ _. WritingOutcome.empty_match r s e)
@@ -65,7 +64,7 @@ module _ (p q : ℕ) (ns zs : List ℕ) where
   match-judging r s (Weighed.sound w) next = next (passed r s w)
 
   -- any record
-  record-judging : {ms : List Match} {later : Judgement} → Passed p q ns zs ms → 4 * length ms + 4 ≤ length ns
+  record-judging : {ms : List Match} {later : Result (Unit {0}) Refusal} → Passed p q ns zs ms → 4 * length ms + 4 ≤ length ns
       → ((m : Match) → Passed p q ns zs (ms ++ m ∷ []) → Judging later)
       → Judging (first_fault (record_judgement p q (length ms + 1) (record_at (records_of ns) (length ms))) later)
   record-judging {ms} r h next =
@@ -81,7 +80,7 @@ module _ (p q : ℕ) (ns zs : List ℕ) where
       ]
 
   -- all of them, from the one behind the matches passed on, and what comes behind
-  records-judging : (left : ℕ) {ms : List Match} {later : Judgement} → Passed p q ns zs ms
+  records-judging : (left : ℕ) {ms : List Match} {later : Result (Unit {0}) Refusal} → Passed p q ns zs ms
       → length (records_of ns) ≡ length ms + left
       → ((all : List Match) → Passed p q ns zs all → length ns ≡ 4 * length all → Judging later)
       → Judging
@@ -101,7 +100,7 @@ module _ (p q : ℕ) (ns zs : List ℕ) where
       rw snoc at (records-judging left r' (omega (arith, snoc)) next)))
 
   -- a mark, by what it comes to
-  mark-judging : {ms : List Match} {ks : List Mark} {k : Mark} {j later : Judgement} → Marked p q ns zs ms ks
+  mark-judging : {ms : List Match} {ks : List Mark} {k : Mark} {j later : Result (Unit {0}) Refusal} → Marked p q ns zs ms ks
       → SaysMark zs (length ks) k → Measured p q (length ms + length ks + 1) k j
       → (Marked p q ns zs ms (ks ++ k ∷ []) → Judging later) → Judging (first_fault j later)
   mark-judging r s (Measured.no_side h) next = faulty (λ _. WritingOutcome.no_such_side r s h)
@@ -178,7 +177,7 @@ module _ (p q : ℕ) (ns zs : List ℕ) where
         ]
       ]
 
-  lengths-judging : {o : Opening} → Opens p q o → Judging (after_lengths o (list_judgement p q ns zs))
+  lengths-judging : {o : Result Lengths Refusal} → Opens p q o → Judging (after_lengths o (list_judgement p q ns zs))
   lengths-judging (Opens.open_them a b) = list-judging a b
   lengths-judging (Opens.out_of_range n) = faulty (λ _. WritingOutcome.length_out_of_range n)
 
@@ -192,15 +191,15 @@ module _ (p q : ℕ) (ns zs : List ℕ) where
     passed : Marked p q ns zs matches marks
     whole : length zs ≡ 2 * length marks
 
-  sound-lists : judgement_of p q ns zs ≡ Sound → SoundLists
+  sound-lists : judgement_of p q ns zs ≡ Ok tt → SoundLists
   sound-lists is = go judging is
     where
-      go : {j : Judgement} → Judging j → j ≡ Sound → SoundLists
+      go : {j : Result (Unit {0}) Refusal} → Judging j → j ≡ Ok tt → SoundLists
       go (faulty o) e = let z : ◌≡◌ {A = ℕ} 0 1 = cc in absurd (omega arith)
       go (sound {ms} {ks} r e) _ = record { matches = ms; marks = ks; passed = r; whole = e }
 
   -- of a list without a fault each record has direction 0 or 1
-  pub sound-directed : judgement_of p q ns zs ≡ Sound → (k : ℕ) → k < length (records_of ns)
+  pub sound-directed : judgement_of p q ns zs ≡ Ok tt → (k : ℕ) → k < length (records_of ns)
       → (record_at (records_of ns) k).direction ≤ 1
   sound-directed is k h =
       let l = sound-lists is in
@@ -212,7 +211,7 @@ module _ (p q : ℕ) (ns zs : List ℕ) where
   on-side (OnSequence.on_a e _) = omega arith
   on-side (OnSequence.on_b e _) = omega arith
 
-  pub sound-sided : judgement_of p q ns zs ≡ Sound → (n : ℕ) → n < length (points_of zs)
+  pub sound-sided : judgement_of p q ns zs ≡ Ok tt → (n : ℕ) → n < length (points_of zs)
       → (point_at (points_of zs) n).side ≤ 1
   sound-sided is n h =
       let l = sound-lists is in
@@ -230,7 +229,7 @@ module _ (p q : ℕ) (ns zs : List ℕ) where
       ∙ rw (passed-matches x.0 x.1, marked-points r e)
 
   module _ (out : List ℕ) where
-    stated-by : {j : Judgement} → Judging j
+    stated-by : {j : Result (Unit {0}) Refusal} → Judging j
         → WritingOutcome p q ns zs (length out)
         (written_answer (writing_of_judgement j (bytes_of p q (matches_of ns) (points_of zs)) out).reply)
     stated-by (faulty o) = o (length out)
@@ -250,7 +249,7 @@ module _ (p q : ℕ) (ns zs : List ℕ) where
 
     -- ---- any outcome that applies is the computed reply
 
-    refused-alone : (f : Refusal) → judgement_of p q ns zs ≡ Faulty f
+    refused-alone : (f : Refusal) → judgement_of p q ns zs ≡ Err f
         → refusal (number_of f) (place_of f) ≡ written_answer (writing_of p q ns zs out).reply
     refused-alone f e = rw e
 
@@ -270,13 +269,13 @@ module _ (p q : ℕ) (ns zs : List ℕ) where
         (fault-judged r h (rw (record-held ns (length ms) h, lt-ltb 1 (get_or ns (4 * length ms + 3) 0) over)))
 
     match-alone : {ms : List Match} {m : Match} {f : Refusal} → Passed p q ns zs ms → Says ns (length ms) m
-        → Weighed p q (length ms + 1) m (Faulty f)
+        → Weighed p q (length ms + 1) m (Err f)
         → refusal (number_of f) (place_of f) ≡ written_answer (writing_of p q ns zs out).reply
     match-alone {ms} {f = f} r s w =
         refused-alone f (fault-judged r s.whole (says-judged p q (length ms + 1) s ∙ weighed-judgement w))
 
     mark-alone : {ms : List Match} {ks : List Mark} {k : Mark} {f : Refusal} → Marked p q ns zs ms ks
-        → SaysMark zs (length ks) k → Measured p q (length ms + length ks + 1) k (Faulty f)
+        → SaysMark zs (length ks) k → Measured p q (length ms + length ks + 1) k (Err f)
         → refusal (number_of f) (place_of f) ≡ written_answer (writing_of p q ns zs out).reply
     mark-alone {f = f} r s w = refused-alone f (mark-judged r s (measured-judgement w))
 

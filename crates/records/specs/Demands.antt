@@ -8,18 +8,18 @@
 -- 02, #101: "Each undoes the other, bytes to records to bytes and records to bytes to records"; of the first, #106 says
 -- "only scripts in that order come back byte for byte". `proofs/Demands` shows that `writing_of` and `listing_of` meet
 -- them. Assumes nothing.
-use Rattle.std.specs.Prelude.{ℕ, ◌*◌, ◌≤◌, ◌≡◌, List, [], ◌∷◌, ◌++◌, length, take, drop}
+use Rattle.std.specs.Prelude.{ℕ, ◌*◌, ◌≤◌, ◌≡◌, List, [], ◌∷◌, ◌++◌, length, take, drop, Result, Ok, Err}
 use Rattle.script.specs.Refusals.{number_of, place_of}
 use Rattle.script.specs.Answers.{Answer, value, refusal, contents}
 use Rattle.script.specs.Outcomes.{Reach, Outcome}
 use Rattle.script.specs.Demands.{Counted, counted}
+use Rattle.script.specs.declared.refusal.Refusal.{Refusal}
 use Rattle.script.specs.declared.command.Match.{Match}
 use Rattle.script.specs.declared.command.Mark.{Mark}
 use Rattle.records.specs.Records.{list_of, point_list}
 use Rattle.records.specs.Outcomes.{Says, SaysMark, WritingOutcome, ListingOutcome}
 use Rattle.records.specs.Writing.{writing_of}
 use Rattle.records.specs.Listing.{listing_of}
-use Rattle.records.specs.declared.Written.{Written}
 use Rattle.records.specs.declared.Listed.{Listed}
 
 -- SCOPE, "Listed": an admitted script whose matches all stand before an offset before which no mark stands
@@ -35,9 +35,9 @@ pub record MatchesFirst (s : List ℕ) : Type 0 where
 -- ---- writing
 
 -- SCOPE, "Enums": the script's length, or the refusal
-abbrev pub written_answer : Written → Answer ℕ
-written_answer (Written.Bytes n) = value n
-written_answer (Written.Refused f) = refusal (number_of f) (place_of f)
+abbrev pub written_answer : Result ℕ Refusal → Answer ℕ
+written_answer (Ok n) = value n
+written_answer (Err f) = refusal (number_of f) (place_of f)
 
 -- "records to bytes to records"
 pub record Back (p q : ℕ) (ns zs script : List ℕ) : Type 0 where
@@ -54,7 +54,7 @@ pub record Back (p q : ℕ) (ns zs script : List ℕ) : Type 0 where
   pub back : (lent lent-marks : List ℕ) → length ns ≤ length lent → length zs ≤ length lent-marks
       → listing_of script lent lent-marks
       ≡ record {
-        reply = Listed.Records p q (length matches) (length marks);
+        reply = Ok (record { p = p; q = q; count = length matches; marks = length marks });
         records = ns ++ drop (length ns) lent;
         marks = zs ++ drop (length zs) lent-marks;
       }
@@ -76,9 +76,9 @@ pub record WritingDemand (p q : ℕ) (ns zs out out' : List ℕ) (answer : Answe
 -- ---- reading into lists
 
 -- SCOPE, "Enums": the lengths and the counts, or the refusal
-abbrev pub listed_answer : Listed → Answer Counted
-listed_answer (Listed.Records p q count marks) = value (counted p q count marks)
-listed_answer (Listed.Refused f) = refusal (number_of f) (place_of f)
+abbrev pub listed_answer : Result Listed Refusal → Answer Counted
+listed_answer (Ok l) = value (counted l.p l.q l.count l.marks)
+listed_answer (Err f) = refusal (number_of f) (place_of f)
 
 -- "bytes to records to bytes", of the script s and the records and marks in it
 pub record Again (s : List ℕ) (p q : ℕ) (ns zs : List ℕ) : Type 0 where
@@ -86,7 +86,7 @@ pub record Again (s : List ℕ) (p q : ℕ) (ns zs : List ℕ) : Type 0 where
   pub script : List ℕ
   pub written : (lent : List ℕ) → length s ≤ length lent
       → writing_of p q ns zs lent
-      ≡ record { reply = Written.Bytes (length s); script = script ++ drop (length s) lent }
+      ≡ record { reply = Ok (length s); script = script ++ drop (length s) lent }
   -- .. and it is this one, byte for byte, if the matches stand first here, and only then
   pub same : MatchesFirst s → script ≡ s
   pub only : script ≡ s → MatchesFirst s

@@ -2,25 +2,26 @@
 --     Listing                        the reply of the call, and what the two lent buffers hold after it
 --     listing_of script out points    all three, by the script and what the buffers hold before it
 -- 02, #101 and #106; SCOPE, "Order of listing". Assumes nothing.
-use Rattle.std.specs.Prelude.{ℕ, ◌*◌, cond, ◌||◌, List, ◌++◌, length, drop, ltb}
+use Rattle.std.specs.Prelude.{ℕ, ◌*◌, cond, ◌||◌, List, ◌++◌, length, drop, ltb, Result, Ok, Err}
 use Rattle.script.specs.Reading.{Reading, admitted, refused, read_script, letters}
+use Rattle.script.specs.declared.refusal.Refusal.{Refusal}
 use Rattle.script.specs.declared.refusal.Refusal.TheVariants.{BufferTooShort}
 use Rattle.records.specs.Records.{record_width, list_of, mark_numbers, point_list}
 use Rattle.records.specs.declared.Listed.{Listed}
 
 pub record Listing : Type 0 where
-  pub reply : Listed
+  pub reply : Result Listed Refusal
   pub records : List ℕ
   pub marks : List ℕ
 
 -- the script's own refusals, then 16 if either buffer is too short; records and marks that fit stand at the start of
 -- their buffer, and the numbers behind are kept
 abbrev pub listing_of_reading : Reading → List ℕ → List ℕ → Listing
-listing_of_reading (refused f) out points = record { reply = Listed.Refused f; records = out; marks = points }
+listing_of_reading (refused f) out points = record { reply = Err f; records = out; marks = points }
 listing_of_reading (admitted ls ms ks) out points =
-    let short : Listing = record { reply = Listed.Refused BufferTooShort; records = out; marks = points } in
+    let short : Listing = record { reply = Err BufferTooShort; records = out; marks = points } in
     let whole : Listing = record {
-      reply = Listed.Records (letters ls 0) (letters ls 1) (length ms) (length ks);
+      reply = Ok (record { p = letters ls 0; q = letters ls 1; count = length ms; marks = length ks });
       records = list_of ms ++ drop (record_width * length ms) out;
       marks = point_list ks ++ drop (mark_numbers * length ks) points;
     } in

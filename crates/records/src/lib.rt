@@ -3,8 +3,6 @@
 // `writer`'s and `record_reader`'s.
 #![tactic(auto)]
 
-use script::Refusal;
-
 // The numbers of a record, and of a mark; specs/Records.antt has them for the definitions.
 pub const RECORD_WIDTH: usize = 4;
 
@@ -19,21 +17,11 @@ pub struct Record {
     pub direction: u32,
 }
 
-// The length of the script that was written.
+// What is told of a script that was read into lists: its two lengths, and how many records and marks were written.
 #[derive(Clone, Copy)]
-pub enum Written {
-    Bytes(usize),
-    Refused(Refusal),
-}
-
-// The lengths of a script, and how many records and marks were written.
-#[derive(Clone, Copy)]
-pub enum Listed {
-    Records {
-        p: u32,
-        q: u32,
-        count: usize,
-        marks: usize,
-    },
-    Refused(Refusal),
+pub struct Listed {
+    pub p: u32,
+    pub q: u32,
+    pub count: usize,
+    pub marks: usize,
 }
