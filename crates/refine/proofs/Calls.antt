@@ -4,9 +4,9 @@
 --     mark-reaches, mark-prefix     the columns of its marks, likewise
 --     refining-met, read-refused, read-refined
 --                        the contract, by one equation, which holds of a refused script and of an admitted one
---     straight-prefix, short-straight, many-straight     a column in which no match is reversed
---     short-roomy, many-roomy   columns with room for the matches of a script of so many bytes, and of any
---     short-marks, many-marks   and for its marks
+--     straight-prefix, straight-in    a column in which no match is reversed
+--     roomy-in           columns with room for the matches of a script
+--     short-matches, short-marks   how many matches and marks a script of so many bytes has at most
 -- Assumes nothing.
 use Prim.Native.Nat.{ℕ, zero, suc, ◌+◌, ◌*◌, ◌≤◌, ◌<◌}
 use mathlib.Core.Path.{◌≡◌, refl, sym, ap, ◌∙◌}
@@ -18,7 +18,7 @@ use Rattle.script.specs.Commands.{mark_width}
 use Rattle.script.specs.Limits.{most_matches, most_marks}
 use Rattle.script.specs.Reading.{read_script, verdict_of}
 use Rattle.script.specs.Columns.{matches_read, marks_read, column_of, column_read, ColumnsRead, MarksRead}
-use Rattle.script.specs.declared.Verdict.{Verdict}
+use Rattle.script.specs.declared.Admitted.{Admitted}
 use Rattle.script.specs.declared.refusal.Refusal.{Refusal}
 use Rattle.script.specs.declared.command.Match.{Match as ScriptMatch}
 use Rattle.refining.specs.Columns.{FitRead, columns_read}
@@ -28,7 +28,7 @@ use Rattle.refining_matches.specs.Tabling.{MatchesRefined}
 use Rattle.refining_matches.proofs.MarksHeld.{marks_held}
 use Rattle.tracks.specs.Tracks.{marks_of}
 use Rattle.refine.specs.Calls.{ScriptRefined, Roomy, RoomyMarks, Straight, bytes_of}
-use Rattle.refining.specs.declared.answers.Refined.{Refined}
+use Rattle.std.specs.Prelude.{Result, Ok, Err}
 use Rattle.script.proofs.Holding.{Holds, holds-admitted, reading-refused, matches-few, marks-few}
 use Rattle.script.proofs.Columns.{column-length, column-filled}
 use Rattle.refining.proofs.Numbered.{held-admitted, held-fit}
@@ -62,9 +62,13 @@ module _ {X Y : Type 0} {xs read : List X} {count : ℕ} (same : read ≡ xs) (c
     column-prefix = omega (arith, column-reaches, length-take count after)
 
 -- the columns of an admitted script, by the reader's stated result
-module _ (script : List ℕ) {told : Verdict} {p q count marks : ℕ} (e : told ≡ verdict_of (read_script script))
-    (v : told ≡ Verdict.Admitted p q count marks) where
-  held : Holds script p q count marks
+module _ (script : List ℕ) {told : Result Admitted Refusal} {a : Admitted} (e : told ≡ verdict_of (read_script script))
+    (v : told ≡ Ok a) where
+  count marks : ℕ
+  count = a.count
+  marks = a.marks
+
+  held : Holds script a.p a.q a.count a.marks
   held = holds-admitted script e v
 
   matches-read : matches_read (read_script script) ≡ held.matches
@@ -164,7 +168,7 @@ module _ (script : List ℕ) {told : Verdict} {p q count marks : ℕ} (e : told 
         )
 
     pub read-refined : {z x z' x' : List ℕ} → RoomyMarks script z x → MarksRead script z x z' x'
-        → (table work : List ℕ) {reply : Refined} {table' work' : List ℕ}
+        → (table work : List ℕ) {reply : Result ℕ Refusal} {table' work' : List ℕ}
         → MatchesRefined
         (held_in (columns_read (take count f') (take count t') (take (length (take count f')) u') (take count r'))
         (marks_of (take marks z') (take marks x'))) table work reply table' work'
@@ -176,7 +180,7 @@ module _ (script : List ℕ) {told : Verdict} {p q count marks : ℕ} (e : told 
 
 -- the contract of `refine`, by the one equation of what the call leaves
 pub refining-met :
-    {script table work : List ℕ} {reply : Refined} {table' work' : List ℕ}
+    {script table work : List ℕ} {reply : Result ℕ Refusal} {table' work' : List ℕ}
     → ScriptRefined script table work reply table' work'
     → (reply ≡ (refining_of script table work).reply)
     × ((table' ≡ (refining_of script table work).table)
@@ -187,15 +191,15 @@ pub refining-met :
 refining-met {script} {table} {work} e = refining-contract script table work (sym e)
 
 pub read-refused :
-    (script table work : List ℕ) {told : Verdict} {f : Refusal} {reply : Refined} → told ≡ verdict_of (read_script script)
-    → told ≡ Verdict.Refused f
-    → reply ≡ Refined.Refused f
+    (script table work : List ℕ) {told : Result Admitted Refusal} {f : Refusal} {reply : Result ℕ Refusal} → told ≡ verdict_of (read_script script)
+    → told ≡ Err f
+    → reply ≡ Err f
     → ScriptRefined script table work reply table work
 read-refused script table work e v is =
     rw is (sym (refining-refused script table work (reading-refused script e v)))
 
--- columns of n have room for n matches: those of a script with the bytes of n, and where n is 2,048 those of any
-roomy-in :
+-- columns of n numbers have room for n matches
+pub roomy-in :
     (n : ℕ) {s f g t u : List ℕ} {r : List Bool} → length (matches_read (read_script s)) ≤ n → length f ≡ n
     → length g ≡ n → length t ≡ n → length u ≡ n → length r ≡ n → Roomy s f g t u r
 roomy-in n few ef eg et eu er = record {
@@ -206,35 +210,18 @@ roomy-in n few ef eg et eu er = record {
   reversed = omega arith;
 }
 
-pub short-roomy :
-    (n : ℕ) {s f g t u : List ℕ} {r : List Bool} → length s ≤ bytes_of n → length f ≡ n → length g ≡ n → length t ≡ n
-    → length u ≡ n → length r ≡ n → Roomy s f g t u r
-short-roomy n {s} short = roomy-in n (omega (arith, matches-few s))
-
-pub many-roomy :
-    {s f g t u : List ℕ} {r : List Bool} → length f ≡ most_matches → length g ≡ most_matches → length t ≡ most_matches
-    → length u ≡ most_matches → length r ≡ most_matches → Roomy s f g t u r
-many-roomy {s} = roomy-in most_matches (matches-few s).1
-
--- and for the marks: six bytes each, and 512 at most
-pub short-marks :
-    (n k : ℕ) {s z x : List ℕ} → length s ≤ bytes_of n → bytes_of n < mark_width * (k + 1) → length z ≡ k → length x ≡ k
-    → RoomyMarks s z x
-short-marks n k {s} short room ez ex =
-    let few = marks-few s in record { side = omega (arith, few); position = omega (arith, few) }
-
-pub many-marks : {s z x : List ℕ} → length z ≡ most_marks → length x ≡ most_marks → RoomyMarks s z x
-many-marks {s} ez ex = let few = marks-few s in record { side = omega (arith, few); position = omega (arith, few) }
-
 -- the same of a column in which no match is reversed
-straight-in : (n : ℕ) {s : List ℕ} → length (matches_read (read_script s)) ≤ n → Straight s (replicate n false)
+pub straight-in : (n : ℕ) {s : List ℕ} → length (matches_read (read_script s)) ≤ n → Straight s (replicate n false)
 straight-in n few = record {
   room = omega (arith, length-replicate n false);
   none = ap (λ (k : ℕ). replicate k false) (sym (length-replicate n false));
 }
 
-pub short-straight : (n : ℕ) {s : List ℕ} → length s ≤ bytes_of n → Straight s (replicate n false)
-short-straight n {s} short = straight-in n (omega (arith, matches-few s))
+-- a script with the bytes of n matches has no more, and no more marks than its bytes have room for
+pub short-matches : (n : ℕ) {s : List ℕ} → length s ≤ bytes_of n → length (matches_read (read_script s)) ≤ n
+short-matches n {s} short = omega (arith, matches-few s)
 
-pub many-straight : {s : List ℕ} → Straight s (replicate most_matches false)
-many-straight {s} = straight-in most_matches (matches-few s).1
+pub short-marks :
+    (n k : ℕ) {s : List ℕ} → length s ≤ bytes_of n → bytes_of n < mark_width * (k + 1)
+    → length (marks_read (read_script s)) ≤ k
+short-marks n k {s} short room = omega (arith, marks-few s)

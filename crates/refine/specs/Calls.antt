@@ -5,15 +5,15 @@
 --     Straight           a column in which no match is reversed
 --     bytes_of n          the bytes of a script of n matches
 -- Assumes nothing.
-use Rattle.std.specs.Prelude.{ℕ, ◌+◌, ◌*◌, ◌≤◌, ◌≡◌, Bool, false, List, length, replicate}
+use Rattle.std.specs.Prelude.{ℕ, ◌+◌, ◌*◌, ◌≤◌, ◌≡◌, Bool, false, List, length, replicate, Result}
 use Rattle.script.specs.Commands.{lengths_width, match_width}
 use Rattle.script.specs.Reading.{read_script}
 use Rattle.script.specs.Columns.{matches_read, marks_read}
 use Rattle.refining.specs.Refining.{refining_of}
-use Rattle.refining.specs.declared.answers.Refined.{Refined}
+use Rattle.script.specs.declared.refusal.Refusal.{Refusal}
 
 -- the whole call
-abbrev pub ScriptRefined : List ℕ → List ℕ → List ℕ → Refined → List ℕ → List ℕ → Type 0
+abbrev pub ScriptRefined : List ℕ → List ℕ → List ℕ → Result ℕ Refusal → List ℕ → List ℕ → Type 0
 ScriptRefined script table work reply table' work' =
     record { reply = reply; table = table'; work = work' } ≡ refining_of script table work
 

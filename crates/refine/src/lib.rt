@@ -3,13 +3,14 @@
 
 ghost use Rattle.std.specs.Prelude.{◌≡◌, ◌≤◌, length};
 ghost use Rattle.refining.specs.Refining.{refining_of};
-ghost use Rattle.refine.specs.Calls.{Roomy, RoomyMarks, Straight, ScriptRefined, bytes_of};
+ghost use Rattle.script.specs.Reading.{read_script};
+ghost use Rattle.script.specs.Columns.{matches_read, marks_read};
+ghost use Rattle.refine.specs.Calls.{Roomy, RoomyMarks, Straight, ScriptRefined};
 ghost use Rattle.refining.specs.Demands.{answer_of, Demand1, Demand2, Demand3};
 
 use reader::columns::read_columns;
-use refining::answers::Refined;
 use refining_matches::refine_read;
-use script::Verdict;
+use script::Refusal;
 use script::command::{LENGTHS_WIDTH, MATCH_WIDTH};
 use script::limits::{MOST_MARKS, MOST_MATCHES};
 
@@ -49,118 +50,53 @@ fn refine_in(
     index_b: &mut [u32],
     table: &mut [u32],
     work: &mut [u32],
-) -> Refined
+) -> Result<usize, Refusal>
     requires roomy { Roomy script.now left_a.old right_a.old left_b.old right_b.old reversed.old }
     requires straight { Straight script.now straight.now }
     requires roomy_marks { RoomyMarks script.now sides.old positions.old }
     ensures { ScriptRefined script.now table.old work.old result table.new
         work.new }
 {
-    match read_columns(script, left_a, left_b, right_b, reversed, sides, positions) {
-        Verdict::Refused(refusal) => Refined::Refused(refusal),
-        Verdict::Admitted {
-            p: _,
-            q: _,
-            count,
-            marks,
-        } => refine_read(
-            &left_a[..count],
-            right_a,
-            &left_b[..count],
-            right_b,
-            &reversed[..count],
-            &straight[..count],
-            &sides[..marks],
-            &positions[..marks],
-            index_a,
-            index_b,
-            table,
-            work,
-        ),
-    }
-}
-
-// A script whose bytes have room for few matches: no longer columns are made than they can fill.
-fn refine_few(script: &[u8], table: &mut [u32], work: &mut [u32]) -> Refined
-    requires { length script.now ≤ bytes_of 32 }
-    ensures { ScriptRefined script.now table.old work.old result table.new
-        work.new }
-{
-    let mut left_a = [0; FEW_MATCHES];
-    let mut right_a = [0; FEW_MATCHES];
-    let mut left_b = [0; FEW_MATCHES];
-    let mut right_b = [0; FEW_MATCHES];
-    let mut reversed = [false; FEW_MATCHES];
-    let straight = [false; FEW_MATCHES];
-    let mut sides = [0u8; FEW_MARKS];
-    let mut positions = [0; FEW_MARKS];
-    let mut index_a = [0; FEW_INDEX];
-    let mut index_b = [0; FEW_INDEX];
-    refine_in(
-        script,
-        &mut left_a[..],
-        &mut right_a[..],
-        &mut left_b[..],
-        &mut right_b[..],
-        &mut reversed[..],
-        &straight[..],
-        &mut sides[..],
-        &mut positions[..],
-        &mut index_a[..],
-        &mut index_b[..],
+    let read = read_columns(script, left_a, left_b, right_b, reversed, sides, positions)?;
+    let count = read.count;
+    let marks = read.marks;
+    refine_read(
+        &left_a[..count],
+        right_a,
+        &left_b[..count],
+        right_b,
+        &reversed[..count],
+        &straight[..count],
+        &sides[..marks],
+        &positions[..marks],
+        index_a,
+        index_b,
         table,
         work,
     )
 }
 
-// One with room for some matches.
-fn refine_some(script: &[u8], table: &mut [u32], work: &mut [u32]) -> Refined
-    requires { length script.now ≤ bytes_of 256 }
-    ensures { ScriptRefined script.now table.old work.old result table.new
-        work.new }
+// A script whose matches and marks have room in columns of these lengths, which are made here, and with room for two
+// indices of such a length.
+fn refine_sized<const MATCHES: usize, const MARKS: usize, const INDEX: usize>(
+    script: &[u8],
+    table: &mut [u32],
+    work: &mut [u32],
+) -> Result<usize, Refusal>
+    requires matches { length (matches_read (read_script script.now)) ≤ MATCHES }
+    requires marks { length (marks_read (read_script script.now)) ≤ MARKS }
+    ensures { ScriptRefined script.now table.old work.old result table.new work.new }
 {
-    let mut left_a = [0; SOME_MATCHES];
-    let mut right_a = [0; SOME_MATCHES];
-    let mut left_b = [0; SOME_MATCHES];
-    let mut right_b = [0; SOME_MATCHES];
-    let mut reversed = [false; SOME_MATCHES];
-    let straight = [false; SOME_MATCHES];
-    let mut sides = [0u8; MOST_MARKS];
-    let mut positions = [0; MOST_MARKS];
-    let mut index_a = [0; SOME_INDEX];
-    let mut index_b = [0; SOME_INDEX];
-    refine_in(
-        script,
-        &mut left_a[..],
-        &mut right_a[..],
-        &mut left_b[..],
-        &mut right_b[..],
-        &mut reversed[..],
-        &straight[..],
-        &mut sides[..],
-        &mut positions[..],
-        &mut index_a[..],
-        &mut index_b[..],
-        table,
-        work,
-    )
-}
-
-// Any script.
-fn refine_many(script: &[u8], table: &mut [u32], work: &mut [u32]) -> Refined
-    ensures { ScriptRefined script.now table.old work.old result table.new
-        work.new }
-{
-    let mut left_a = [0; MOST_MATCHES];
-    let mut right_a = [0; MOST_MATCHES];
-    let mut left_b = [0; MOST_MATCHES];
-    let mut right_b = [0; MOST_MATCHES];
-    let mut reversed = [false; MOST_MATCHES];
-    let straight = [false; MOST_MATCHES];
-    let mut sides = [0u8; MOST_MARKS];
-    let mut positions = [0; MOST_MARKS];
-    let mut index_a = [0; MOST_INDEX];
-    let mut index_b = [0; MOST_INDEX];
+    let mut left_a = [0; MATCHES];
+    let mut right_a = [0; MATCHES];
+    let mut left_b = [0; MATCHES];
+    let mut right_b = [0; MATCHES];
+    let mut reversed = [false; MATCHES];
+    let straight = [false; MATCHES];
+    let mut sides = [0u8; MARKS];
+    let mut positions = [0; MARKS];
+    let mut index_a = [0; INDEX];
+    let mut index_b = [0; INDEX];
     refine_in(
         script,
         &mut left_a[..],
@@ -180,18 +116,19 @@ fn refine_many(script: &[u8], table: &mut [u32], work: &mut [u32]) -> Refined
 
 // Any script, in columns that are made for long ones. It is called from two places, so that these are in a frame of its
 // own: a short script has no use for it.
-pub fn refine_long(script: &[u8], table: &mut [u32], work: &mut [u32]) -> Refined
+pub fn refine_long(script: &[u8], table: &mut [u32], work: &mut [u32]) -> Result<usize, Refusal>
     ensures { ScriptRefined script.now table.old work.old result table.new
         work.new }
 {
     if script.len() <= MEDIUM_SCRIPT {
-        return refine_some(script, table, work);
+        refine_sized::<SOME_MATCHES, MOST_MARKS, SOME_INDEX>(script, table, work)
+    } else {
+        refine_sized::<MOST_MATCHES, MOST_MARKS, MOST_INDEX>(script, table, work)
     }
-    refine_many(script, table, work)
 }
 
 // Makes the piece table of a script. Success gives the count of rows, which stand from the table's start.
-pub fn refine(script: &[u8], table: &mut [u32], work: &mut [u32]) -> Refined
+pub fn refine(script: &[u8], table: &mut [u32], work: &mut [u32]) -> Result<usize, Refusal>
     ensures reply { result ≡ (refining_of script.now table.old work.old).reply }
     ensures table { table.new ≡ (refining_of script.now table.old work.old).table }
     ensures work { work.new ≡ (refining_of script.now table.old work.old).work }
@@ -201,7 +138,8 @@ pub fn refine(script: &[u8], table: &mut [u32], work: &mut [u32]) -> Refined
     ensures demand3 { Demand3 script.now table.old work.old (answer_of result) table.new }
 {
     if script.len() <= SHORT_SCRIPT {
-        return refine_few(script, table, work);
+        refine_sized::<FEW_MATCHES, FEW_MARKS, FEW_INDEX>(script, table, work)
+    } else {
+        refine_long(script, table, work)
     }
-    refine_long(script, table, work)
 }

@@ -36,8 +36,9 @@ use Rattle.refining.specs.Rows.{pieces_cut, piece_numbers}
 use Rattle.refining.specs.Refining.{Given, held_in, least_of, capacity_of, work_needed, zeroed}
 use Rattle.writing_rows.specs.Writing.{Writable, Written}
 use Rattle.refining_matches.specs.Tabling.{Tabled, MatchesRefined}
-use Rattle.closing_two.specs.declared.ClosedTwo.{ClosedTwo}
-use Rattle.refining.specs.declared.answers.Refined.{Refined}
+use Rattle.carrying_group.specs.declared.TooMany.{TooMany}
+use Rattle.std.specs.Prelude.{Result, Ok, Err}
+use Rattle.script.specs.declared.refusal.Refusal.{Refusal}
 use Rattle.closing_two.proofs.TwoTracks.{∈-matches, matches-good}
 use Rattle.carrying_match.proofs.RunLists.{slice_in, in-slice, slice-rising}
 use Rattle.refining_matches.proofs.RowsLeast.{rows-least}
@@ -45,22 +46,22 @@ use Rattle.refining.proofs.RefiningCases.{exceeds-many, written-sets, matches-sh
 
 -- what the closure's answer tells
 told_cuts :
-    {g : Given} {cap : ℕ} {ys : List ℕ} {answer : ClosedTwo} {s : CutSet} → Closure g cap ys answer
-    → answer ≡ ClosedTwo.CutsOfA s → AllCutsOfA g cap ys s
+    {g : Given} {cap : ℕ} {ys : List ℕ} {answer : Result CutSet TooMany} {s : CutSet} → Closure g cap ys answer
+    → answer ≡ Ok s → AllCutsOfA g cap ys s
 told_cuts {g} {cap} {ys} h e = subst (Closure g cap ys) e h
 
 pub told-good :
-    (g : Given) (cap : ℕ) (ys : List ℕ) {answer : ClosedTwo} {s : CutSet} → answer ≡ ClosedTwo.CutsOfA s
+    (g : Given) (cap : ℕ) (ys : List ℕ) {answer : Result CutSet TooMany} {s : CutSet} → answer ≡ Ok s
     → Closure g cap ys answer → Good ys s
 told-good g cap ys e h = (told_cuts h e).good
 
 pub crowded-tabled :
-    (g : Given) (table ys : List ℕ) {answer : ClosedTwo} → answer ≡ ClosedTwo.TooMany
-    → Closure g (capacity_of table) ys answer → Tabled g table table (Refined.Refused TooManyPieces)
+    (g : Given) (table ys : List ℕ) {answer : Result CutSet TooMany} → {e : TooMany} → answer ≡ Err e
+    → Closure g (capacity_of table) ys answer → Tabled g table table (Err TooManyPieces)
 crowded-tabled g table ys e h = (refl, subst (Closure g (capacity_of table) ys) e h, refl)
 
 module _ {columns : Columns} (fit : Fit columns) (marks : List Place) (table : List ℕ) {xs ys : List ℕ}
-    {s t : CutSet} {run : Places} {answer : ClosedTwo} (told : answer ≡ ClosedTwo.CutsOfA s)
+    {s t : CutSet} {run : Places} {answer : Result CutSet TooMany} (told : answer ≡ Ok s)
     (joined : Joined xs s ys t) (places : AllPlaces ys t run)
     (closed : Closure (held_in columns marks) (capacity_of table) xs answer) where
   cuts : AllCutsOfA (held_in columns marks) (capacity_of table) xs s
@@ -97,7 +98,7 @@ module _ {columns : Columns} (fit : Fit columns) (marks : List Place) (table : L
       }
 
   pub rows-tabled : {after : List ℕ} {n : ℕ} → Written columns (slice run.start run.end ys) table after n
-      → Tabled (held_in columns marks) table after (Refined.Rows n)
+      → Tabled (held_in columns marks) table after (Ok n)
   rows-tabled w = (
     w.count ∙ ap length rows_are,
     cuts.fits,
@@ -105,23 +106,23 @@ module _ {columns : Columns} (fit : Fit columns) (marks : List Place) (table : L
   )
 
 tabled-refined :
-    (g : Given) → Matches g.matches → (table table' work : List ℕ) (r : Refined) → work_needed table ≤ length work
+    (g : Given) → Matches g.matches → (table table' work : List ℕ) (r : Result ℕ Refusal) → work_needed table ≤ length work
     → Tabled g table table' r
     → MatchesRefined g table work r table' (zeroed work)
-tabled-refined g M table table' work (Refined.Rows n) room t =
+tabled-refined g M table table' work (Ok n) room t =
     rw (t.0, t.2 ∙ written-sets (least_of g) table t.1) (sym (matches-written g table work room t.1))
-tabled-refined g M table table' work (Refined.Refused f) room t =
+tabled-refined g M table table' work (Err f) room t =
     rw (t.0, t.2) (sym (matches-crowded g table work room (exceeds-many M t.1)))
 
 -- the work buffer is too short
 pub short_refined :
     (g : Given) (table work : List ℕ) → length work < work_needed table
-    → MatchesRefined g table work (Refined.Refused WorkTooShort) table work
+    → MatchesRefined g table work (Err WorkTooShort) table work
 short_refined g table work short = sym (matches-short g table work short)
 
 pub cleared-refined :
     {columns : Columns} → Fit columns → (marks : List Place) (table table' work work' : List ℕ)
-    {ended : List ℕ} {r : Refined}
+    {ended : List ℕ} {r : Result ℕ Refusal}
     → work_needed table ≤ length work
     → Tabled (held_in columns marks) table table' r
     → length work' ≡ length work
@@ -141,7 +142,7 @@ module _ (f t d : List ℕ) (r : List Bool) {g u : List ℕ} (read : FitRead f t
   worked_fit = rw worked-columns (read-fit read)
 
   pub worked-refined :
-      (marks : List Place) (table work : List ℕ) {reply : Refined} {table' work' : List ℕ}
+      (marks : List Place) (table work : List ℕ) {reply : Result ℕ Refusal} {table' work' : List ℕ}
       → MatchesRefined (held_in (columns_of f g t u r) marks) table work reply table' work'
       → MatchesRefined (held_in (columns_read f t d r) marks) table work reply table' work'
   worked-refined marks table work refined = rw worked-columns at refined

@@ -2,14 +2,15 @@
 #![tactic(auto)]
 
 ghost use Rattle.std.specs.Prelude.{◌≡◌, ◌≤◌, ◌<◌, false, length, replicate, take};
-ghost use Rattle.refining.specs.Columns.{FitRead, RightEnds, columns_of, columns_read, Fit};
+ghost use Rattle.refining.specs.Columns.{FitRead, RightEnds, columns_read};
 ghost use Rattle.refining.specs.Refining.{held_in, work_needed};
+ghost use Rattle.match_columns.specs.Held.{columns_in};
 ghost use Rattle.tracks.specs.Tracks.{marks_of};
 ghost use Rattle.refining_matches.specs.Tabling.{Tabled, MatchesRefined};
 
 use clearing::clear;
-use closing_two::{ClosedTwo, close_two};
-use refining::answers::Refined;
+use closing_two::close_two;
+use match_columns::MatchColumns;
 use right_ends::work_out;
 use rows::ROW_WIDTH;
 use script::Refusal;
@@ -17,11 +18,7 @@ use writing_rows::write_rows;
 
 // Finds the cuts and writes the rows, if the table has room for them. The table is not touched before that is known.
 fn cut_and_write(
-    left_a: &[u32],
-    right_a: &[u32],
-    left_b: &[u32],
-    right_b: &[u32],
-    reversed: &[bool],
+    matches: &MatchColumns<'_>,
     straight: &[bool],
     mark_sides: &[u8],
     mark_positions: &[u32],
@@ -29,40 +26,31 @@ fn cut_and_write(
     index_b: &mut [u32],
     table: &mut [u32],
     work: &mut [u32],
-) -> Refined
-    requires fit { Fit (columns_of left_a.now right_a.now left_b.now right_b.now reversed.now) }
+) -> Result<usize, Refusal>
     requires table_in_bounds { work_needed table.old ≤ length work.old }
-    requires reversed_len_bound { length reversed.now < 4294967296 }
-    requires straight_value { straight.now ≡ replicate (length reversed.now) false }
+    requires reversed_len_bound { length matches.now.reversed.now < 4294967296 }
+    requires straight_value { straight.now ≡ replicate (length matches.now.reversed.now) false }
     requires mark_sides_len { length mark_sides.now ≡ length mark_positions.now }
     ensures { Tabled
-        (held_in
-        (columns_of left_a.now right_a.now left_b.now right_b.now
-        reversed.now)
-        (marks_of mark_sides.now mark_positions.now))
+        (held_in (columns_in matches.now) (marks_of mark_sides.now mark_positions.now))
         table.old table.new result }
 {
+    let capacity = table.len() / ROW_WIDTH;
     match close_two(
-        left_a,
-        right_a,
-        left_b,
-        right_b,
-        reversed,
+        matches,
         straight,
         mark_sides,
         mark_positions,
         index_a,
         index_b,
         work,
-        table.len() / ROW_WIDTH,
+        capacity,
     ) {
-        ClosedTwo::TooMany => Refined::Refused(Refusal::TooManyPieces),
-        ClosedTwo::CutsOfA(set) => {
+        Err(_) => Err(Refusal::TooManyPieces),
+        Ok(set) => {
             let cuts = settling::join(work, set);
             let run = reading_cuts::all_places(work, cuts);
-            Refined::Rows(write_rows(
-                left_a, right_a, left_b, right_b, reversed, work, run.start, run.end, table,
-            ))
+            Ok(write_rows(matches, work, run.start, run.end, table))
         }
     }
 }
@@ -70,11 +58,7 @@ fn cut_and_write(
 // The matches of an admitted script, given by their ends, and its marks: 11, then 12, then the rows.
 #[tactic(auto, using(crate::proofs::Tabling::short_refined))]
 fn refine_matches(
-    left_a: &[u32],
-    right_a: &[u32],
-    left_b: &[u32],
-    right_b: &[u32],
-    reversed: &[bool],
+    matches: &MatchColumns<'_>,
     straight: &[bool],
     mark_sides: &[u8],
     mark_positions: &[u32],
@@ -82,27 +66,19 @@ fn refine_matches(
     index_b: &mut [u32],
     table: &mut [u32],
     work: &mut [u32],
-) -> Refined
-    requires fit { Fit (columns_of left_a.now right_a.now left_b.now right_b.now reversed.now) }
-    requires reversed_len_bound { length reversed.now < 4294967296 }
-    requires straight_value { straight.now ≡ replicate (length reversed.now) false }
+) -> Result<usize, Refusal>
+    requires reversed_len_bound { length matches.now.reversed.now < 4294967296 }
+    requires straight_value { straight.now ≡ replicate (length matches.now.reversed.now) false }
     requires mark_sides_len { length mark_sides.now ≡ length mark_positions.now }
     ensures { MatchesRefined
-        (held_in
-        (columns_of left_a.now right_a.now left_b.now right_b.now
-        reversed.now)
-        (marks_of mark_sides.now mark_positions.now))
+        (held_in (columns_in matches.now) (marks_of mark_sides.now mark_positions.now))
         table.old work.old result table.new work.new }
 {
     if work.len() < 4 * (table.len() / ROW_WIDTH) {
-        return Refined::Refused(Refusal::WorkTooShort);
+        return Err(Refusal::WorkTooShort);
     }
     let answer = cut_and_write(
-        left_a,
-        right_a,
-        left_b,
-        right_b,
-        reversed,
+        matches,
         straight,
         mark_sides,
         mark_positions,
@@ -130,7 +106,7 @@ pub fn refine_read(
     index_b: &mut [u32],
     table: &mut [u32],
     work: &mut [u32],
-) -> Refined
+) -> Result<usize, Refusal>
     requires fit_read { FitRead left_a.now left_b.now (take (length left_a.now) right_b.old) reversed.now }
     requires reversed_len_bound { length reversed.now < 4294967296 }
     requires straight_value { straight.now ≡ replicate (length reversed.now) false }
@@ -149,12 +125,16 @@ pub fn refine_read(
         (take (length left_a.now) right_b.new) }
 {
     work_out(left_a, left_b, right_a, right_b);
-    refine_matches(
-        left_a,
-        &right_a[..left_a.len()],
-        left_b,
-        &right_b[..left_a.len()],
+    let count = left_a.len();
+    let matches = MatchColumns {
+        lefts: left_a,
+        rights: &right_a[..count],
+        other_lefts: left_b,
+        other_rights: &right_b[..count],
         reversed,
+    };
+    refine_matches(
+        &matches,
         straight,
         mark_sides,
         mark_positions,

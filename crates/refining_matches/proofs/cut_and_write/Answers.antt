@@ -5,10 +5,10 @@ use Rattle.refining_matches.proofs.cut_and_write.Goals as goal
 
 pub write_rows-requires-clause-writable : goal.write_rows-requires-clause-writable
 write_rows-requires-clause-writable c =
-    cuts-writable c.requires.fit _ c.args.table.now c.in-CutsOfA.is c.join-cuts.ensures c.all_places-run.ensures
+    cuts-writable c.args.matches.now.fit _ c.args.table.now c.in-Ok.is c.join-cuts.ensures c.all_places-run.ensures
     c.close_two.ensures c.requires.reversed_len_bound
 
-pub returns-in-CutsOfA : goal.returns-in-CutsOfA
-returns-in-CutsOfA c =
-    rows-tabled c.requires.fit _ c.args.table.now c.in-CutsOfA.is c.join-cuts.ensures c.all_places-run.ensures
+pub returns-in-Ok : goal.returns-in-Ok
+returns-in-Ok c =
+    rows-tabled c.args.matches.now.fit _ c.args.table.now c.in-Ok.is c.join-cuts.ensures c.all_places-run.ensures
     c.close_two.ensures c.write_rows.ensures
