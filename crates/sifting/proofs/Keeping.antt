@@ -1,34 +1,18 @@
 -- The numbers of a rising run without those that are known, one after the other.
 --     Keeping             the invariant: of [at, k) those that are not known stand at [at, kept)
---     keep-start, keep-step       where it begins, and one number more
---     counted-known, counted-new      what is counted of a number that is known, and of another one
---     counted-few         it is at most 1
+--     keep-step           one number more
 -- Assumes nothing.
 use Prim.Native.Nat.{ℕ, ◌+◌, ◌≤◌, ◌<◌}
 use native.Mathlib.Omega.{arith}
 use mathlib.Core.Path.{◌≡◌, refl, sym, ◌∙◌}
 use mathlib.Core.List.{List}
 use mathlib.Core.Logic.{◌↔◌, ◌⊎◌, inl, inr, ⊎_elim}
-use mathlib.Core.Bool.{Bool, true, false, true≢false}
+use mathlib.Core.Bool.{Bool, true, false}
 use lib.ListN.{length, get_or, set, length-set}
 use lib.Seq.{get_or-set_same, get_or-set_other}
 use Rattle.runs.specs.Runs.{In, Run, RisingIn, Same, Answers}
 use Rattle.runs.proofs.Membership.{lt-or-le, in-wide, in_parts, in-same}
 use Rattle.sifting.specs.Sifting.{Counted}
-
-module _ {known : Bool} where
-  pub counted-known : known ≡ true → Counted known 0
-  counted-known h = record { left_out = λ e. refl; kept = λ e. absurd (true≢false (sym h ∙ e)) }
-
-  pub counted-new : known ≡ false → Counted known 1
-  counted-new h = record { left_out = λ e. absurd (true≢false (sym e ∙ h)); kept = λ e. refl }
-
-  pub counted-few : {r : ℕ} → Counted known r → r ≤ 1
-  counted-few {r} c = go known c
-    where
-      go : (b : Bool) → Counted b r → r ≤ 1
-      go true n = omega (arith, n.left_out refl)
-      go false n = omega (arith, n.kept refl)
 
 -- ys is xs on the way; K are the numbers that are known
 pub record Keeping (xs : List ℕ) (K : ℕ → Type 0) (at end : ℕ) (ys : List ℕ) (kept k : ℕ) : Type 0 where
@@ -42,18 +26,6 @@ pub record Keeping (xs : List ℕ) (K : ℕ → Type 0) (at end : ℕ) (ys : Lis
   pub ahead : (j : ℕ) → k ≤ j → get_or ys j 0 ≡ get_or xs j 0
 
 module _ {xs : List ℕ} {K : ℕ → Type 0} {at end : ℕ} (run : Run xs at end) where
-  pub keep-start : Keeping xs K at end xs at at
-  keep-start = record {
-    lengths = refl;
-    from = omega arith;
-    room = omega arith;
-    to = run.order;
-    rising = λ i j l o u. absurd (omega arith);
-    same = λ y. (λ q. absurd (omega (arith, q.from, q.below)), λ p. p.0);
-    before = λ j h. refl;
-    ahead = λ j h. refl;
-  }
-
   module _ {ys : List ℕ} {kept k : ℕ} (i : Keeping xs K at end ys kept k) where
     module _ {x : ℕ} {known : Bool} {count : ℕ} (more : k < end) (is : x ≡ get_or ys k 0) (ans : Answers (K x) known)
         (c : Counted known count) where

@@ -1,22 +1,20 @@
 -- Taking the numbers of one rising run out of another behind it.
 --     Sifting             the invariant: [at, k) has been sifted into [at, kept), and the numbers of the first run
 --                         before `low` are less than all from k on
---     sift-start, sift-step, sift-end     where it begins, one number more, and what it ends in
---     sift-run            the first run from `low` on still stands
---     sifted-by-none, sifted-none     a run sifted by an empty one, and an empty one sifted
+--     sift-step, sift-end     one number more, and what it ends in
 -- Assumes nothing.
 use Prim.Native.Nat.{ℕ, ◌+◌, ◌≤◌, ◌<◌}
 use native.Mathlib.Omega.{arith}
-use mathlib.Core.Path.{◌≡◌, refl, sym, ◌∙◌}
+use mathlib.Core.Path.{◌≡◌, sym, ◌∙◌}
 use mathlib.Core.List.{List}
 use mathlib.Core.Logic.{⊎_elim}
 use mathlib.Core.Bool.{Bool}
 use lib.ListN.{get_or, set}
-use Rattle.runs.specs.Runs.{In, Run, Same, Bound, Answers}
-use Rattle.runs.proofs.Membership.{lt-or-le, in-same, run-same}
+use Rattle.runs.specs.Runs.{In, Same, Bound, Answers}
+use Rattle.runs.proofs.Membership.{lt-or-le, in-same}
 use Rattle.runs.proofs.Searching.{answers-from, answers-later}
 use Rattle.sifting.specs.Sifting.{Siftable, Sifted, Counted}
-use Rattle.sifting.proofs.Keeping.{Keeping, keep-start, keep-step}
+use Rattle.sifting.proofs.Keeping.{Keeping, keep-step}
 
 -- ys is xs on the way
 pub record Sifting (xs : List ℕ) (lo hi at end : ℕ) (ys : List ℕ) (low kept k : ℕ) : Type 0 where
@@ -26,34 +24,6 @@ pub record Sifting (xs : List ℕ) (lo hi at end : ℕ) (ys : List ℕ) (low kep
   pub passed : (i j : ℕ) → lo ≤ i → i < low → k ≤ j → j < end → get_or xs i 0 < get_or xs j 0
 
 module _ {xs : List ℕ} {lo hi at end : ℕ} (s : Siftable xs lo hi at end) where
-  pub sifted-by-none : lo ≡ hi → Sifted xs lo hi at end xs end
-  sifted-by-none e = record {
-    from = s.second.order;
-    to = omega arith;
-    rising = s.second.rising;
-    same = λ y. (λ p. (p, λ q. omega (arith, q.from, q.below)), λ p. p.0);
-    before = λ k h. refl;
-    behind = λ k h. refl;
-  }
-
-  pub sifted-none : at ≡ end → Sifted xs lo hi at end xs end
-  sifted-none e = record {
-    from = s.second.order;
-    to = omega arith;
-    rising = s.second.rising;
-    same = λ y. (λ q. absurd (omega (arith, q.from, q.below)), λ p. p.0);
-    before = λ k h. refl;
-    behind = λ k h. refl;
-  }
-
-  pub sift-start : Sifting xs lo hi at end xs lo at at
-  sift-start = record {
-    keeping = keep-start s.second;
-    low_from = omega arith;
-    low_to = s.first.order;
-    passed = λ i j l h m u. absurd (omega arith);
-  }
-
   module _ {ys : List ℕ} {low kept k : ℕ} (i : Sifting xs lo hi at end ys low kept k) where
     pub sift-end : end ≤ k → Sifted xs lo hi at end ys kept
     sift-end h = let g = i.keeping in let e : k ≡ end = omega (arith, g.to) in record {
@@ -67,13 +37,6 @@ module _ {xs : List ℕ} {lo hi at end : ℕ} (s : Siftable xs lo hi at end) whe
 
     first-same : Same xs ys lo hi
     first-same j l u = i.keeping.before j (omega (arith, s.order))
-
-    pub sift-run : Run ys low hi
-    sift-run = run-same {xs = xs} (λ j l u. first-same j (omega (arith, i.low_from)) u) i.keeping.lengths (record {
-      order = i.low_to;
-      within = s.first.within;
-      rising = λ j j' l o u. s.first.rising j j' (omega (arith, i.low_from)) o u;
-    })
 
     module _ {x : ℕ} {known : Bool} {next count : ℕ} (more : k < end) (is : x ≡ get_or ys k 0)
         (b : Bound ys low hi x next) (ans : Answers (In ys next hi x) known) (c : Counted known count) where

@@ -16,6 +16,7 @@ fn bound_near(a: &[u32], lo: usize, hi: usize, x: u32, stride: usize) -> usize
 {
     let mut at = lo;
     let mut step = stride;
+    // Not a `for`: the stride doubles.
     while step < hi - at {
         if x <= a[at + step - 1] {
             return lower_bound(a, at, at + step - 1, x);
@@ -35,17 +36,14 @@ fn first_stride(size: usize, count: usize) -> usize
     requires count_nonzero { 0 < count }
     ensures { 0 < result }
 {
-    if count < FEW {
-        return size;
-    }
-    size / count + 1
+    if count < FEW { size } else { size / count + 1 }
 }
 
 // 1 for a number that is to be kept, and else 0.
 pub fn counted(known: bool) -> usize
     ensures { Counted known result }
 {
-    if known { 0 } else { 1 }
+    usize::from(!known)
 }
 
 // Takes the numbers of the run [lo, hi) out of the run [at, end) behind it, and returns where that ends then.
@@ -53,23 +51,18 @@ pub fn without(a: &mut [u32], lo: usize, hi: usize, at: usize, end: usize) -> us
     requires { Siftable a.old lo hi at end }
     ensures { Sifted a.old lo hi at end a.new result }
 {
-    if lo == hi {
-        return end;
-    }
-    if at == end {
+    if lo == hi || at == end {
         return end;
     }
     let stride = first_stride(hi - lo, end - at);
     let mut low = lo;
     let mut kept = at;
-    let mut k = at;
-    while k < end {
+    for k in at..end {
         let x = a[k];
         low = bound_near(a, low, hi, x, stride);
         let known = stands(a, low, hi, x);
         a[kept] = x;
         kept += counted(known);
-        k += 1;
     }
     kept
 }

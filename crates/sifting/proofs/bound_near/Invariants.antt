@@ -1,5 +1,4 @@
--- `sifting::bound_near` meets its contract. The invariant: all numbers before `at` are less than x (Nearing). The
--- measure is what is left of the run.
+-- The invariant: all numbers before `at` are less than x (Nearing).
 -- Assumes nothing.
 use Prim.Native.Nat.{◌-◌}
 use Rattle.sifting.proofs.Nearing.{Nearing}

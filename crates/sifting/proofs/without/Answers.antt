@@ -1,5 +1,4 @@
--- `sifting::without` meets its contract: the two empty runs, and else the invariant Sifting. The measure is what is
--- left of the second run.
+-- `sifting::without` meets its contract: each number of the second run is kept or dropped.
 -- Assumes nothing.
 use mathlib.Core.Path.{refl}
 use Rattle.sifting.proofs.Sifting.{sift-step, sift-end}
