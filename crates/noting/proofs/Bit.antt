@@ -1,15 +1,14 @@
 -- Bits of a number by quotients: what `or` does to them.
 --     or-digit        a bit of an `or` is the greater of the two bits
 --     or-sets, or-keeps       the bit that is set by it, and one that was set
---     power-set       setting the bit of a power of two that fits in 32 bits
 --     slot-place      the place of a bit
 -- Assumes nothing.
 use Prim.Native.Nat.{ℕ, zero, suc, ◌*◌, ◌/◌, ◌%◌, ◌^◌, ◌≤◌, ◌<◌, max}
 use native.Mathlib.Omega.{arith}
-use native.Mathlib.Nat.{one-mul, mul_comm, mod-lt, mod-eq_of_lt, pow-suc, div-one, div_self, div-div-eq-div-mul, max-le, max-eq_left, max-eq_right}
+use native.Mathlib.Nat.{mul_comm, mod-lt, pow-suc, div-one, div_self, div-div-eq-div-mul, max-le, max-eq_left, max-eq_right}
 use mathlib.Core.Path.{◌≡◌, sym, ap, ap₂, ◌∙◌}
 use lib.Bits.{bit_or, or_step}
-use lib.Pow.{pow_pos, pow-lt}
+use lib.Pow.{pow_pos}
 use Rattle.noting.specs.Notes.{Set}
 
 -- a bit is 0 or 1
@@ -45,10 +44,6 @@ or-sets word k =
 pub or-keeps : (word other k : ℕ) → Set word k → Set (bit_or word other) k
 or-keeps word other k e =
     or-digit k word other ∙ ap (λ (x : ℕ). max x (other / 2 ^ k % 2)) e ∙ max-eq_left (bit_le (other / 2 ^ k))
-
-pub power-set : (word k : ℕ) → k < 32 → bit_or word (1 * 2 ^ k % 4294967296) ≡ bit_or word (2 ^ k)
-power-set word k h =
-    ap (bit_or word) (ap (λ (x : ℕ). x % 4294967296) (one-mul (2 ^ k)) ∙ mod-eq_of_lt (pow-lt h))
 
 pub slot-place : (x places : ℕ) → 0 < places → x % (places * 32) / 32 < places
 slot-place x places h = omega (arith, mod-lt x {m = places * 32} (omega arith))

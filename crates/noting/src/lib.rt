@@ -59,11 +59,9 @@ fn note_run(a: &mut [u32], lo: usize, hi: usize, top: usize, limit: usize)
     requires hi_le_top { hi ≤ top }
     ensures { NotedRun a.old lo hi top limit a.new }
 {
-    let mut k = lo;
-    while k < hi {
+    for k in lo..hi {
         let x = a[k];
         note(a, top, limit, x);
-        k += 1;
     }
 }
 
@@ -85,9 +83,7 @@ pub fn forget(a: &mut [u32], top: usize, limit: usize)
     requires { limit ≤ length a.old }
     ensures { OnlyNotes a.old top limit a.new }
 {
-    let mut k = top;
-    while k < limit {
+    for k in top..limit {
         a[k] = 0;
-        k += 1;
     }
 }
