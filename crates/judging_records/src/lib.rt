@@ -11,7 +11,6 @@ ghost use Rattle.records.specs.Writing.{list_judgement, judgement_of};
 use judging::{judge_lengths, judge_numbers, judge_point};
 use records::{MARK_NUMBERS, RECORD_WIDTH, Record};
 use script::limits::{MOST_MARKS, MOST_MATCHES};
-use script::step::{Judgement, Opening};
 use script::{Match, Refusal};
 
 // The record behind k others.
@@ -43,87 +42,68 @@ fn match_of(item: Record) -> Match
 }
 
 // A record of this number: 15 for its direction, then 7, 8, 9.
-fn judge_record(item: Record, p: u32, q: u32, number: usize) -> Judgement
+fn judge_record(item: Record, p: u32, q: u32, number: usize) -> Result<(), Refusal>
     ensures { result ≡ record_judgement p q number item }
 {
     if 1 < item.direction {
-        return Judgement::Faulty(Refusal::MalformedRecords(number));
+        return Err(Refusal::MalformedRecords(number));
     }
     judge_numbers(match_of(item), p, q, number)
 }
 
 // The records, numbered from 1.
-fn judge_each(records: &[u32], p: u32, q: u32) -> Judgement
+fn judge_each(records: &[u32], p: u32, q: u32) -> Result<(), Refusal>
     ensures { result ≡ records_judgement p q records.now }
 {
-    let count = records.len() / RECORD_WIDTH;
-    let mut k = 0;
-    while k < count {
-        let judgement = judge_record(record_at(records, k), p, q, k + 1);
-        if let Judgement::Faulty(_) = judgement {
-            return judgement;
-        }
-        k += 1;
+    for k in 0..records.len() / RECORD_WIDTH {
+        judge_record(record_at(records, k), p, q, k + 1)?;
     }
-    Judgement::Sound
+    Ok(())
 }
 
 // The marks, numbered on from so many records.
-fn judge_marks(marks: &[u32], p: u32, q: u32, count: usize) -> Judgement
+fn judge_marks(marks: &[u32], p: u32, q: u32, count: usize) -> Result<(), Refusal>
     requires { count ≤ most_matches }
     ensures { result ≡ marks_judgement p q count marks.now }
 {
-    let all = marks.len() / MARK_NUMBERS;
-    let mut n = 0;
-    while n < all {
+    for n in 0..marks.len() / MARK_NUMBERS {
         let at = MARK_NUMBERS * n;
-        let judgement = judge_point(marks[at], marks[at + 1], p, q, count + n + 1);
-        if let Judgement::Faulty(_) = judgement {
-            return judgement;
-        }
-        n += 1;
+        judge_point(marks[at], marks[at + 1], p, q, count + n + 1)?;
     }
-    Judgement::Sound
+    Ok(())
 }
 
 // The records, then the marks.
-fn judge_both(records: &[u32], marks: &[u32], p: u32, q: u32) -> Judgement
+fn judge_both(records: &[u32], marks: &[u32], p: u32, q: u32) -> Result<(), Refusal>
     requires { length records.now ≤ record_width * most_matches }
     ensures { result
         ≡ first_fault (records_judgement p q records.now)
         (marks_judgement p q (length (records_of records.now)) marks.now) }
 {
-    match judge_each(records, p, q) {
-        Judgement::Faulty(refusal) => Judgement::Faulty(refusal),
-        Judgement::Sound => judge_marks(marks, p, q, records.len() / RECORD_WIDTH),
-    }
+    judge_each(records, p, q)?;
+    judge_marks(marks, p, q, records.len() / RECORD_WIDTH)
 }
 
 // The counts of numbers, then those of the records and the marks, then each of them.
-fn judge_list(records: &[u32], marks: &[u32], p: u32, q: u32) -> Judgement
+fn judge_list(records: &[u32], marks: &[u32], p: u32, q: u32) -> Result<(), Refusal>
     ensures { result ≡ list_judgement p q records.now marks.now }
 {
-    if records.len() % RECORD_WIDTH != 0 {
-        return Judgement::Faulty(Refusal::MalformedRecords(0));
-    }
-    if marks.len() % MARK_NUMBERS != 0 {
-        return Judgement::Faulty(Refusal::MalformedRecords(0));
+    if records.len() % RECORD_WIDTH != 0 || marks.len() % MARK_NUMBERS != 0 {
+        return Err(Refusal::MalformedRecords(0));
     }
     if RECORD_WIDTH * MOST_MATCHES < records.len() {
-        return Judgement::Faulty(Refusal::TooManyMatches(0));
+        return Err(Refusal::TooManyMatches(0));
     }
     if MARK_NUMBERS * MOST_MARKS < marks.len() {
-        return Judgement::Faulty(Refusal::TooManyMarks(0));
+        return Err(Refusal::TooManyMarks(0));
     }
     judge_both(records, marks, p, q)
 }
 
 // The lengths, then the lists.
-pub fn judge_records(p: u32, q: u32, records: &[u32], marks: &[u32]) -> Judgement
+pub fn judge_records(p: u32, q: u32, records: &[u32], marks: &[u32]) -> Result<(), Refusal>
     ensures { result ≡ judgement_of p q records.now marks.now }
 {
-    match judge_lengths(p, q) {
-        Opening::Refuse(refusal) => Judgement::Faulty(refusal),
-        Opening::Open { p: _, q: _ } => judge_list(records, marks, p, q),
-    }
+    judge_lengths(p, q)?;
+    judge_list(records, marks, p, q)
 }

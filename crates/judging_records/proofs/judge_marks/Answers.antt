@@ -1,31 +1,28 @@
--- `judge_marks` meets its contract. The loop keeps `Onward`: the marks passed have no fault, and judging goes on behind
--- them. The measure is what is left of them. Assumes nothing.
+-- `judge_marks` meets its contract: the marks passed have no fault, and judging goes on behind them. Assumes nothing.
 use mathlib.Core.Path.{sym}
+use Prim.Native.Nat.{◌<◌}
 use native.Mathlib.Omega.{arith}
-use borrow.Author.Rules.{rules}
-use Rattle.records.specs.Records.{no_mark}
-use Rattle.records.proofs.Lists.{points-length, point-held, point-inside}
-use Rattle.judging_records.proofs.Each.{onward-start, onward-next, onward-ends, fault-found}
+use lib.ListN.{length}
+use Rattle.std.proofs.lemmas.Result.{err_from_is_err_and}
+use Rattle.records.specs.Records.{no_mark, points_of}
+use Rattle.records.proofs.Lists.{points-length, point-held}
+use Rattle.judging_records.proofs.Each.{onward-next, onward-ends, fault-found}
 use Rattle.judging_records.proofs.judge_marks.Goals as goal
 
-pub loop-n-init : goal.loop-n-init
-loop-n-init c =
-    onward-start (sym (points-length _))
-
-pub returns-in-Faulty : goal.returns-in-Faulty
-returns-in-Faulty c =
-    let inv = c.loop-n.invariant in
-    let below = c.loop-n-test.true in
-    fault-found inv no_mark below (sym (point-held _ _ (point-inside _ inv.counted below))) (omega arith)
-    c.judge_point-judgement.ensures c.in-Faulty.is
+pub returns-in_err-judge_point : goal.returns-in_err-judge_point
+returns-in_err-judge_point c =
+    let below : c.loop-n.n < length (points_of c.args.marks.now) = omega (arith, points-length c.args.marks.now) in
+    let p = err_from_is_err_and c.from_residual.result c.from_residual.ensures.1 in
+    rw (p.1, p.2)
+    (fault-found c.loop-n.invariant no_mark below (sym (point-held c.args.marks.now c.loop-n.n (omega arith)))
+    (omega arith) c.judge_point.ensures c.in_err-judge_point.was)
 
 pub loop-n-preserved : goal.loop-n-preserved
 loop-n-preserved c =
-    let inv = c.loop-n.invariant in
-    let below = c.loop-n-test.true in
-    onward-next inv no_mark below (sym (point-held _ _ (point-inside _ inv.counted below))) (omega arith)
-    c.judge_point-judgement.ensures c.in_default.is
+    let below : c.loop-n.n < length (points_of c.args.marks.now) = omega (arith, points-length c.args.marks.now) in
+    onward-next c.loop-n.invariant no_mark below (sym (point-held c.args.marks.now c.loop-n.n (omega arith)))
+    (omega arith) c.judge_point.ensures c.in_ok-judge_point.was
 
 pub returns : goal.returns
 returns c =
-    search (rules, onward-ends)
+    onward-ends c.loop-n.invariant (omega (arith, points-length c.args.marks.now))
