@@ -1,7 +1,7 @@
 -- Carrying the newly found cuts over one match after the other.
 --     Passed              the invariant: they are carried over the first k matches
 --     pass-start, pass_step, pass-end     where it begins, one match more, and the end
---     pass-full, pass-excess      no room for the images of one match more, and too many hits with it
+--     pass-stop           no room for the images of one match more, or too many hits with it
 --     pass-over, pass-none    matches that reach no cut change nothing, nor does any match where there is no cut
 --     pass-ready, pass-run, pass-ends     what the next match needs
 --     hits_more           more matches have no fewer hits
@@ -25,8 +25,10 @@ use Rattle.cut_set.proofs.Laws.{done-used, stored-none, stored_same, stored-then
 use Rattle.reading_cuts.specs.Reading.{Lowest, Highest}
 use Rattle.refining.specs.Columns.{Columns, count_of, from_at, from_right_at, to_at, to_right_at, way_at}
 use Rattle.near_matches.specs.Near.{reaching, Passable}
-use Rattle.carrying_match.specs.OneMatch.{EndsIn, ImageBy, hits_on, Ready}
-use Rattle.carrying_cuts.specs.Worker.{EndsKnown, Images, hits_over}
+use Rattle.std.specs.Prelude.{Err}
+use Rattle.carrying_match.specs.declared.Stop.{Stop}
+use Rattle.carrying_match.specs.OneMatch.{EndsIn, ImageBy, hits_on, Ready, Carrying}
+use Rattle.carrying_cuts.specs.Worker.{EndsKnown, Images, hits_over, Working}
 use Rattle.carrying_match.proofs.RunLists.{slice-same, hits-none}
 use Rattle.cut_set.proofs.Gathering.{base_done, used-limit, used-within}
 use Rattle.carrying_match.proofs.Storing.{same-apart, ready-then}
@@ -177,12 +179,12 @@ module _ {columns : Columns} {xs : List ℕ} {from to : CutSet} {hits most : ℕ
         few = q.2;
       }
 
-      pub pass-full :
+      pass-full :
           {zs : List ℕ} {u : CutSet} → Cramped (ImageAt columns k (Found ys from)) ys set zs u
           → Cramped (Images columns (count_of columns) (Found xs from)) xs to zs u
       pass-full c = cramped-wide (λ y q. images-to (omega arith) ((next y).0 q)) (cramped-then p.stored c)
 
-      pub pass-excess :
+      pass-excess :
           most < count + hits_on (from_at columns k) (from_right_at columns k) (found_in ys from)
           → most < hits + hits_over columns (count_of columns) (found_in xs from)
       pass-excess m =
@@ -191,6 +193,14 @@ module _ {columns : Columns} {xs : List ℕ} {from to : CutSet} {hits most : ℕ
           hits_more columns (found_in xs from) (k + 1) (count_of columns) (omega arith)
           in
           omega (arith, more, one_more, p.counted)
+
+      pub pass-stop :
+          (zs : List ℕ) (stop : Stop)
+          → Carrying (ImageAt columns k (Found ys from))
+          (hits_on (from_at columns k) (from_right_at columns k) (found_in ys from)) ys set count most zs (Err stop)
+          → Working columns (count_of columns) xs from to (found_in xs from) hits most zs (Err stop)
+      pass-stop zs (Stop.Full u) c = pass-full c
+      pass-stop zs Stop.TooMany m = pass-excess m
 
     -- matches that span no newly found cut
     skip :

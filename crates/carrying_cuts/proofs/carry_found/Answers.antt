@@ -2,7 +2,8 @@
 -- Assumes nothing.
 use native.Mathlib.Omega.{arith}
 use borrow.Author.Rules.{rules}
-use Rattle.carrying_cuts.proofs.Passing.{pass-start, pass_step, pass-full, pass-excess, pass-end}
+use Rattle.std.proofs.Common.{◌≡◌, Err}
+use Rattle.carrying_cuts.proofs.Passing.{pass-start, pass_step, pass-stop, pass-end}
 use Rattle.carrying_cuts.proofs.Passing.{pass-ready, pass-run, pass-ends, pass-over, pass-none}
 use Rattle.carrying_cuts.proofs.carry_found.Goals as goal
 
@@ -15,7 +16,7 @@ returns-then-none_found c =
 pub loop-k-init : goal.loop-k-init
 loop-k-init c =
     pass-over c.requires.ready (pass-start c.requires.ready c.requires.hits_le_most) c.lowest_found-lowest.ensures
-    c.highest_found-highest.ensures c.requires.fit.from_length c.next_near-k.ensures
+    c.highest_found-highest.ensures c.args.matches.now.fit.from_length c.next_near-k.ensures
 
 pub carry_match-requires-clause-ready : goal.carry_match-requires-clause-ready
 carry_match-requires-clause-ready c = pass-ready c.requires.ready c.loop-k.invariant
@@ -27,17 +28,16 @@ pub carry_match-requires-clause-ends_in : goal.carry_match-requires-clause-ends_
 carry_match-requires-clause-ends_in c =
     λ e. pass-ends c.requires.ready c.loop-k.invariant (c.requires.ends_known e) (search rules)
 
-pub returns-in-Full : goal.returns-in-Full
-returns-in-Full c = pass-full c.requires.ready c.loop-k.invariant (search rules) c.in-Full.ensures
-
-pub returns-in-TooMany : goal.returns-in-TooMany
-returns-in-TooMany c = pass-excess c.requires.ready c.loop-k.invariant (search rules) c.in-TooMany.ensures
+pub returns-in_err-held : goal.returns-in_err-held
+returns-in_err-held c =
+    let e : c.from_residual.result ≡ Err c.in_err-held.field-0.0 = search rules in
+    rw e (pass-stop c.requires.ready c.loop-k.invariant (search rules) _ _ c.in_err-held.ensures)
 
 pub loop-k-preserved : goal.loop-k-preserved
 loop-k-preserved c =
-    let passed = pass_step c.requires.ready c.loop-k.invariant (search rules) (search rules) c.in-Held.ensures in
+    let passed = pass_step c.requires.ready c.loop-k.invariant (search rules) (search rules) c.in_ok-held.ensures in
     pass-over c.requires.ready passed c.lowest_found-lowest.ensures c.highest_found-highest.ensures
-    c.requires.fit.from_length c.next_near-k-in-loop-k.ensures
+    c.args.matches.now.fit.from_length c.next_near-k-in-loop-k.ensures
 
 pub returns : goal.returns
 returns c = pass-end c.requires.ready c.loop-k.invariant (search rules)
