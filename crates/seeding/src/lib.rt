@@ -24,13 +24,11 @@ fn seed(left_a: &[u32], right_a: &[u32], work: &mut [u32], set: CutSet) -> Added
         work.old set work.new result }
 {
     let mut a = set;
-    let mut k = 0;
-    while k < left_a.len() {
+    for k in 0..left_a.len() {
         match seed_match(work, a, left_a[k], right_a[k]) {
             Added::Held(s) => a = s,
             Added::Full(s) => return Added::Full(s),
         }
-        k += 1;
     }
     Added::Held(a)
 }
@@ -144,8 +142,7 @@ pub fn sow_groups(
         (EndIn lefts.now rights.now groups.now count at (length lefts.now))
         sets lo hi work.old book.old work.new book.new result }
 {
-    let mut g = 0;
-    while g < count {
+    for g in 0..count {
         let group = read_group(groups, g, at);
         let start = group.start;
         let end = group.end;
@@ -161,7 +158,6 @@ pub fn sow_groups(
         ) {
             return false;
         }
-        g += 1;
     }
     true
 }
@@ -171,12 +167,9 @@ pub fn want(groups: &[usize], count: usize, at: usize, wanted: &mut [bool])
     requires { Naming groups.now count at (length wanted.old) }
     ensures { Wanted groups.now at count wanted.new }
 {
-    let mut g = 0;
-    while g < count {
-        let group = read_group(groups, g, at);
-        let track = group.track;
+    for g in 0..count {
+        let track = read_group(groups, g, at).track;
         wanted[track] = true;
-        g += 1;
     }
 }
 
@@ -185,6 +178,7 @@ fn any_spans(lefts: &[u32], rights: &[u32], x: u32) -> bool
     requires { length lefts.now ≡ length rights.now }
     ensures { Answers (SpannedHere lefts.now rights.now x) result }
 {
+    // Not a `for`: the place goes on by what the search finds.
     let mut k = next_near(lefts, rights, 0, x, x);
     while k < lefts.len() {
         if (lefts[k] <= x) & (x <= rights[k]) {
@@ -237,12 +231,10 @@ fn spanned(
         (length lefts.now) j x)
         result }
 {
-    let mut g = 0;
-    while g < count {
+    for g in 0..count {
         if group_spans(lefts, rights, groups, count, at, sets, g, j, x) {
             return true;
         }
-        g += 1;
     }
     false
 }
@@ -310,8 +302,7 @@ pub fn plant(
         mark_positions.now (length mark_tracks.now))
         sets lo hi work.old book.old work.new book.new result }
 {
-    let mut q = 0;
-    while q < mark_tracks.len() {
+    for q in 0..mark_tracks.len() {
         let j = mark_tracks[q] as usize;
         if !plant_mark(
             lefts,
@@ -330,7 +321,6 @@ pub fn plant(
         ) {
             return false;
         }
-        q += 1;
     }
     true
 }
