@@ -40,10 +40,8 @@ pub fn index_groups(
     requires lefts_in_bounds { index_room (length lefts.now) ≤ length index.old }
     ensures { UsableParts index.new groups.now count lefts.now rights.now }
 {
-    let mut g = 0;
-    while g < count {
+    for g in 0..count {
         let at = 3 * g;
         index_group(index, lefts, rights, groups[at], groups[at + 3]);
-        g += 1;
     }
 }

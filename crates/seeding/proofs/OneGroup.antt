@@ -1,8 +1,7 @@
 -- One group of matches, as it was read.
 --     Span                 its matches are there
 --     whole, group-whole   the group g: its matches end where the next one's start; what was read is that
---     group-room           it can be read
---     group-to, group-span, group-part    it ends within the columns; their parts are equally long
+--     group-to, group-span     it ends within the columns
 --     group-named          its track has a set
 --     match-in, match-of   a match of the group is one of all; one of all is of the groups before or of this one
 --     match-wide           one of the first matches is one of more
@@ -48,9 +47,6 @@ module _ {f r gs : List ℕ} {n at sets : ℕ} (s : SideGroups f r gs n at sets)
     abbrev stop : ℕ
     stop = start_at gs (suc g)
 
-    pub group-room : 3 * g + 3 < length gs
-    group-room = omega (arith, s.groups.room)
-
     pub group-to : stop ≤ length f
     group-to = start-count s.groups (suc g) (omega arith)
 
@@ -60,12 +56,6 @@ module _ {f r gs : List ℕ} {n at sets : ℕ} (s : SideGroups f r gs n at sets)
     pub group-span : {q : Group} → q ≡ group_at gs at g → Span f r q
     group-span e =
         rw (group-whole gs at g e) (record { order = s.groups.rising g l; left = group-to; right = to_right })
-
-    pub group-part :
-        {q : Group} → q ≡ group_at gs at g
-        → length (part q.start q.end f) ≡ length (part q.start q.end r)
-    group-part e =
-        rw (group-whole gs at g e) (part_length start stop f group-to ∙ sym (part_length start stop r to_right))
 
     pub group-named : {q : Group} → q ≡ group_at gs at g → q.track < sets
     group-named e = rw (group-whole gs at g e) (track-named s.groups s.at_from s.at_to g l)

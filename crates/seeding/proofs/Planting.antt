@@ -1,11 +1,9 @@
 -- Adding the marks that are spanned.
---     look-step, look-found, look_none        passing over the matches that do not span x: one more, one that does, all
---     spans-not, spans-as  the same of a group: it has another track; it has that track
 --     Looking              the invariant of the loop over the groups: no match of the groups before g spans x
---     looking-start, looking-step, looking-found, looking-end     where it begins, one group more, and the answers
---     plant-none, plant-one        a mark that is not spanned, and one that is sown
+--     looking-step, looking-found      one group more, and one whose match spans x
+--     spanned-named, plant-one     a mark that is spanned has a set, and is sown
 --     Planting             the invariant of the loop over the marks: those before q are planted
---     planting-start, planting-step, planting-full, planting-end     the same
+--     planting-step, planting-full, planting-end     one mark more, no room for one, and its end
 -- Assumes nothing.
 use Prim.Native.Nat.{ℕ, suc, ◌+◌, ◌-◌, ◌≤◌, ◌<◌}
 use mathlib.Core.Path.{◌≡◌, refl, sym, ap, subst, ◌∙◌}
@@ -30,48 +28,6 @@ use Rattle.seeding.specs.Sown.{group_at, SideGroups, MatchIn, SpannedHere, Group
 use Rattle.seeding.specs.declared.Group.{Group}
 use Rattle.seeding.proofs.OneGroup.{group-whole, group-to, match-in, match-of, match-wide}
 
--- ---- one group's matches
-
-module _ {f r : List ℕ} {x k : ℕ} (p : Passable f r x x 0 k) where
-  -- the match at the index k does not span x, and those up to m do not reach there
-  pub look-step : {m : ℕ} → k < length f → between (get_or f k 0) (get_or r k 0) x ≡ false → Passable f r x x (k + 1) m
-      → Passable f r x x 0 m
-  look-step l e q = passable-then (passable-step p l e) q
-
-  pub look-found : k < length f → between (get_or f k 0) (get_or r k 0) x ≡ true → Answers (SpannedHere f r x) true
-  look-found l e = record {
-    when = λ _. record { index = k; below = l; is = e };
-    unless = λ h. absurd (true≢false h);
-  }
-
-  pub look_none : length f ≤ k → Answers (SpannedHere f r x) false
-  look_none h = record {
-    when = λ e. absurd (true≢false (sym e));
-    unless = λ _ q. true≢false (sym q.is ∙ p.past q.index (omega arith) (omega (arith, q.below)));
-  }
-
--- ---- one group, as it was read
-
-module _ {f r gs : List ℕ} {at g j x : ℕ} {q : Group} (e : q ≡ group_at gs at g) where
-  pub spans-not : (q.track ≡ j → ⊥) → Answers (GroupSpans f r gs at g j x) false
-  spans-not u = record {
-    when = λ h. absurd (true≢false (sym h));
-    unless = λ _ p. u (ap (λ (z : Group). z.track) e ∙ sym p.track_is);
-  }
-
-  pub spans-as : {b : Bool} → q.track ≡ j
-      → Answers (SpannedHere (part q.start q.end f) (part q.start q.end r) x) b
-      → Answers (GroupSpans f r gs at g j x) b
-  spans-as {b} k p = record {
-    when = λ h. record { track_is = sym k ∙ ap (λ (z : Group). z.track) e; here = found.when h };
-    unless = λ h o. found.unless h o.here;
-  }
-    where
-      found :
-          Answers
-          (SpannedHere (part (start_at gs g) (start_at gs (suc g)) f) (part (start_at gs g) (start_at gs (suc g)) r) x) b
-      found = rw (group-whole gs at g e) at p
-
 -- ---- group by group
 
 pub record Looking (f r gs : List ℕ) (n at j x g : ℕ) : Type 0 where
@@ -79,9 +35,6 @@ pub record Looking (f r gs : List ℕ) (n at j x g : ℕ) : Type 0 where
   pub none : SpannedIn f r gs n at (start_at gs g) j x → ⊥
 
 module _ {f r gs : List ℕ} {n at sets : ℕ} (s : SideGroups f r gs n at sets) where
-  pub looking-start : {j x : ℕ} → Looking f r gs n at j x 0
-  looking-start = record { until = omega arith; none = λ p. omega (arith, p.below, s.groups.first) }
-
   module _ {j x g : ℕ} (w : Looking f r gs n at j x g) (l : g < n) where
     pub looking-step : Answers (GroupSpans f r gs at g j x) false → Looking f r gs n at j x (g + 1)
     looking-step not = record {
@@ -98,16 +51,6 @@ module _ {f r gs : List ℕ} {n at sets : ℕ} (s : SideGroups f r gs n at sets)
       when = λ _. let p = found.when refl in rw p.track_is (match-wide (group-to s l) (match-in s l p.here));
       unless = λ h. absurd (true≢false h);
     }
-
-  pub looking-end :
-      {j x g : ℕ} → Looking f r gs n at j x g → n ≤ g → Answers (SpannedIn f r gs n at (length f) j x) false
-  looking-end {j} {x} {g} w h = record {
-    when = λ e. absurd (true≢false (sym e));
-    unless = λ _ p. w.none (subst (λ (m : ℕ). SpannedIn f r gs n at m j x) (sym all) p);
-  }
-    where
-      all : start_at gs g ≡ length f
-      all = let e : g ≡ n = omega (arith, w.until) in ap (start_at gs) e ∙ s.groups.last
 
 -- ---- one mark
 
@@ -135,11 +78,6 @@ module _ {f r gs : List ℕ} {n at sets : ℕ} (s : SideGroups f r gs n at sets)
   pub spanned-named : {R : ℕ → ℕ → Type 0} {j : ℕ} → MatchIn R f r gs n at (length f) j → j < sets
   spanned-named p =
       subst (λ (i : ℕ). i < sets) p.track_is (match-named s.groups s.at_from s.at_to p.index p.below)
-
-  pub plant-none : {lo hi j x : ℕ} {xs b : List ℕ} → Answers (SpannedIn f r gs n at (length f) j x) false
-      → Shelf xs b sets lo hi → GrownShelf (MarkAt f r gs n at j x) sets lo hi xs b xs b
-  plant-none not shelf =
-      shelf-as (shelf-none shelf) (λ i l y. (λ p. absurd p, λ p. absurd (not.unless refl p.spanned)))
 
   module _ (ps : List ℕ) {q j : ℕ} (l : q < length ps) (p : SpannedIn f r gs n at (length f) j (get_or ps q 0)) where
     -- what is sown is the mark
@@ -170,13 +108,6 @@ pub record Planting (f r gs : List ℕ) (n at : ℕ) (ts ps : List ℕ) (sets lo
   pub grown : GrownShelf (MarkIn f r gs n at ts ps q) sets lo hi xs b ys b'
 
 module _ {f r gs ts ps : List ℕ} {n at sets lo hi : ℕ} {xs b : List ℕ} (shelf : Shelf xs b sets lo hi) where
-  pub planting-start : Planting f r gs n at ts ps sets lo hi xs b 0 xs b
-  planting-start = record {
-    until = omega arith;
-    lengths = refl;
-    grown = shelf-as (shelf-none shelf) (λ i l y. (λ p. absurd p, λ p. absurd (omega (arith, p.before))));
-  }
-
   marks-wide : {k m i y : ℕ} → k ≤ m → MarkIn f r gs n at ts ps k i y → MarkIn f r gs n at ts ps m i y
   marks-wide h p = record {
     mark = p.mark;

@@ -1,7 +1,7 @@
 -- The first cuts: the A ends of the matches.
---     two-added, one-full  both ends of one match are added, or there is no room
+--     two-added            both ends of one match are added, or there is no room
 --     Sown                 the invariant of the loop: the ends of the first k matches are added
---     sown-start, sown-step, sown-full, sown-end     where it begins, one match more, no room for one, and its end
+--     sown-step, sown-full, sown-end     one match more, no room for one, and its end
 -- Assumes nothing.
 use Prim.Native.Nat.{ℕ, ◌+◌, ◌≤◌, ◌<◌}
 use mathlib.Core.Path.{◌≡◌, refl, subst, ◌∙◌}
@@ -22,22 +22,10 @@ pub two-added :
 two-added xs s zs x z h (Added.Held u) k = stored-then h k
 two-added xs s zs x z h (Added.Full u) k = cramped-then h k
 
-pub one-full :
-    {xs ys : List ℕ} {s t : CutSet} {x : ℕ} (z : ℕ) → Cramped (λ y. y ≡ x) xs s ys t → Cramped (EndAt x z) xs s ys t
-one-full z c = cramped-wide (λ y e. inl e) c
-
 pub record Sown (f r xs : List ℕ) (s : CutSet) (k : ℕ) (ys : List ℕ) (t : CutSet) : Type 0 where
   pub to : k ≤ length f
   pub lengths : length ys ≡ length xs
   pub stored : Stored (EndOf f r k) xs s ys t
-
-pub sown-start : {f r xs : List ℕ} {s : CutSet} → Good xs s → Sown f r xs s 0 xs s
-sown-start g = record {
-  to = omega arith;
-  lengths = refl;
-  stored = stored-none g
-      (λ y p. absurd (omega (arith, p.below)));
-}
 
 module _ {f r xs ys : List ℕ} {s t : CutSet} {k : ℕ} (w : Sown f r xs s k ys t) (l : k < length f) where
   pub sown-step :

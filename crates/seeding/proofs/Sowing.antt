@@ -1,6 +1,6 @@
 -- Adding the ends of the matches group by group.
 --     Sowing               the invariant of the loop: the ends of the matches of the groups before g are added
---     sowing-start, sowing-step, sowing-full, sowing-end   where it begins, one group more, no room for one, its end
+--     sowing-step, sowing-full, sowing-end   one group more, no room for one, its end
 -- Assumes nothing.
 use Prim.Native.Nat.{ℕ, suc, ◌+◌, ◌-◌, ◌≤◌, ◌<◌}
 use mathlib.Core.Path.{◌≡◌, refl, ap, subst, ◌∙◌}
@@ -33,16 +33,6 @@ EndHere f r q i y =
 
 module _ {f r gs : List ℕ} {n at sets : ℕ} (s : SideGroups f r gs n at sets) where
   module _ {lo hi : ℕ} {xs b : List ℕ} (shelf : Shelf xs b sets lo hi) where
-    pub sowing-start : Sowing f r gs n at sets lo hi xs b 0 xs b
-    sowing-start = record {
-      until = omega arith;
-      lengths = refl;
-      grown = shelf-as (shelf-none shelf) (λ i l y. (
-        λ p. absurd p,
-        λ p. absurd (omega (arith, p.below, s.groups.first)),
-      ));
-    }
-
     module _ {g : ℕ} {ys b' : List ℕ} (w : Sowing f r gs n at sets lo hi xs b g ys b') (l : g < n) {q : Group}
         (e : q ≡ group_at gs at g)
       where

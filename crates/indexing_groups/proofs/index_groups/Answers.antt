@@ -1,5 +1,4 @@
--- `indexing_groups::index_groups` meets its contract. The invariant is `Made`, and the measure how many groups are left.
--- Assumes nothing.
+-- `indexing_groups::index_groups` meets its contract. The invariant is `Made`. Assumes nothing.
 use borrow.Author.Rules.{rules}
 use Rattle.indexing_groups.proofs.Making.{group-within, made_more, made_all}
 use Rattle.indexing_groups.proofs.index_groups.Goals as goal

@@ -1,4 +1,4 @@
--- `plant` meets its contract. The loop keeps `Planting`: the marks before q are planted. Assumes nothing.
+-- `plant` meets its contract: one mark more (Planting), or no room for one. Assumes nothing.
 use borrow.Author.Rules.{rules}
 use Rattle.seeding.proofs.Planting.{planting-step, planting-full, planting-end}
 use Rattle.seeding.proofs.plant.Goals as goal

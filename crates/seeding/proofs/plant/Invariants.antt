@@ -1,4 +1,4 @@
--- `plant` meets its contract. The loop keeps `Planting`: the marks before q are planted. Assumes nothing.
+-- The loop keeps `Planting`: the marks before q are planted.
 use Rattle.seeding.proofs.Planting.{Planting}
 use Rattle.seeding.proofs.plant.Given as goal
 

@@ -1,4 +1,4 @@
--- `seed` meets its contract. The loop keeps `Sown`: the ends of the first k matches are added. Assumes nothing.
+-- `seed` meets its contract: one match more (Sown), or no room for one. Assumes nothing.
 use Rattle.seeding.proofs.Seeds.{sown-step, sown-full, sown-end}
 use Rattle.seeding.proofs.seed.Goals as goal
 

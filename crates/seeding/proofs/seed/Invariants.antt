@@ -1,4 +1,4 @@
--- `seed` meets its contract. The loop keeps `Sown`: the ends of the first k matches are added. Assumes nothing.
+-- The loop keeps `Sown`: the ends of the first k matches are added.
 use Rattle.seeding.proofs.Seeds.{Sown}
 use Rattle.seeding.proofs.seed.Given as goal
 

@@ -1,5 +1,4 @@
--- `sow_group` meets its contract. The invariant: Going, only ends have come, to the set number `j`. The measure: where
--- the set had room, more places are gathered when it is full; where it had none, it has room now. Assumes nothing.
+-- The loop keeps `Going`: only ends have come, to the set number `j`.
 use lib.ListN as List
 use Rattle.shelf.proofs.Filling.{Going, left}
 use Rattle.seeding.specs.Seeds.{EndOf}

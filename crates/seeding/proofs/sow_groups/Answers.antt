@@ -1,5 +1,4 @@
--- `sow_groups` meets its contract. The loop keeps `Sowing`: the ends of the matches of the groups before g are added.
--- Assumes nothing.
+-- `sow_groups` meets its contract: one group more (Sowing), or no room for one. Assumes nothing.
 use native.Mathlib.Omega.{arith}
 use borrow.Author.Rules.{rules}
 use Rattle.seeding.proofs.OneGroup.{group-span}

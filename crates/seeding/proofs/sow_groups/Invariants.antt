@@ -1,5 +1,4 @@
--- `sow_groups` meets its contract. The loop keeps `Sowing`: the ends of the matches of the groups before g are added.
--- Assumes nothing.
+-- The loop keeps `Sowing`: the ends of the matches of the groups before g are added.
 use Rattle.seeding.proofs.Sowing.{Sowing}
 use Rattle.seeding.proofs.sow_groups.Given as goal
 

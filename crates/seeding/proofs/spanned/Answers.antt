@@ -1,4 +1,4 @@
--- `spanned` meets its contract. The loop keeps `Looking`: no match of the groups before g spans x. Assumes nothing.
+-- `spanned` meets its contract: one group more (Looking), or one whose match spans x. Assumes nothing.
 use Rattle.seeding.proofs.Planting.{looking-step, looking-found}
 use Rattle.seeding.proofs.spanned.Goals as goal
 

@@ -1,4 +1,4 @@
--- `spanned` meets its contract. The loop keeps `Looking`: no match of the groups before g spans x. Assumes nothing.
+-- The loop keeps `Looking`: no match of the groups before g spans x.
 use Rattle.seeding.proofs.Planting.{Looking}
 use Rattle.seeding.proofs.spanned.Given as goal
 
