@@ -15,7 +15,7 @@ pub fn blocks_of(count: usize) -> usize
     requires { count + 15 < 2 ^ 64 }
     ensures { result ≡ blocks_of count }
 {
-    (count + 15) / BLOCK
+    count.div_ceil(BLOCK)
 }
 
 // Where block b of so many numbers begins, or they end.
@@ -23,6 +23,5 @@ pub fn block_start(b: usize, count: usize) -> usize
     requires { b * 16 < 2 ^ 64 }
     ensures { result ≡ block_start b count }
 {
-    let start = b * BLOCK;
-    if count <= start { count } else { start }
+    (b * BLOCK).min(count)
 }
