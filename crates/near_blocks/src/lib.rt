@@ -13,14 +13,12 @@ fn next_high(index: &[u32], at: usize, end: usize, k: usize, x: u32) -> usize
     requires k_le_end { k ≤ end }
     ensures { Short index.now at end x k result }
 {
-    let mut near = k;
-    while near < end {
+    for near in k..end {
         if x <= index[at + near] {
             return near;
         }
-        near += 1;
     }
-    near
+    end
 }
 
 // The next number of a level, from number k on, that is x or more. What is left of k's block is looked at, and then the
