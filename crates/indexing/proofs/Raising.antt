@@ -1,41 +1,40 @@
 -- Making the levels of an index, over plain lists.
---     bounding-none, bounding-more, bounding-all    a bound of no numbers, of one more, and of no more than these
+--     bounding                                 the highest of a part, or 0 where there is none, bounds it
 --     OverlaidTo                               the invariant of making a level: its blocks before block b are bounded
---     overlay-starts, overlay-on, overlay-ends      where it begins, one block more, and where it ends
 --     raised-top, raised-above                 no level above one block; a level, and those above it
 --     indexed                                  the order, the ends and the levels make an index
 -- Assumes nothing.
-use Prim.Native.Nat.{ℕ, ◌+◌, ◌/◌, ◌≤◌, ◌<◌}
+use Prim.Native.Nat.{ℕ, ◌+◌, ◌-◌, ◌/◌, ◌≤◌, ◌<◌}
 use native.Mathlib.Omega.{arith}
-use native.Mathlib.Decide.{ℕ_discrete}
 use mathlib.Core.Path.{◌≡◌, refl, ◌∙◌}
 use mathlib.Core.List.{List}
-use lib.ListN.{length, get_or, set, length-set}
-use lib.Seq.{get_or-set_same, get_or-set_other}
+use lib.ListN.{length, get_or}
+use Rattle.std.specs.Prelude.{Option, MatchOption, EachIndex, slice_range}
+use Rattle.std.specs.Option.{unwrap_or}
+use Rattle.std.specs.declared.option.Option.TheVariants.{None, Some}
+use Rattle.std.proofs.lemmas.List.Edits.{length-between, get_or-between}
 use Rattle.runs.specs.Runs.{Same}
-use Rattle.arrangement.specs.Index.{blocks_of, block_start, level_room, index_room, starts_at, ends_at}
+use Rattle.arrangement.specs.Index.{blocks_of, block_start, index_room, starts_at, ends_at}
 use Rattle.arrangement.specs.Index.{Levels, Indexed}
 use Rattle.arranging.proofs.Ordering.{order_same}
-use Rattle.indexing.specs.Bounds.{Higher, Bounding, Listed, Overlaid, Raised}
+use Rattle.indexing.specs.Bounds.{Bounding, Listed, Overlaid, Raised}
 
 -- ---- the highest of a block
 
-pub bounding-none : {xs : List ℕ} {first r : ℕ} → Bounding xs first first r
-bounding-none = record { bound = λ k l u. absurd (omega arith) }
-
-pub bounding-more :
-    {xs : List ℕ} {first k r s : ℕ} → Bounding xs first k r → Higher r (get_or xs k 0) s → Bounding xs first (k + 1) s
-bounding-more {k = k} b h = record {
-  bound = λ j l u.
-      elim (ℕ_discrete j k) [
-        | yes e ↦ rw e h.second
-        | no other ↦ omega (arith, b.bound j l (omega arith), h.first)
-      ];
+pub bounding :
+    {xs : List ℕ} {first last : ℕ} (r : Option ℕ) → last ≤ length xs
+    → MatchOption r (length (slice_range xs first last) ≡ 0)
+    (λ m. EachIndex (slice_range xs first last) (λ k. get_or (slice_range xs first last) k 0 ≤ m))
+    → Bounding xs first last (unwrap_or r 0)
+bounding {xs} {first} {last} None w h = record { bound = λ k l u. absurd (omega (arith, length-between xs first last w)) }
+bounding {xs} {first} {last} (Some m) w h = record {
+  bound = λ k l u.
+      let e : first + (k - first) ≡ k = omega arith in
+      let at : get_or (slice_range xs first last) (k - first) 0 ≡ get_or xs k 0 =
+      rw e at (get_or-between xs first last (k - first) 0 (omega arith))
+      in
+      omega (arith, at, h (k - first) (omega (arith, length-between xs first last w)));
 }
-
-pub bounding-all :
-    {xs : List ℕ} {first last k r : ℕ} → Bounding xs first k r → last ≤ k → Bounding xs first last r
-bounding-all b h = record { bound = λ j l u. b.bound j l (omega arith) }
 
 -- ---- a level
 
@@ -43,35 +42,6 @@ pub record OverlaidTo (xs : List ℕ) (at count : ℕ) (ys : List ℕ) (b : ℕ)
   pub long : length ys ≡ length xs
   pub kept : Same xs ys 0 (at + count)
   pub bounds : (j : ℕ) → j < block_start b count → get_or ys (at + j) 0 ≤ get_or ys (at + count + j / 16) 0
-
-pub overlay-starts : {xs : List ℕ} {at count : ℕ} → OverlaidTo xs at count xs 0
-overlay-starts = record { long = refl; kept = λ j l u. refl; bounds = λ j u. absurd (omega arith) }
-
-module _ {xs ys : List ℕ} {at count b first last high : ℕ} (o : OverlaidTo xs at count ys b)
-    (is-first : first ≡ block_start b count) (is_last : last ≡ block_start (b + 1) count)
-    (room : at + level_room count ≤ length xs) (l : b < blocks_of count) (many : 16 < count)
-    (h : Bounding ys (at + first) (at + last) high) where
-  at_block : get_or (set ys (at + count + b) high) (at + count + b) 0 ≡ high
-  at_block = get_or-set_same ys (at + count + b) high 0 (omega (arith, o.long))
-
-  elsewhere : (j : ℕ) → (j ≡ at + count + b → ⊥) → get_or (set ys (at + count + b) high) j 0 ≡ get_or ys j 0
-  elsewhere j other = get_or-set_other ys (at + count + b) j high 0 other
-
-  pub overlay-on : OverlaidTo xs at count (set ys (at + count + b) high) (b + 1)
-  overlay-on = record {
-    long = length-set ys (at + count + b) high ∙ o.long;
-    kept = λ j a u. elsewhere j (λ e. omega arith) ∙ o.kept j a u;
-    bounds = λ j u.
-        rw (elsewhere (at + j) (λ e. omega arith))
-        (elim (ℕ_discrete (j / 16) b) [
-          | yes e ↦ rw (e, at_block) (h.bound (at + j) (omega arith) (omega arith))
-          | no other ↦ rw (elsewhere (at + count + j / 16) (λ e. omega arith)) (o.bounds j (omega arith))
-        ]);
-  }
-
-pub overlay-ends :
-    {xs ys : List ℕ} {at count b : ℕ} → OverlaidTo xs at count ys b → blocks_of count ≤ b → Overlaid xs at count ys
-overlay-ends o l = record { kept = o.kept; covered = λ j u. o.bounds j (omega arith) }
 
 -- ---- all levels
 

@@ -1,5 +1,4 @@
 -- What the parts of making an index do. Only the contracts of the crate indexing cite this file.
---     Lower x y r, Higher x y r          r is no more, and no less, than either number
 --     Bounding xs first last r           none of the numbers at these places is more than r
 --     Arranged xs f g                    the order of the matches stands in xs, which has room for the index
 --     Listed xs f g                      besides, their ends are listed in this order
@@ -10,16 +9,6 @@
 use Rattle.std.specs.Prelude.{ℕ, ◌+◌, ◌≤◌, ◌<◌, ◌≡◌, List, length, get_or}
 use Rattle.runs.specs.Runs.{Same}
 use Rattle.arrangement.specs.Index.{Order, index_room, EndsListed, Covered, Levels}
-
--- r is at most the lesser of x and y
-pub record Lower (x y r : ℕ) : Type 0 where
-  pub first : r ≤ x
-  pub second : r ≤ y
-
--- r is at least the greater of x and y
-pub record Higher (x y r : ℕ) : Type 0 where
-  pub first : x ≤ r
-  pub second : y ≤ r
 
 pub record Bounding (xs : List ℕ) (first last r : ℕ) : Type 0 where
   pub bound : (k : ℕ) → first ≤ k → k < last → get_or xs k 0 ≤ r

@@ -3,7 +3,7 @@
 
 ghost use Rattle.std.specs.Prelude.{◌≡◌, ◌+◌, ◌<◌, ◌≤◌, length};
 ghost use Rattle.arrangement.specs.Index.{level_room, index_room, Indexed};
-ghost use Rattle.indexing.specs.Bounds.{Lower, Higher, Bounding, Arranged, Listed, Overlaid, Raised};
+ghost use Rattle.indexing.specs.Bounds.{Bounding, Arranged, Listed, Overlaid, Raised};
 
 use arrangement::{BLOCK, block_start, blocks_of};
 use arranging::arrange;
@@ -16,19 +16,6 @@ pub fn index_room(n: usize) -> usize
     n + n + n + n / 8
 }
 
-// The lesser, and the greater of two numbers.
-fn lower(x: u32, y: u32) -> u32
-    ensures { Lower x y result }
-{
-    if x <= y { x } else { y }
-}
-
-fn higher(x: u32, y: u32) -> u32
-    ensures { Higher x y result }
-{
-    if x <= y { y } else { x }
-}
-
 // Lists the ends of the matches in their order, from the last one back. What is listed as a match's left end is the
 // lowest from it on: its own, as the matches are arranged by them.
 fn list_ends(index: &mut [u32], lefts: &[u32], rights: &[u32])
@@ -36,12 +23,10 @@ fn list_ends(index: &mut [u32], lefts: &[u32], rights: &[u32])
     ensures { Listed index.new lefts.now rights.now }
 {
     let n = lefts.len();
-    let mut low = 4294967295;
-    let mut k = n;
-    while 0 < k {
-        k -= 1;
+    let mut low = u32::MAX;
+    for k in (0..n).rev() {
         let m = index[k] as usize;
-        low = lower(low, lefts[m]);
+        low = low.min(lefts[m]);
         index[n + k] = low;
         index[n + n + k] = rights[m];
     }
@@ -53,13 +38,7 @@ fn highest(index: &[u32], first: usize, last: usize) -> u32
     requires last_in_bounds { last ≤ length index.now }
     ensures { Bounding index.now first last result }
 {
-    let mut high = 0;
-    let mut k = first;
-    while k < last {
-        high = higher(high, index[k]);
-        k += 1;
-    }
-    high
+    index[first..last].iter().copied().max().unwrap_or(0)
 }
 
 // Makes the level above one of so many numbers.
@@ -69,14 +48,11 @@ fn overlay(index: &mut [u32], at: usize, count: usize)
     ensures { Overlaid index.old at count index.new }
 {
     let above = at + count;
-    let blocks = blocks_of(count);
-    let mut b = 0;
-    while b < blocks {
+    for b in 0..blocks_of(count) {
         let first = at + block_start(b, count);
         let last = at + block_start(b + 1, count);
         let high = highest(index, first, last);
         index[above + b] = high;
-        b += 1;
     }
 }
 
