@@ -1,33 +1,30 @@
 -- What the walk that fills the columns keeps, and what they hold at its end.
---     Filled, as_long  the columns hold what the commands said, and are as long as they were
+--     Filled           the columns hold what the commands said
 --     Filling          good commands alone were passed, of a script that is admitted, and the columns are filled so
 --     filling-start, filling-taken, filling-kept     at the start, and behind one more match or mark
 --     filling-ends     at the end the columns hold what the reading leaves
---     filling-refused  a script that was admitted is not refused on the second walk
 --     kept-columns     behind a refusal
---     columns-contract the contract of the call, with the demands that follow
 -- Assumes nothing.
 use Prim.Native.Nat.{ℕ, ◌+◌}
 use mathlib.Core.Path.{◌≡◌, refl, sym, ap, ◌∙◌}
 use mathlib.Core.Bool.{Bool}
 use mathlib.Core.List.{List, [], ◌∷◌, ◌++◌}
 use lib.ListN.{length, drop, set}
+use Rattle.std.specs.Prelude.{Result, Ok, Err}
 use Rattle.script.specs.Commands.{lengths_width, match_width, mark_width, command_of}
 use Rattle.script.specs.Steps.{step_of}
 use Rattle.script.specs.Reading.{read_script, verdict_of}
 use Rattle.script.specs.Columns.{column_of, ColumnsRead, MarksRead}
-use Rattle.script.specs.Demands.{verdict_answer, ReadingDemand, ColumnsDemand, MarksDemand}
 use Rattle.script.specs.declared.command.Match.{Match}
 use Rattle.script.specs.declared.command.Mark.{Mark}
 use Rattle.script.specs.declared.refusal.Refusal.{Refusal}
 use Rattle.script.specs.declared.step.Step.{Step}
-use Rattle.script.specs.declared.Verdict.{Verdict}
+use Rattle.script.specs.declared.Admitted.{Admitted}
 use Rattle.script.proofs.Holding.{reading-refused}
-use Rattle.script.proofs.Columns.{column-length, column-next, columns-demand, marks-demand}
-use Rattle.script.proofs.Demands.{reading-demand}
+use Rattle.script.proofs.Columns.{column-next}
 use Rattle.reader.specs.Walking.{Admits, next_of, MatchPut, MarkPut}
 use Rattle.reader.proofs.Progress.{Progress, progress_start, step-finished, step-taken, step_kept}
-use Rattle.reader.proofs.Walks.{admits-reach, never-refused, next-is}
+use Rattle.reader.proofs.Walks.{admits-reach, next-is}
 
 -- ---- the walk
 
@@ -41,29 +38,6 @@ pub record Filled (ms : List Match) (ks : List Mark) (a b d : List ℕ) (r : Lis
   pub side : z' ≡ column_of ks (λ k. k.side) z
   pub position : x' ≡ column_of ks (λ k. k.position) x
 
-pub as_long : {ms : List Match} {ks : List Mark} {a b d : List ℕ} {r : List Bool} {z x a' b' d' : List ℕ}
-    {r' : List Bool} {z' x' : List ℕ} → Filled ms ks a b d r z x a' b' d' r' z' x'
-    → (length a' ≡ length a)
-    × ((length b' ≡ length b)
-    × ((length d' ≡ length d)
-    × ((length r' ≡ length r) × ((length z' ≡ length z) × (length x' ≡ length x)))))
-as_long {ms} {ks} {a} {b} {d} {r} {z} {x} f = (
-  ap length f.left_a ∙ column-length ms (λ m. m.left_a) a,
-  (
-    ap length f.left_b ∙ column-length ms (λ m. m.left_b) b,
-    (
-      ap length f.letters ∙ column-length ms (λ m. m.length) d,
-      (
-        ap length f.reversed ∙ column-length ms (λ m. m.reversed) r,
-        (
-          ap length f.side ∙ column-length ks (λ k. k.side) z,
-          ap length f.position ∙ column-length ks (λ k. k.position) x,
-        ),
-      ),
-    ),
-  ),
-)
-
 -- one more value, stored behind those that are
 one_more : {X Y : Type 0} (field : X → Y) (column : List Y) (xs : List X) {n : ℕ} {now next : List Y} (x : X)
     → length xs ≡ n → now ≡ column_of xs field column → next ≡ set now n (field x)
@@ -73,7 +47,7 @@ one_more field column xs x counted is put = put ∙ rw (is, ← counted) (sym (c
 pub record Filling (s : List ℕ) (a b d : List ℕ) (r : List Bool) (z x : List ℕ) (a' b' d' : List ℕ)
     (r' : List Bool) (z' x' : List ℕ) (count marks at : ℕ) : Type 0 where
   pub admits : Admits s
-  pub progress : Progress s admits.p admits.q count marks at
+  pub progress : Progress s admits.admitted.p admits.admitted.q count marks at
   pub filled : Filled progress.matches progress.points a b d r z x a' b' d' r' z' x'
 
 module _ {s : List ℕ} {a b d : List ℕ} {r : List Bool} {z x : List ℕ} where
@@ -91,7 +65,7 @@ module _ {s : List ℕ} {a b d : List ℕ} {r : List Bool} {z x : List ℕ} wher
       (h : Filling s a b d r z x a' b' d' r' z' x' count marks at) {t : Step}
       (en : t ≡ next_of s at) where
     -- the byte tells the step
-    et : t ≡ step_of h.admits.p h.admits.q count marks at (command_of (drop at s))
+    et : Ok t ≡ step_of h.admits.admitted.p h.admits.admitted.q count marks at (command_of (drop at s))
     et = next-is h.admits h.progress en
 
     pub filling-taken : {m : Match} {a'' b'' d'' : List ℕ} {r'' : List Bool} → t ≡ Step.Take m
@@ -104,7 +78,7 @@ module _ {s : List ℕ} {a b d : List ℕ} {r : List Bool} {z x : List ℕ} wher
         let n = h.progress.counted in
         record {
           admits = h.admits;
-          progress = step-taken h.progress et e;
+          progress = step-taken h.progress et (ap Ok e);
           filled =
               record {
                 left_a = one_more (λ m. m.left_a) a ms m n f.left_a put.left_a;
@@ -125,7 +99,7 @@ module _ {s : List ℕ} {a b d : List ℕ} {r : List Bool} {z x : List ℕ} wher
         let n = h.progress.counted_marks in
         record {
           admits = h.admits;
-          progress = step_kept h.progress et e;
+          progress = step_kept h.progress et (ap Ok e);
           filled =
               record {
                 left_a = f.left_a;
@@ -140,7 +114,7 @@ module _ {s : List ℕ} {a b d : List ℕ} {r : List Bool} {z x : List ℕ} wher
     pub filling-ends : t ≡ Step.Finish → ColumnsRead s a b d r a' b' d' r' × MarksRead s z x z' x'
     filling-ends e =
         let f = h.filled in
-        let read = step-finished h.progress et e in (
+        let read = step-finished h.progress et (ap Ok e) in (
           record {
             left_a = rw read f.left_a;
             left_b = rw read f.left_b;
@@ -150,13 +124,10 @@ module _ {s : List ℕ} {a b d : List ℕ} {r : List Bool} {z x : List ℕ} wher
           record { side = rw read f.side; position = rw read f.position },
         )
 
-    pub filling-refused : {f : Refusal} → t ≡ Step.Refuse f → ⊥
-    filling-refused {f} e = never-refused h.admits h.progress f (sym et ∙ e)
-
 -- ---- the call
 
-module _ (s : List ℕ) {told : Verdict} (reads : told ≡ verdict_of (read_script s)) where
-  pub kept-columns : {f : Refusal} → told ≡ Verdict.Refused f → (a b d : List ℕ) (r : List Bool) (z x : List ℕ)
+module _ (s : List ℕ) {told : Result Admitted Refusal} (reads : told ≡ verdict_of (read_script s)) where
+  pub kept-columns : {f : Refusal} → told ≡ Err f → (a b d : List ℕ) (r : List Bool) (z x : List ℕ)
       → ColumnsRead s a b d r a b d r × MarksRead s z x z x
   unfolding column_of
   kept-columns v a b d r z x =
@@ -164,14 +135,3 @@ module _ (s : List ℕ) {told : Verdict} (reads : told ≡ verdict_of (read_scri
         record { left_a = rw refused; left_b = rw refused; letters = rw refused; reversed = rw refused },
         record { side = rw refused; position = rw refused },
       )
-
-  pub columns-contract : {a b d a' b' d' : List ℕ} {r r' : List Bool} {z x z' x' : List ℕ}
-      → ColumnsRead s a b d r a' b' d' r' × MarksRead s z x z' x'
-      → (told ≡ verdict_of (read_script s))
-      × (ColumnsRead s a b d r a' b' d' r'
-      × (MarksRead s z x z' x'
-      × (ReadingDemand s (verdict_answer told)
-      × (ColumnsDemand s a b d r a' b' d' r'
-      × MarksDemand s z x z' x'))))
-  columns-contract h =
-      (reads, (h.0, (h.1, (reading-demand s reads, (columns-demand h.0, marks-demand h.1)))))

@@ -13,6 +13,7 @@ use mathlib.Core.List.{List, [], ◌∷◌, ◌++◌}
 use native.Mathlib.Omega.{arith}
 use lib.ListN.{length, take, drop, length-drop, length-append}
 use lib.Seq.{take_all}
+use Rattle.std.specs.Prelude.{Result, Ok, Err}
 use Rattle.script.specs.Limits.{most_matches, most_marks}
 use Rattle.script.specs.Commands.{lengths_width, match_width, mark_width, number_at, command_of}
 use Rattle.script.specs.Steps.{opening_of, step_of}
@@ -23,7 +24,7 @@ use Rattle.script.specs.declared.refusal.Refusal.TheVariants.{CutShort, TooManyM
 use Rattle.script.specs.declared.command.Match.{Match}
 use Rattle.script.specs.declared.command.Mark.{Mark}
 use Rattle.script.specs.declared.command.Command.{Command}
-use Rattle.script.specs.declared.step.Opening.{Opening}
+use Rattle.script.specs.declared.step.Lengths.{Lengths}
 use Rattle.script.specs.declared.step.Step.{Step}
 use Rattle.script.proofs.Seen.{Seen, seen}
 use Rattle.script.proofs.Outcome.{reach-place, reach-inside, reach-ends, opening-at}
@@ -35,18 +36,19 @@ rest-drop s at = take_all (length s - at) (drop at s) (omega (arith, length-drop
 -- ---- the commands passed
 
 -- what holds of the match or the mark that a step takes, if it takes one
-abbrev Next : (Match → Type 0) → (Mark → Type 0) → Step → Type 0
-Next P R (Step.Refuse r) = Unit
-Next P R Step.Finish = Unit
-Next P R (Step.Take m) = P m
-Next P R (Step.Keep k) = R k
+abbrev Next : (Match → Type 0) → (Mark → Type 0) → Result Step Refusal → Type 0
+Next P R (Err r) = Unit
+Next P R (Ok Step.Finish) = Unit
+Next P R (Ok (Step.Take m)) = P m
+Next P R (Ok (Step.Keep k)) = R k
 
 -- one good command further
-abbrev Further : List ℕ → ℕ → ℕ → ℕ → List Match → List Mark → Step → Type 0
+abbrev Further : List ℕ → ℕ → ℕ → ℕ → List Match → List Mark → Result Step Refusal → Type 0
 Further s p q at ms ks t =
-    Next (λ m. Reach s p q (at + match_width) (ms ++ m ∷ []) ks) (λ k. Reach s p q (at + mark_width) ms (ks ++ k ∷ [])) t
+    Next (λ m. Reach s p q (at + match_width) (ms ++ m ∷ []) ks)
+    (λ k. Reach s p q (at + mark_width) ms (ks ++ k ∷ [])) t
 
-match-next : {s : List ℕ} {p q at : ℕ} {ms : List Match} {ks : List Mark} {m : Match} {t : Step}
+match-next : {s : List ℕ} {p q at : ℕ} {ms : List Match} {ks : List Mark} {m : Match} {t : Result Step Refusal}
     → Reach s p q at ms ks → MatchAt s at m → Judged p q (length ms) at m t → Further s p q at ms ks t
 match-next r d (Judged.too_many _) = tt
 match-next r d (Judged.room _ (Weighed.empty _)) = tt
@@ -54,7 +56,7 @@ match-next r d (Judged.room _ (Weighed.beyond_a _ _)) = tt
 match-next r d (Judged.room _ (Weighed.beyond_b _ _ _)) = tt
 match-next r d (Judged.room room (Weighed.sound w)) = taken r room d w
 
-mark-next : {s : List ℕ} {p q at : ℕ} {ms : List Match} {ks : List Mark} {k : Mark} {t : Step}
+mark-next : {s : List ℕ} {p q at : ℕ} {ms : List Match} {ks : List Mark} {k : Mark} {t : Result Step Refusal}
     → Reach s p q at ms ks → MarkAt s at k → Pointed p q (length ks) at k t → Further s p q at ms ks t
 mark-next r d (Pointed.too_many _) = tt
 mark-next r d (Pointed.room _ (Measured.no_side _)) = tt
@@ -62,8 +64,8 @@ mark-next r d (Pointed.room _ (Measured.beyond _)) = tt
 mark-next r d (Pointed.room room (Measured.sound o)) = marked r room d o
 
 -- a command that is cut short leads nowhere
-short-next : {s : List ℕ} {p q at most count : ℕ} {full : Refusal} {ms : List Match} {ks : List Mark} {t : Step}
-    → Reach s p q at ms ks → Roomy most count full (Step.Refuse (CutShort at)) t → Further s p q at ms ks t
+short-next : {s : List ℕ} {p q at most count : ℕ} {full : Refusal} {ms : List Match} {ks : List Mark}
+    {t : Result Step Refusal} → Reach s p q at ms ks → Roomy most count full (Err (CutShort at)) t → Further s p q at ms ks t
 short-next r (Roomy.too_many _) = tt
 short-next r (Roomy.room _) = tt
 
@@ -75,25 +77,25 @@ step-next r (Seen.lengths _ _) = tt
 step-next r (Seen.lengths_short _ _) = tt
 step-next {p} {q} {at} {ms} r (Seen.pairing {m} d) = match-next r d (judged p q (length ms) at m)
 step-next {at} {ms} r (Seen.pairing_short _ _) =
-    short-next r (roomy most_matches (length ms) (TooManyMatches at) (Step.Refuse (CutShort at)))
+    short-next r (roomy most_matches (length ms) (TooManyMatches at) (Err (CutShort at)))
 step-next {p} {q} {at} {ks = ks} r (Seen.marking {k} d) = mark-next r d (pointed p q (length ks) at k)
 step-next {at} {ks = ks} r (Seen.marking_short _ _) =
-    short-next r (roomy most_marks (length ks) (TooManyMarks at) (Step.Refuse (CutShort at)))
+    short-next r (roomy most_marks (length ks) (TooManyMarks at) (Err (CutShort at)))
 step-next r (Seen.end _ _) = tt
 step-next r (Seen.end_then_more _ _) = tt
 
-pub further : {s : List ℕ} {p q at : ℕ} {ms : List Match} {ks : List Mark} {t : Step} → Reach s p q at ms ks
-    → step_of p q (length ms) (length ks) at (command_of (drop at s)) ≡ t → Further s p q at ms ks t
+pub further : {s : List ℕ} {p q at : ℕ} {ms : List Match} {ks : List Mark} {t : Result Step Refusal}
+    → Reach s p q at ms ks → step_of p q (length ms) (length ks) at (command_of (drop at s)) ≡ t → Further s p q at ms ks t
 further {s} {p} {q} {at} {ms} {ks} r e = subst (Further s p q at ms ks) e (step-next r (seen s at))
 
 -- ---- the first command
 
 -- what holds of the lengths that open a script, if they do
-abbrev Begins : (ℕ → ℕ → Type 0) → Opening → Type 0
-Begins P (Opening.Refuse r) = Unit
-Begins P (Opening.Open p q) = P p q
+abbrev Begins : (ℕ → ℕ → Type 0) → Result Lengths Refusal → Type 0
+Begins P (Err r) = Unit
+Begins P (Ok l) = P l.p l.q
 
-lengths-begin : {s : List ℕ} {p q : ℕ} {o : Opening} → LengthsAt s p q → Opens p q o
+lengths-begin : {s : List ℕ} {p q : ℕ} {o : Result Lengths Refusal} → LengthsAt s p q → Opens p q o
     → Begins (λ p q. Reach s p q lengths_width [] []) o
 lengths-begin l (Opens.open_them a b) = opened l a b
 lengths-begin l (Opens.out_of_range _) = tt
@@ -112,24 +114,23 @@ opening-begins (Seen.marking_short _ _) = tt
 opening-begins (Seen.end _ _) = tt
 opening-begins (Seen.end_then_more _ _) = tt
 
-opening-reach : {s : List ℕ} {p q : ℕ} → opening_of (command_of s) ≡ Opening.Open p q
-    → Reach s p q lengths_width [] []
+opening-reach : {s : List ℕ} {l : Lengths} → opening_of (command_of s) ≡ Ok l → Reach s l.p l.q lengths_width [] []
 opening-reach {s} e = subst (Begins (λ p q. Reach s p q lengths_width [] [])) e (opening-begins (seen s 0))
 
 -- the two calls on the first command compute what it opens, and refuse what it refuses
-module _ (s : List ℕ) {c : Command} {o : Opening} (ec : c ≡ command_of s) (eo : o ≡ opening_of c) where
-  opening-is : {o' : Opening} → o ≡ o' → opening_of (command_of s) ≡ o'
+module _ (s : List ℕ) {c : Command} {o : Result Lengths Refusal} (ec : c ≡ command_of s) (eo : o ≡ opening_of c) where
+  opening-is : {o' : Result Lengths Refusal} → o ≡ o' → opening_of (command_of s) ≡ o'
   opening-is e = rw (← ec) (sym eo ∙ e)
 
-  pub opens-script : {p q : ℕ} → o ≡ Opening.Open p q → Reach s p q 9 [] []
+  pub opens-script : {l : Lengths} → o ≡ Ok l → Reach s l.p l.q 9 [] []
   opens-script e = opening-reach (opening-is e)
 
-  pub refuses-script : {f : Refusal} → o ≡ Opening.Refuse f → read_script s ≡ refused f
+  pub refuses-script : {f : Refusal} → o ≡ Err f → read_script s ≡ refused f
   refuses-script e = opening-at s (seen s 0) (opening-is e)
 
 -- ---- between two commands
 
-pub stepped : (s : List ℕ) (p q count marks at : ℕ) {c : Command} {t : Step}
+pub stepped : (s : List ℕ) (p q count marks at : ℕ) {c : Command} {t : Result Step Refusal}
     → c ≡ command_of (take (length s - at) (drop at s)) → t ≡ step_of p q count marks at c
     → t ≡ step_of p q count marks at (command_of (drop at s))
 stepped s p q count marks at ec et =
@@ -157,19 +158,19 @@ module _ {s : List ℕ} {p q count marks at : ℕ} (h : Progress s p q count mar
       omega (arith, place)
 
   -- from what the call on the command ensures
-  module _ {t : Step} (et : t ≡ step_of p q count marks at (command_of (drop at s))) where
+  module _ {t : Result Step Refusal} (et : t ≡ step_of p q count marks at (command_of (drop at s))) where
     -- it computes the step at the offset
-    pub comes : {t' : Step} → t ≡ t'
+    pub comes : {t' : Result Step Refusal} → t ≡ t'
         → step_of p q (length h.matches) (length h.points) at (command_of (drop at s)) ≡ t'
     comes e = rw (h.counted, h.counted_marks) (sym et ∙ e)
 
-    pub step-refused : {f : Refusal} → t ≡ Step.Refuse f → read_script s ≡ refused f
+    pub step-refused : {f : Refusal} → t ≡ Err f → read_script s ≡ refused f
     step-refused e = reach-ends h.reach (seen s at) (comes e)
 
-    pub step-finished : t ≡ Step.Finish → read_script s ≡ admitted (p ∷ q ∷ []) h.matches h.points
+    pub step-finished : t ≡ Ok Step.Finish → read_script s ≡ admitted (p ∷ q ∷ []) h.matches h.points
     step-finished e = reach-ends h.reach (seen s at) (comes e)
 
-    unfoldable pub step-taken : {m : Match} → t ≡ Step.Take m → Progress s p q (count + 1) marks (at + match_width)
+    unfoldable pub step-taken : {m : Match} → t ≡ Ok (Step.Take m) → Progress s p q (count + 1) marks (at + match_width)
     step-taken {m} e =
         record {
           matches = h.matches ++ m ∷ [];
@@ -179,7 +180,7 @@ module _ {s : List ℕ} {p q count marks at : ℕ} (h : Progress s p q count mar
           counted_marks = h.counted_marks;
         }
 
-    unfoldable pub step_kept : {k : Mark} → t ≡ Step.Keep k → Progress s p q count (marks + 1) (at + mark_width)
+    unfoldable pub step_kept : {k : Mark} → t ≡ Ok (Step.Keep k) → Progress s p q count (marks + 1) (at + mark_width)
     step_kept {k} e =
         record {
           matches = h.matches;

@@ -5,7 +5,7 @@
 --     MatchPut, MarkPut     a match and a mark stored behind k others
 --     numbered_match s n     the match of the number n
 -- Assumes nothing.
-use Rattle.std.specs.Prelude.{ℕ, ◌+◌, ◌-◌, ◌≡◌, Bool, cond, false, List, eqb, get_or, set}
+use Rattle.std.specs.Prelude.{ℕ, ◌+◌, ◌-◌, ◌≡◌, Bool, cond, false, List, eqb, get_or, set, Ok}
 use Rattle.script.specs.Commands.{number_at}
 use Rattle.script.specs.Reading.{read_script, verdict_of}
 use Rattle.script.specs.Columns.{matches_read}
@@ -13,14 +13,11 @@ use Rattle.script.specs.declared.command.Match.{Match}
 use Rattle.script.specs.declared.command.Mark.{Mark}
 use Rattle.script.specs.declared.step.Step.{Step}
 use Rattle.script.specs.declared.step.Step.TheVariants.{Finish, Take, Keep}
-use Rattle.script.specs.declared.Verdict.{Verdict}
+use Rattle.script.specs.declared.Admitted.{Admitted}
 
 pub record Admits (s : List ℕ) : Type 0 where
-  pub p : ℕ
-  pub q : ℕ
-  pub count : ℕ
-  pub marks : ℕ
-  pub told : Verdict.Admitted p q count marks ≡ verdict_of (read_script s)
+  pub admitted : Admitted
+  pub told : Ok admitted ≡ verdict_of (read_script s)
 
 abbrev pub match_seen : List ℕ → ℕ → Match
 match_seen s at =

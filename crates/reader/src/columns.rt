@@ -7,32 +7,16 @@ ghost use Rattle.reader.specs.Walking.{Admits, MatchPut, MarkPut};
 
 use crate::read;
 use crate::walk::next_at;
-use script::Verdict;
 use script::command::{LENGTHS_WIDTH, MARK_WIDTH, MATCH_WIDTH, Mark, Match};
 use script::step::Step;
+use script::{Admitted, Refusal};
 
 // Stores a value at k, if the column reaches so far: a number, a direction, a side.
-fn put_number(column: &mut [u32], k: usize, number: u32)
-    ensures { column.new ≡ set column.old k number }
+fn put<T: Copy>(column: &mut [T], k: usize, value: T)
+    ensures { column.new ≡ set column.old k value }
 {
     if k < column.len() {
-        column[k] = number;
-    }
-}
-
-fn put_direction(column: &mut [bool], k: usize, reversed: bool)
-    ensures { column.new ≡ set column.old k reversed }
-{
-    if k < column.len() {
-        column[k] = reversed;
-    }
-}
-
-fn put_side(column: &mut [u8], k: usize, side: u8)
-    ensures { column.new ≡ set column.old k side }
-{
-    if k < column.len() {
-        column[k] = side;
+        column[k] = value;
     }
 }
 
@@ -49,10 +33,10 @@ fn put_match(
         left_a.old left_b.old lengths.old reversed.old
         left_a.new left_b.new lengths.new reversed.new }
 {
-    put_number(left_a, k, found.left_a);
-    put_number(left_b, k, found.left_b);
-    put_number(lengths, k, found.length);
-    put_direction(reversed, k, found.reversed);
+    put(left_a, k, found.left_a);
+    put(left_b, k, found.left_b);
+    put(lengths, k, found.length);
+    put(reversed, k, found.reversed);
 }
 
 // Stores a mark behind k others.
@@ -60,8 +44,8 @@ fn put_mark(found: Mark, k: usize, sides: &mut [u8], positions: &mut [u32])
     ensures { MarkPut found k
         sides.old positions.old sides.new positions.new }
 {
-    put_side(sides, k, found.side);
-    put_number(positions, k, found.position);
+    put(sides, k, found.side);
+    put(positions, k, found.position);
 }
 
 // The six columns of an admitted script, filled command by command.
@@ -84,9 +68,9 @@ fn fill_columns(
     let mut count: usize = 0;
     let mut marks: usize = 0;
     let mut at: usize = LENGTHS_WIDTH;
+    // Not a `for`: each command tells where the next one stands.
     loop {
         match next_at(script, at) {
-            Step::Refuse(_) => return,
             Step::Finish => return,
             Step::Take(found) => {
                 put_match(found, count, left_a, left_b, lengths, reversed);
@@ -113,7 +97,7 @@ pub fn read_columns(
     reversed: &mut [bool],
     sides: &mut [u8],
     positions: &mut [u32],
-) -> Verdict
+) -> Result<Admitted, Refusal>
     ensures reply { result ≡ verdict_of (read_script script.now) }
     ensures columns { ColumnsRead script.now
         left_a.old left_b.old lengths.old reversed.old
@@ -127,17 +111,7 @@ pub fn read_columns(
     ensures marks_demand { MarksDemand script.now sides.old positions.old sides.new
         positions.new }
 {
-    let verdict = read(script);
-    match verdict {
-        Verdict::Refused(_) => verdict,
-        Verdict::Admitted {
-            p: _,
-            q: _,
-            count: _,
-            marks: _,
-        } => {
-            fill_columns(script, left_a, left_b, lengths, reversed, sides, positions);
-            verdict
-        }
-    }
+    let admitted = read(script)?;
+    fill_columns(script, left_a, left_b, lengths, reversed, sides, positions);
+    Ok(admitted)
 }

@@ -40,12 +40,9 @@ pub fn next_at(script: &[u8], at: usize) -> Step
     requires match_width_in_bounds { get_or script.now at 0 ≢ 0x45 → get_or script.now at 0 ≢ 0x4D → at + match_width ≤ length script.now }
     ensures { result ≡ next_of script.now at }
 {
-    let code = script[at];
-    if code == 0x45 {
-        return Step::Finish;
+    match script[at] {
+        0x45 => Step::Finish,
+        0x4D => Step::Keep(mark_at(script, at)),
+        _ => Step::Take(match_at(script, at)),
     }
-    if code == 0x4D {
-        return Step::Keep(mark_at(script, at));
-    }
-    Step::Take(match_at(script, at))
 }

@@ -41,27 +41,27 @@ pub fn place_of(refusal: Refusal) -> usize
     ensures { result ≡ place_of refusal }
 {
     match refusal {
-        Refusal::Headless => 0,
-        Refusal::UnknownCommand(at) => at,
-        Refusal::CutShort(at) => at,
-        Refusal::SecondLengths(at) => at,
-        Refusal::LengthOutOfRange => 0,
-        Refusal::TooManyMatches(at) => at,
-        Refusal::EmptyMatch(at) => at,
-        Refusal::BeyondA(at) => at,
-        Refusal::BeyondB(at) => at,
-        Refusal::Tail(at) => at,
-        Refusal::WorkTooShort => 0,
-        Refusal::TooManyPieces => 0,
-        Refusal::NoSuchMatch => 0,
-        Refusal::OffTheMatch => 0,
-        Refusal::MalformedRecords(at) => at,
-        Refusal::BufferTooShort => 0,
-        Refusal::PriceTooHigh => 0,
-        Refusal::ChainTooShort => 0,
-        Refusal::TooManyMarks(at) => at,
-        Refusal::NoSuchSide(at) => at,
-        Refusal::MarkBeyond(at) => at,
-        Refusal::CountsDiffer => 0,
+        Refusal::UnknownCommand(at)
+        | Refusal::CutShort(at)
+        | Refusal::SecondLengths(at)
+        | Refusal::TooManyMatches(at)
+        | Refusal::EmptyMatch(at)
+        | Refusal::BeyondA(at)
+        | Refusal::BeyondB(at)
+        | Refusal::Tail(at)
+        | Refusal::MalformedRecords(at)
+        | Refusal::TooManyMarks(at)
+        | Refusal::NoSuchSide(at)
+        | Refusal::MarkBeyond(at) => at,
+        Refusal::Headless
+        | Refusal::LengthOutOfRange
+        | Refusal::WorkTooShort
+        | Refusal::TooManyPieces
+        | Refusal::NoSuchMatch
+        | Refusal::OffTheMatch
+        | Refusal::BufferTooShort
+        | Refusal::PriceTooHigh
+        | Refusal::ChainTooShort
+        | Refusal::CountsDiffer => 0,
     }
 }

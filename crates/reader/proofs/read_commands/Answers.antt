@@ -1,33 +1,36 @@
 -- `read_commands` meets its contract. The loop keeps `Progress`: good commands alone stand before `at`, `count` matches
--- and `marks` marks. The measure is what is left of the script. Assumes nothing.
-use Rattle.reader.proofs.Progress.{small}
-use Rattle.reader.proofs.Progress.{stepped, step-refused, step-finished, step-taken, step_kept}
+-- and `marks` marks. Assumes nothing.
+use mathlib.Core.Path.{ap, ◌∙◌}
+use Rattle.std.proofs.Common.{Ok}
+use Rattle.std.proofs.lemmas.Result.{err_from_is_err_and}
+use Rattle.reader.proofs.Progress.{small, stepped, step-refused, step-finished, step-taken, step_kept}
 use Rattle.reader.proofs.read_commands.Goals as goal
 
 pub judge-requires : goal.judge-requires
 judge-requires c =
-    (small c.loop-refusal.invariant).1.1
+    (small c.loop-count.invariant).1.1
 
-pub returns-in-Refuse : goal.returns-in-Refuse
-returns-in-Refuse c =
-    let h = c.loop-refusal.invariant in
+pub returns-in_err-judge : goal.returns-in_err-judge
+returns-in_err-judge c =
+    let h = c.loop-count.invariant in
     let at = stepped _ _ _ _ _ _ c.read_command.ensures c.judge.ensures in
-    rw (step-refused h at c.in-Refuse.is)
+    let p = err_from_is_err_and c.from_residual.result c.from_residual.ensures.1 in
+    rw (p.1, p.2, step-refused h at c.in_err-judge.was)
 
 pub returns-in-Finish : goal.returns-in-Finish
 returns-in-Finish c =
-    let h = c.loop-refusal.invariant in
+    let h = c.loop-count.invariant in
     let at = stepped _ _ _ _ _ _ c.read_command.ensures c.judge.ensures in
-    rw (step-finished h at c.in-Finish.is, h.counted, h.counted_marks)
+    rw (step-finished h at (c.in_ok-judge.was ∙ ap Ok c.in-Finish.is), h.counted, h.counted_marks)
 
-pub loop-refusal-preserved-in-Take : goal.loop-refusal-preserved-in-Take
-loop-refusal-preserved-in-Take c =
-    let h = c.loop-refusal.invariant in
+pub loop-count-preserved-in-Take : goal.loop-count-preserved-in-Take
+loop-count-preserved-in-Take c =
+    let h = c.loop-count.invariant in
     let at = stepped _ _ _ _ _ _ c.read_command.ensures c.judge.ensures in
-    step-taken h at c.in-Take.is
+    step-taken h at (c.in_ok-judge.was ∙ ap Ok c.in-Take.is)
 
-pub loop-refusal-preserved : goal.loop-refusal-preserved
-loop-refusal-preserved c =
-    let h = c.loop-refusal.invariant in
+pub loop-count-preserved : goal.loop-count-preserved
+loop-count-preserved c =
+    let h = c.loop-count.invariant in
     let at = stepped _ _ _ _ _ _ c.read_command.ensures c.judge.ensures in
-    step_kept h at c.in-Keep.is
+    step_kept h at (c.in_ok-judge.was ∙ ap Ok c.in-Keep.is)

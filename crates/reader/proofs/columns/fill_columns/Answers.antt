@@ -1,5 +1,5 @@
 -- `fill_columns` meets its contract. The loop keeps `Filling`: good commands alone stand before `at`, and the columns
--- hold what they said. The measure is what is left of the script. Assumes nothing.
+-- hold what they said. Assumes nothing.
 use native.Mathlib.Omega.{arith}
 use Rattle.reader.proofs.Progress.{inside, small}
 use Rattle.reader.proofs.Filled.{filling-start, filling-taken, filling-kept, filling-ends}
@@ -7,28 +7,21 @@ use Rattle.reader.proofs.Walks.{next-asks}
 use Rattle.reader.proofs.columns.fill_columns.Goals as goal
 
 pub loop-found-init : goal.loop-found-init
-loop-found-init c =
-    filling-start c.requires
+loop-found-init c = filling-start c.requires
 
-pub next_at-requires-clause-at_in_bounds : goal.next_at-requires-clause-at_in_bounds
-next_at-requires-clause-at_in_bounds c =
-    (next-asks c.loop-found.invariant.admits c.loop-found.invariant.progress).0
+pub next_at-requires : goal.next_at-requires
+next_at-requires c =
+    let asks = next-asks c.loop-found.invariant.admits c.loop-found.invariant.progress in
+    record {
+      at_in_bounds = asks.0;
+      mark_width_in_bounds = asks.1.0;
+      match_width_in_bounds = asks.1.1;
+    }
 
-pub next_at-requires-clause-mark_width_in_bounds : goal.next_at-requires-clause-mark_width_in_bounds
-next_at-requires-clause-mark_width_in_bounds c =
-    (next-asks c.loop-found.invariant.admits c.loop-found.invariant.progress).1.0
-
-pub next_at-requires-clause-match_width_in_bounds : goal.next_at-requires-clause-match_width_in_bounds
-next_at-requires-clause-match_width_in_bounds c =
-    (next-asks c.loop-found.invariant.admits c.loop-found.invariant.progress).1.1
-
-pub returns-in-Finish-clause-columns : goal.returns-in-Finish-clause-columns
-returns-in-Finish-clause-columns c =
-    (filling-ends c.loop-found.invariant c.next_at.ensures c.in-Finish.is).0
-
-pub returns-in-Finish-clause-marks : goal.returns-in-Finish-clause-marks
-returns-in-Finish-clause-marks c =
-    (filling-ends c.loop-found.invariant c.next_at.ensures c.in-Finish.is).1
+pub returns-in-Finish : goal.returns-in-Finish
+returns-in-Finish c =
+    let ends = filling-ends c.loop-found.invariant c.next_at.ensures c.in-Finish.is in
+    record { columns = ends.0; marks = ends.1 }
 
 pub overflow_add-count : goal.overflow_add-count
 overflow_add-count c =

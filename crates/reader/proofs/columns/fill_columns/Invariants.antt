@@ -1,5 +1,4 @@
--- `fill_columns` meets its contract. The loop keeps `Filling`: good commands alone stand before `at`, and the columns
--- hold what they said. The measure is what is left of the script. Assumes nothing.
+-- Good commands alone stand before `at`; the measure is what is left of the script.
 use Prim.Native.Nat.{◌-◌}
 use lib.ListN.{length}
 use Rattle.reader.proofs.Filled.{Filling}
