@@ -1,7 +1,7 @@
 -- Carrying newly found cuts one after the other, each over every match.
 --     CutsPassed          the invariant: the cuts at the places [done, at) are carried over all matches
 --     cuts-start, cuts-step, cuts-end      where it begins, one cut more, and the end
---     cuts-full, cuts-excess      no room for the images of one cut more, or for its hits
+--     cuts-stop           no room for the images of one cut more, or for its hits
 --     cuts-place, cuts-good    what reading and carrying the next cut needs
 -- Assumes nothing.
 use Prim.Native.Nat.{ℕ, zero, suc, ◌+◌, ◌≤◌, ◌<◌}
@@ -19,7 +19,8 @@ use Rattle.cut_set.proofs.Laws.{done-used, stored-none, stored_same, stored-then
 use Rattle.reading_cuts.specs.Reading.{FoundPlace}
 use Rattle.refining.specs.Columns.{Columns, count_of}
 use Rattle.carrying_match.specs.OneMatch.{Ready, Carrying}
-use Rattle.carrying_match.specs.declared.Worked.{Worked}
+use Rattle.std.specs.Prelude.{Ok, Err}
+use Rattle.carrying_match.specs.declared.Stop.{Stop}
 use Rattle.cut_set.proofs.Gathering.{base_done, used-limit, used-within}
 use Rattle.carrying_match.proofs.Storing.{same-apart, ready-then}
 use Rattle.carrying_cuts.specs.Worker.{Images, hits_over}
@@ -134,7 +135,7 @@ module _ {columns : Columns} {xs : List ℕ} {from to : CutSet} {hits most end :
       pub cuts-step :
           {zs : List ℕ} {t : CutSet} {c : ℕ} → length zs ≡ length ys
           → Carrying (Images columns (count_of columns) (λ z. z ≡ cut)) (hits_over columns (count_of columns) (cut ∷ []))
-          ys set count most zs (Worked.Held c t)
+          ys set count most zs (Ok (record { hits = c; to = t }))
           → CutsPassed columns xs from to hits most end zs t c (at + 1)
       cuts-step n q = record {
         ends = p.ends;
@@ -146,22 +147,31 @@ module _ {columns : Columns} {xs : List ℕ} {from to : CutSet} {hits most end :
         few = q.2;
       }
 
-      pub cuts-full :
+      cuts-full :
           {zs : List ℕ} {t : CutSet} → Cramped (Images columns (count_of columns) (λ z. z ≡ cut)) ys set zs t
           → Cramped (Images columns (count_of columns) (Found xs from)) xs to zs t
       cuts-full c = cramped-wide
           (λ y q. images-of (λ x. in-wide (omega arith) (omega (arith, h))) ((next y).0 q))
           (cramped-then p.stored c)
 
-      pub cuts-excess :
+      cuts-excess :
           most < count + hits_over columns (count_of columns) (cut ∷ [])
           → most < hits + hits_over columns (count_of columns) (found_in xs from)
       cuts-excess m = omega (arith, p.counted, hit)
 
+      pub cuts-stop :
+          (zs : List ℕ) (stop : Stop)
+          → Carrying (Images columns (count_of columns) (λ z. z ≡ cut)) (hits_over columns (count_of columns) (cut ∷ []))
+          ys set count most zs (Err stop)
+          → Carrying (Images columns (count_of columns) (Found xs from))
+          (hits_over columns (count_of columns) (found_in xs from)) xs to hits most zs (Err stop)
+      cuts-stop zs (Stop.Full t) c = cuts-full c
+      cuts-stop zs Stop.TooMany m = cuts-excess m
+
     pub cuts-end :
         end ≤ at
         → Carrying (Images columns (count_of columns) (Found xs from))
-        (hits_over columns (count_of columns) (found_in xs from)) xs to hits most ys (Worked.Held count set)
+        (hits_over columns (count_of columns) (found_in xs from)) xs to hits most ys (Ok (record { hits = count; to = set }))
     cuts-end past =
         let e : at ≡ from.used = omega (arith, p.until, p.ends) in
         let none : hits_over columns (count_of columns) (slice at from.used xs) ≡ 0 =

@@ -14,7 +14,8 @@ use Rattle.cut_set.specs.Store.{Good, Stored, Cramped}
 use Rattle.cut_set.specs.declared.CutSet.{CutSet}
 use Rattle.cut_set.proofs.Laws.{stored-none, stored_same, cramped-wide}
 use Rattle.carrying_match.specs.OneMatch.{Carrying}
-use Rattle.carrying_match.specs.declared.Worked.{Worked}
+use Rattle.std.specs.Prelude.{Ok, Err}
+use Rattle.carrying_match.specs.declared.Stop.{Stop}
 use Rattle.refining.specs.Columns.{Columns, from_at, from_right_at, to_at, to_right_at, way_at}
 use Rattle.carrying_cuts.specs.Worker.{Image}
 use Rattle.carrying_few.specs.Hit.{hit_on}
@@ -23,7 +24,7 @@ module _ (columns : Columns) (m cut : ℕ) where
   pub over-missed :
       {xs : List ℕ} {to : CutSet} (hits : ℕ) {most : ℕ} → Good xs to
       → between (from_at columns m) (from_right_at columns m) cut ≡ false → hits ≤ most
-      → Carrying (Image columns m cut) (hit_on columns cut m) xs to hits most xs (Worked.Held hits to)
+      → Carrying (Image columns m cut) (hit_on columns cut m) xs to hits most xs (Ok (record { hits = hits; to = to }))
   over-missed hits good e h = (
     stored-none good (λ y q. absurd (true≢false (sym q.spans ∙ e))),
     rw e (omega arith),
@@ -40,7 +41,7 @@ module _ (columns : Columns) (m cut : ℕ) where
         {image : ℕ} {xs ys : List ℕ} {to t : CutSet} (hits : ℕ) {most : ℕ}
         → image ≡ carry_to (way_at columns m) (from_at columns m) (to_at columns m) (to_right_at columns m) cut → hits < most
         → Stored (λ y. y ≡ image) xs to ys t
-        → Carrying (Image columns m cut) (hit_on columns cut m) xs to hits most ys (Worked.Held (hits + 1) t)
+        → Carrying (Image columns m cut) (hit_on columns cut m) xs to hits most ys (Ok (record { hits = hits + 1; to = t }))
     over-held hits f h p = (stored_same (the-image f) p, rw e (omega arith), omega arith)
 
     pub over-full :

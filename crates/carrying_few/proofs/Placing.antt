@@ -3,7 +3,7 @@
 --     PlacesPassed        the invariant: the cut is carried over the matches before place k
 --     places-start, places-step, places-end     where it begins, one match more, and the end; matches that do not span
 --                         the cut are passed over at each
---     place-full, place-excess    no room for the image under the match at place k, or for the hit
+--     place-stop          no room for the image under the match at place k, or for the hit
 -- Assumes nothing.
 use Prim.Native.Nat.{ℕ, zero, suc, ◌+◌, ◌≤◌, ◌<◌}
 use native.Mathlib.Omega.{arith}
@@ -23,7 +23,8 @@ use Rattle.arrangement.specs.Index.{sum_to, sum_at, Indexed}
 use Rattle.near_blocks.specs.Places.{PassedPlaces}
 use Rattle.near_blocks.proofs.Passing.{passed-away}
 use Rattle.carrying_match.specs.OneMatch.{Carrying}
-use Rattle.carrying_match.specs.declared.Worked.{Worked}
+use Rattle.std.specs.Prelude.{Ok, Err}
+use Rattle.carrying_match.specs.declared.Stop.{Stop}
 use Rattle.carrying_cuts.specs.Worker.{Image, Images, hits_over}
 use Rattle.carrying_few.specs.Hit.{hit_on}
 
@@ -159,7 +160,7 @@ module _ {columns : Columns} {order : List ℕ} (i : Indexed order columns.from_
     pub places-step :
         {zs : List ℕ} {t : CutSet} {c r : ℕ} → length zs ≡ length ys → k < length columns.from_lefts
         → Carrying (Image columns (get_or order k 0) cut) (hit_on columns cut (get_or order k 0)) ys set count most zs
-        (Worked.Held c t) → PassedPlaces order (length columns.from_lefts) cut (k + 1) r
+        (Ok (record { hits = c; to = t })) → PassedPlaces order (length columns.from_lefts) cut (k + 1) r
         → PlacesPassed columns order xs to cut hits most zs t c r
     places-step {zs} {t} {c} n h q past = places-over more past
       where
@@ -173,7 +174,7 @@ module _ {columns : Columns} {order : List ℕ} (i : Indexed order columns.from_
         }
 
     module _ (fit : Fit columns) where
-      pub place-full :
+      place-full :
           {zs : List ℕ} {t : CutSet} → k < length columns.from_lefts
           → Cramped (Image columns (get_or order k 0) cut) ys set zs t
           → Cramped (Images columns (count_of columns) (λ z. z ≡ cut)) xs to zs t
@@ -182,7 +183,7 @@ module _ {columns : Columns} {order : List ℕ} (i : Indexed order columns.from_
           (all fit i cut y).0 (record { place = b.place; below = omega (arith, b.below); image = b.image }))
           (cramped-then p.stored c)
 
-      pub place-excess :
+      place-excess :
           k < length columns.from_lefts → most < count + hit_on columns cut (get_or order k 0)
           → most < hits + hits_over columns (count_of columns) (cut ∷ [])
       place-excess h m =
@@ -190,10 +191,19 @@ module _ {columns : Columns} {order : List ℕ} (i : Indexed order columns.from_
           let rest = sum_more (hit_on columns cut) order (k + 1) n (omega arith) in
           omega (arith, p.counted, rest, one-sum columns order cut k, all-sum fit i cut)
 
+      pub place-stop :
+          (zs : List ℕ) (stop : Stop) → k < length columns.from_lefts
+          → Carrying (Image columns (get_or order k 0) cut) (hit_on columns cut (get_or order k 0)) ys set count most zs
+          (Err stop)
+          → Carrying (Images columns (count_of columns) (λ z. z ≡ cut)) (hits_over columns (count_of columns) (cut ∷ []))
+          xs to hits most zs (Err stop)
+      place-stop zs (Stop.Full t) h c = place-full h c
+      place-stop zs Stop.TooMany h m = place-excess h m
+
       pub places-end :
           length columns.from_lefts ≤ k
           → Carrying (Images columns (count_of columns) (λ z. z ≡ cut)) (hits_over columns (count_of columns) (cut ∷ []))
-          xs to hits most ys (Worked.Held count set)
+          xs to hits most ys (Ok (record { hits = count; to = set }))
       places-end h =
           let e : k ≡ length columns.from_lefts = omega (arith, p.until) in
           let counted = rw e at p.counted in

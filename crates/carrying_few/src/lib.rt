@@ -4,177 +4,122 @@
 
 ghost use Rattle.std.specs.Prelude.{[], ◌∷◌, ◌≡◌, ◌≤◌, ◌<◌, length};
 ghost use Rattle.cut_set.specs.Store.{Good, FoundRun, found_in};
-ghost use Rattle.refining.specs.Columns.{columns_of, Fit};
 ghost use Rattle.arrangement.specs.Index.{Indexed};
+ghost use Rattle.match_columns.specs.Held.{columns_in};
 ghost use Rattle.carrying_match.specs.OneMatch.{Ready, Carrying};
 ghost use Rattle.carrying_cuts.specs.Worker.{Image, Images, hits_over, Working};
 ghost use Rattle.carrying_few.specs.Hit.{hit_on};
 
-use carrying_match::Worked;
+use carrying_match::{Held, Stop};
 use cut_set::{Added, CutSet};
+use match_columns::MatchColumns;
 use near_blocks::next_place;
 
 // Carries a cut over match m, if that spans it.
 fn carry_over(
-    lefts: &[u32],
-    rights: &[u32],
-    other_lefts: &[u32],
-    other_rights: &[u32],
-    reversed: &[bool],
+    matches: &MatchColumns<'_>,
     m: usize,
     work: &mut [u32],
     to: CutSet,
     cut: u32,
     hits: usize,
     most: usize,
-) -> Worked
-    requires fit { Fit (columns_of lefts.now rights.now other_lefts.now other_rights.now reversed.now) }
-    requires m_in_bounds { m < length reversed.now }
+) -> Result<Held, Stop>
+    requires m_in_bounds { m < length matches.now.reversed.now }
     requires good { Good work.old to }
     requires hits_le_most { hits ≤ most }
-    ensures { Carrying
-        (Image
-        (columns_of lefts.now rights.now other_lefts.now
-        other_rights.now reversed.now)
-        m cut)
-        (hit_on
-        (columns_of lefts.now rights.now other_lefts.now
-        other_rights.now reversed.now)
-        cut m)
+    ensures { Carrying (Image (columns_in matches.now) m cut) (hit_on (columns_in matches.now) cut m)
         work.old to hits most work.new result }
 {
-    if !refinement::spans(lefts[m], rights[m], cut) {
-        return Worked::Held { hits: hits, to: to };
+    let left = matches.lefts[m];
+    if !refinement::spans(left, matches.rights[m], cut) {
+        return Ok(Held { hits, to });
     }
     if hits == most {
-        return Worked::TooMany;
+        return Err(Stop::TooMany);
     }
-    let image = refinement::carry(lefts[m], other_lefts[m], other_rights[m], reversed[m], cut);
+    let image = refinement::carry(
+        left,
+        matches.other_lefts[m],
+        matches.other_rights[m],
+        matches.reversed[m],
+        cut,
+    );
     match cut_set::add(work, to, image) {
-        Added::Held(s) => Worked::Held {
+        Added::Held(s) => Ok(Held {
             hits: hits + 1,
             to: s,
-        },
-        Added::Full(s) => Worked::Full { to: s },
+        }),
+        Added::Full(s) => Err(Stop::Full { to: s }),
     }
 }
 
 // Carries a cut over every match that spans it.
 fn carry_cut(
-    lefts: &[u32],
-    rights: &[u32],
-    other_lefts: &[u32],
-    other_rights: &[u32],
-    reversed: &[bool],
+    matches: &MatchColumns<'_>,
     index: &[u32],
     work: &mut [u32],
     to: CutSet,
     cut: u32,
     hits: usize,
     most: usize,
-) -> Worked
-    requires fit { Fit (columns_of lefts.now rights.now other_lefts.now other_rights.now reversed.now) }
-    requires indexed { Indexed index.now lefts.now rights.now }
+) -> Result<Held, Stop>
+    requires indexed { Indexed index.now matches.now.lefts.now matches.now.rights.now }
     requires good { Good work.old to }
     requires hits_le_most { hits ≤ most }
     ensures { Carrying
-        (Images
-        (columns_of lefts.now rights.now other_lefts.now
-        other_rights.now reversed.now)
-        (length reversed.now) (λ z. z ≡ cut))
-        (hits_over
-        (columns_of lefts.now rights.now other_lefts.now
-        other_rights.now reversed.now)
-        (length reversed.now) (cut ∷ []))
+        (Images (columns_in matches.now) (length matches.now.reversed.now) (λ z. z ≡ cut))
+        (hits_over (columns_in matches.now) (length matches.now.reversed.now) (cut ∷ []))
         work.old to hits most work.new result }
 {
-    let n = lefts.len();
-    let mut set = to;
-    let mut count = hits;
+    let n = matches.lefts.len();
+    let mut held = Held { hits, to };
     let mut k = next_place(index, n, 0, cut);
+    // Not a `for`: the search tells which place is next.
     while k < n {
-        match carry_over(
-            lefts,
-            rights,
-            other_lefts,
-            other_rights,
-            reversed,
+        held = carry_over(
+            matches,
             index[k] as usize,
             work,
-            set,
+            held.to,
             cut,
-            count,
+            held.hits,
             most,
-        ) {
-            Worked::Held { hits: h, to: t } => {
-                count = h;
-                set = t;
-            }
-            Worked::Full { to: t } => return Worked::Full { to: t },
-            Worked::TooMany => return Worked::TooMany,
-        }
+        )?;
         k = next_place(index, n, k + 1, cut);
     }
-    Worked::Held {
-        hits: count,
-        to: set,
-    }
+    Ok(held)
 }
 
 // Carries the newly found cuts, one rising run, over every match that spans them.
 pub fn carry_few(
-    lefts: &[u32],
-    rights: &[u32],
-    other_lefts: &[u32],
-    other_rights: &[u32],
-    reversed: &[bool],
+    matches: &MatchColumns<'_>,
     index: &[u32],
     work: &mut [u32],
     from: CutSet,
     to: CutSet,
     hits: usize,
     most: usize,
-) -> Worked
-    requires fit { Fit (columns_of lefts.now rights.now other_lefts.now other_rights.now reversed.now) }
-    requires indexed { Indexed index.now lefts.now rights.now }
+) -> Result<Held, Stop>
+    requires indexed { Indexed index.now matches.now.lefts.now matches.now.rights.now }
     requires ready { Ready work.old from to }
     requires found_run { FoundRun work.old from }
     requires hits_le_most { hits ≤ most }
-    ensures { Working
-        (columns_of lefts.now rights.now other_lefts.now
-        other_rights.now reversed.now)
-        (length reversed.now) work.old from to
+    ensures { Working (columns_in matches.now) (length matches.now.reversed.now) work.old from to
         (found_in work.old from) hits most work.new result }
 {
     let end = reading_cuts::found_end(from);
-    let mut set = to;
-    let mut count = hits;
-    let mut at = reading_cuts::found_start(from);
-    while at < end {
-        match carry_cut(
-            lefts,
-            rights,
-            other_lefts,
-            other_rights,
-            reversed,
+    let mut held = Held { hits, to };
+    for at in reading_cuts::found_start(from)..end {
+        held = carry_cut(
+            matches,
             index,
             work,
-            set,
+            held.to,
             reading_cuts::found_at(work, from, at),
-            count,
+            held.hits,
             most,
-        ) {
-            Worked::Held { hits: h, to: t } => {
-                count = h;
-                set = t;
-            }
-            Worked::Full { to: t } => return Worked::Full { to: t },
-            Worked::TooMany => return Worked::TooMany,
-        }
-        at += 1;
+        )?;
     }
-    Worked::Held {
-        hits: count,
-        to: set,
-    }
+    Ok(held)
 }

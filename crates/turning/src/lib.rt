@@ -3,7 +3,7 @@
 
 ghost use Rattle.std.specs.Prelude.{◌≡◌, true, ◌≤◌, length};
 ghost use Rattle.cut_set.specs.Store.{Good, NothingAdded, FoundRun, found_in};
-ghost use Rattle.refining.specs.Columns.{columns_of, Fit};
+ghost use Rattle.match_columns.specs.Held.{columns_in};
 ghost use Rattle.carrying_match.specs.OneMatch.{Ready};
 ghost use Rattle.carrying_cuts.specs.Worker.{EndsKnown, Working};
 ghost use Rattle.counting_hits.specs.Counting.{MoreHits};
@@ -11,9 +11,10 @@ ghost use Rattle.turning.specs.Turning.{Usable};
 
 use carrying_cuts::carry_found;
 use carrying_few::carry_few;
-use carrying_match::Worked;
+use carrying_match::{Held, Stop};
 use counting_hits::exceed;
 use cut_set::CutSet;
+use match_columns::MatchColumns;
 
 // So many matches to a newly found cut make it worthwhile to go cut by cut.
 const MATCHES_TO_A_CUT: usize = 4;
@@ -48,11 +49,7 @@ fn too_many(lefts: &[u32], rights: &[u32], work: &[u32], from: CutSet, room: usi
 
 // Carries the newly found cuts: cut by cut where there are few of them and there is an index, and else match by match.
 pub fn carry_new(
-    lefts: &[u32],
-    rights: &[u32],
-    other_lefts: &[u32],
-    other_rights: &[u32],
-    reversed: &[bool],
+    matches: &MatchColumns<'_>,
     index: &[u32],
     work: &mut [u32],
     from: CutSet,
@@ -60,52 +57,22 @@ pub fn carry_new(
     hits: usize,
     most: usize,
     ended: bool,
-) -> Worked
-    requires fit { Fit (columns_of lefts.now rights.now other_lefts.now other_rights.now reversed.now) }
-    requires usable { Usable index.now lefts.now rights.now }
+) -> Result<Held, Stop>
+    requires usable { Usable index.now matches.now.lefts.now matches.now.rights.now }
     requires ready { Ready work.old from to }
     requires nothing_added { NothingAdded from }
     requires hits_le_most { hits ≤ most }
-    requires ends_known { ended ≡ true
-        → EndsKnown (columns_of lefts.now rights.now other_lefts.now other_rights.now reversed.now) work.old
-        to }
-    ensures { Working
-        (columns_of lefts.now rights.now other_lefts.now
-        other_rights.now reversed.now)
-        (length reversed.now) work.old from to
+    requires ends_known { ended ≡ true → EndsKnown (columns_in matches.now) work.old to }
+    ensures { Working (columns_in matches.now) (length matches.now.reversed.now) work.old from to
         (found_in work.old from) hits most work.new result }
 {
     if 0 < index.len() {
-        if reading_cuts::count_found(from) <= reversed.len() / MATCHES_TO_A_CUT {
-            return carry_few(
-                lefts,
-                rights,
-                other_lefts,
-                other_rights,
-                reversed,
-                index,
-                work,
-                from,
-                to,
-                hits,
-                most,
-            );
+        if reading_cuts::count_found(from) <= matches.reversed.len() / MATCHES_TO_A_CUT {
+            return carry_few(matches, index, work, from, to, hits, most);
         }
     }
-    if too_many(lefts, rights, work, from, most - hits) {
-        return Worked::TooMany;
+    if too_many(matches.lefts, matches.rights, work, from, most - hits) {
+        return Err(Stop::TooMany);
     }
-    carry_found(
-        lefts,
-        rights,
-        other_lefts,
-        other_rights,
-        reversed,
-        work,
-        from,
-        to,
-        hits,
-        most,
-        ended,
-    )
+    carry_found(matches, work, from, to, hits, most, ended)
 }

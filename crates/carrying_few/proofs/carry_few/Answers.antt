@@ -1,19 +1,18 @@
 -- `carry_few` meets its contract. The loop keeps `CutsPassed`; its measure is what is left of the run. Assumes nothing.
-use Rattle.carrying_few.proofs.CutByCut.{cuts-step, cuts-full, cuts-excess, cuts-end}
+use borrow.Author.Rules.{rules}
+use Rattle.std.proofs.Common.{◌≡◌, Err}
+use Rattle.carrying_few.proofs.CutByCut.{cuts-step, cuts-stop, cuts-end}
 use Rattle.carrying_few.proofs.carry_few.Goals as goal
 
-pub returns-in-Full : goal.returns-in-Full
-returns-in-Full c =
-    cuts-full c.requires.ready c.loop-at.invariant c.loop-at-test.true c.found_at.ensures c.in-Full.ensures
-
-pub returns-in-TooMany : goal.returns-in-TooMany
-returns-in-TooMany c =
-    cuts-excess c.requires.ready c.loop-at.invariant c.loop-at-test.true c.found_at.ensures c.in-TooMany.ensures
+pub returns-in_err-held : goal.returns-in_err-held
+returns-in_err-held c =
+    let e : c.from_residual.result ≡ Err c.in_err-held.field-0.0 = search rules in
+    rw e (cuts-stop c.requires.ready c.loop-at.invariant c.loop-at-test.true c.found_at.ensures _ _ c.in_err-held.ensures)
 
 pub loop-at-preserved : goal.loop-at-preserved
 loop-at-preserved c =
     cuts-step c.requires.ready c.loop-at.invariant c.loop-at-test.true c.found_at.ensures c.carry_cut.auto.work
-    c.in-Held.ensures
+    c.in_ok-held.ensures
 
 pub returns : goal.returns
 returns c = cuts-end c.requires.ready c.loop-at.invariant c.loop-at-test.false

@@ -1,11 +1,11 @@
 -- `carry_over` meets its contract. Assumes nothing.
 use mathlib.Core.Path.{sym, ◌∙◌}
-use Rattle.refining.specs.Columns.{columns_of}
+use Rattle.match_columns.specs.Held.{columns_in}
 use Rattle.carrying_few.proofs.OneCut.{over-full}
 use Rattle.carrying_few.proofs.carry_over.Goals as goal
 
 pub returns-in-Full : goal.returns-in-Full
 returns-in-Full c =
     let a = c.args in
-    over-full (columns_of a.lefts.now a.rights.now a.other_lefts.now a.other_rights.now a.reversed.now) a.m a.cut
+    over-full (columns_in a.matches.now) a.m a.cut
     (sym c.spans.ensures.test ∙ c.if-not-spans.false) c.carry-image.ensures c.in-Full.ensures
