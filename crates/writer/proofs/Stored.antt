@@ -1,4 +1,5 @@
 -- What the writer's stores make of the buffer.
+--     copied-stored     bytes that are copied over a part of it
 --     code-reckoned     the command byte of a match, from its direction
 --     match-stored, mark-stored, lengths-stored     a command byte and the operands behind it are the command
 --     Putting           what the loops over the records and over the marks keep
@@ -10,16 +11,17 @@
 -- Assumes nothing.
 use Prim.Native.Nat.{ℕ, zero, suc, ◌+◌, ◌*◌, ◌/◌, ◌≤◌, ◌<◌}
 use mathlib.Core.Path.{◌≡◌, refl, sym, ap, ◌∙◌}
-use mathlib.Core.List.{List, [], ◌∷◌, ◌++◌, flat_map}
+use mathlib.Core.List.{List, [], ◌∷◌, ◌++◌, flat_map, append_assoc}
 use native.Mathlib.Omega.{arith}
 use borrow.Author.Tests.{lt-ltb, le-ltb}
 use lib.Dec.{eqb}
-use lib.ListN.{length, get_or, length-append, length-map, get_or-map}
+use lib.ListN.{length, get_or, take, length-append, length-map, get_or-map}
+use lib.Seq.{sets, sets-eq, length-sets, drop-drop}
+use borrow.Rule.Slice.PartMut.{put_mid}
+use Rattle.std.specs.Prelude.{Result, Ok, Err}
 use Rattle.script.specs.Commands.{lengths_width, match_width, mark_width}
 use Rattle.script.specs.declared.refusal.Refusal.{Refusal}
 use Rattle.script.specs.declared.refusal.Refusal.TheVariants.{BufferTooShort}
-use Rattle.script.specs.declared.step.Judgement.{Judgement}
-use Rattle.script.specs.declared.step.Judgement.TheVariants.{Sound, Faulty}
 use Rattle.records.specs.Records.{record_width, records_of, no_record, record_at, match_of, matches_of}
 use Rattle.records.specs.Records.{mark_numbers, points_of}
 use Rattle.records.specs.Bytes.{number_bytes, lengths_bytes, code_of, match_bytes, mark_bytes, bytes_of}
@@ -27,12 +29,19 @@ use Rattle.records.specs.Storing.{Stored}
 use Rattle.records.specs.Writing.{judgement_of, Writing, writing_of}
 use Rattle.records.specs.Demands.{written_answer, WritingDemand}
 use Rattle.records.specs.declared.Record.{Record}
-use Rattle.records.specs.declared.Written.{Written}
 use Rattle.writer.specs.Directed.{Directed, Sided}
 use Rattle.records.proofs.Scripts.{flat-length, bytes-length}
 use Rattle.records.proofs.Lists.{records-length, points-length, point-held, point-inside}
 use Rattle.records.proofs.Laying.{stored-behind, stored-front, Laid, laid-start, laid_next, laid-ends}
 use Rattle.records.proofs.Demands.{writing-demand}
+
+-- what is copied over a part of the buffer is stored there
+pub copied-stored : (out : List ℕ) (at : ℕ) {k : ℕ} {ys vs : List ℕ} → at + length vs ≤ length out → k ≡ length vs
+    → ys ≡ vs → Stored out at vs (put_mid at k out ys)
+copied-stored out at {k} {ys} {vs} room wide is =
+    let stored : put_mid at k out ys ≡ sets out at vs =
+    rw (is, wide, sets-eq vs out at room, drop-drop (length vs) at out) (sym (append_assoc (take at out) vs _)) in
+    record { is = stored; as_long = ap length stored ∙ length-sets out at vs }
 
 -- 0x44 and 0x52 are 14 apart
 pub code-reckoned : (direction : ℕ) → direction ≤ 1 → 0x44 + 14 * direction ≡ code_of (eqb direction 1)
@@ -122,23 +131,23 @@ script-stored p q ns zs counted counted_marks lengths ms ks end =
 
 module _ (p q : ℕ) (ns zs out : List ℕ) where
   -- what the contract says of a reply and a buffer
-  abbrev Contract : Written → List ℕ → Type 0
+  abbrev Contract : Result ℕ Refusal → List ℕ → Type 0
   Contract reply out' =
       (reply ≡ (writing_of p q ns zs out).reply)
       × ((out' ≡ (writing_of p q ns zs out).script) × WritingDemand p q ns zs out out' (written_answer reply))
 
-  contract : {reply : Written} {out' : List ℕ} → record { reply = reply; script = out' } ≡ writing_of p q ns zs out
+  contract : {reply : Result ℕ Refusal} {out' : List ℕ} → record { reply = reply; script = out' } ≡ writing_of p q ns zs out
       → Contract reply out'
   contract e =
       let is = ap (λ (w : Writing). w.reply) e in
       let is' = ap (λ (w : Writing). w.script) e in
       (is, (is', writing-demand p q ns zs out is is'))
 
-  module _ {j : Judgement} (judged : j ≡ judgement_of p q ns zs) where
-    pub faulty-written : {f : Refusal} → j ≡ Faulty f → Contract (Written.Refused f) out
+  module _ {j : Result (Unit {0}) Refusal} (judged : j ≡ judgement_of p q ns zs) where
+    pub faulty-written : {f : Refusal} → j ≡ Err f → Contract (Err f) out
     faulty-written is = contract (rw (sym judged ∙ is))
 
-    module _ (is : j ≡ Sound) {count marked : ℕ} (counted : count ≡ length ns / record_width)
+    module _ {u : Unit {0}} (is : j ≡ Ok u) {count marked : ℕ} (counted : count ≡ length ns / record_width)
         (counted_marks : marked ≡ length zs / mark_numbers) where
       script-long : length (bytes_of p q (matches_of ns) (points_of zs))
           ≡ lengths_width + match_width * count + mark_width * marked + 1
@@ -152,7 +161,7 @@ module _ (p q : ℕ) (ns zs out : List ℕ) where
           )
 
       pub short-written : length out < lengths_width + match_width * count + mark_width * marked + 1
-          → Contract (Written.Refused BufferTooShort) out
+          → Contract (Err BufferTooShort) out
       short-written short =
           contract (rw (
             sym judged ∙ is,
@@ -161,7 +170,7 @@ module _ (p q : ℕ) (ns zs out : List ℕ) where
 
       pub whole-written : {out' : List ℕ} → lengths_width + match_width * count + mark_width * marked + 1 ≤ length out
           → Stored out 0 (bytes_of p q (matches_of ns) (points_of zs)) out'
-          → Contract (Written.Bytes (lengths_width + match_width * count + mark_width * marked + 1)) out'
+          → Contract (Ok (lengths_width + match_width * count + mark_width * marked + 1)) out'
       whole-written room stored =
           contract (rw (
             sym judged ∙ is,

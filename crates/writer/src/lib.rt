@@ -12,10 +12,9 @@ ghost use Rattle.records.specs.Demands.{written_answer, WritingDemand};
 ghost use Rattle.writer.specs.Directed.{Directed, Sided};
 
 use judging_records::{judge_records, record_at};
-use records::{MARK_NUMBERS, RECORD_WIDTH, Record, Written};
+use records::{MARK_NUMBERS, RECORD_WIDTH, Record};
 use script::Refusal;
 use script::command::{LENGTHS_WIDTH, MARK_WIDTH, MATCH_WIDTH};
-use script::step::Judgement;
 
 fn put_byte(out: &mut [u8], at: usize, byte: u8)
     requires { at < length out.old }
@@ -29,10 +28,7 @@ fn put_number(out: &mut [u8], at: usize, number: u32)
     requires { at + 4 ≤ length out.old }
     ensures { Stored out.old at (number_bytes number) out.new }
 {
-    out[at] = (number % 256) as u8;
-    out[at + 1] = (number / 256 % 256) as u8;
-    out[at + 2] = (number / 65_536 % 256) as u8;
-    out[at + 3] = (number / 16_777_216 % 256) as u8;
+    out[at..at + 4].copy_from_slice(&number.to_le_bytes());
 }
 
 // Puts the lengths command.
@@ -73,10 +69,8 @@ fn put_matches(out: &mut [u8], records: &[u32], count: usize)
     ensures { Stored out.old lengths_width (flat_map match_bytes (matches_of records.now))
         out.new }
 {
-    let mut k = 0;
-    while k < count {
+    for k in 0..count {
         put_match(out, LENGTHS_WIDTH + MATCH_WIDTH * k, record_at(records, k));
-        k += 1;
     }
 }
 
@@ -97,11 +91,9 @@ fn put_marks(out: &mut [u8], from: usize, marks: &[u32], count: usize)
     requires sided { Sided marks.now }
     ensures { Stored out.old from (flat_map mark_bytes (points_of marks.now)) out.new }
 {
-    let mut k = 0;
-    while k < count {
+    for k in 0..count {
         let at = MARK_NUMBERS * k;
         put_mark(out, from + MARK_WIDTH * k, marks[at], marks[at + 1]);
-        k += 1;
     }
 }
 
@@ -133,23 +125,25 @@ fn put_script(
 
 // Writes the script of p, q, the records, four numbers each, and the marks, two each, to the start of the lent buffer.
 // All are judged before a byte is written, so that a refusal leaves the buffer as it was.
-pub fn write(p: u32, q: u32, records: &[u32], marks: &[u32], out: &mut [u8]) -> Written
+pub fn write(
+    p: u32,
+    q: u32,
+    records: &[u32],
+    marks: &[u32],
+    out: &mut [u8],
+) -> Result<usize, Refusal>
     ensures reply { result ≡ (writing_of p q records.now marks.now out.old).reply }
     ensures script { out.new ≡ (writing_of p q records.now marks.now out.old).script }
     ensures demand { WritingDemand p q records.now marks.now out.old out.new
         (written_answer result) }
 {
-    match judge_records(p, q, records, marks) {
-        Judgement::Faulty(refusal) => Written::Refused(refusal),
-        Judgement::Sound => {
-            let count = records.len() / RECORD_WIDTH;
-            let marked = marks.len() / MARK_NUMBERS;
-            let length = LENGTHS_WIDTH + MATCH_WIDTH * count + MARK_WIDTH * marked + 1;
-            if out.len() < length {
-                return Written::Refused(Refusal::BufferTooShort);
-            }
-            put_script(out, p, q, records, count, marks, marked);
-            Written::Bytes(length)
-        }
+    judge_records(p, q, records, marks)?;
+    let count = records.len() / RECORD_WIDTH;
+    let marked = marks.len() / MARK_NUMBERS;
+    let length = LENGTHS_WIDTH + MATCH_WIDTH * count + MARK_WIDTH * marked + 1;
+    if out.len() < length {
+        return Err(Refusal::BufferTooShort);
     }
+    put_script(out, p, q, records, count, marks, marked);
+    Ok(length)
 }

@@ -1,5 +1,5 @@
--- `put_marks` meets its contract. The loop keeps `Putting`: the commands stored, and those still to come, make the
--- buffer that is wanted. The measure is what is left of the marks. Assumes nothing.
+-- `put_marks` meets its contract: the commands stored, and those still to come, make the buffer that is wanted.
+-- Assumes nothing.
 use mathlib.Core.Path.{refl, sym}
 use native.Mathlib.Omega.{arith}
 use borrow.Author.Rules.{rules}

@@ -1,6 +1,4 @@
--- `put_marks` meets its contract. The loop keeps `Putting`: the commands stored, and those still to come, make the
--- buffer that is wanted. The measure is what is left of the marks. Assumes nothing.
-use Prim.Native.Nat.{◌-◌}
+-- The commands stored, and those still to come, make the buffer that is wanted. Assumes nothing.
 use Rattle.script.specs.Commands.{mark_width}
 use Rattle.records.specs.Records.{points_of}
 use Rattle.records.specs.Bytes.{mark_bytes}
@@ -9,6 +7,3 @@ use Rattle.writer.proofs.put_marks.Given as goal
 
 abbrev pub invariant-loop-k : goal.invariant-loop-k
 invariant-loop-k l = Putting mark_bytes mark_width l.from (points_of l.marks) l.initial.out l.out l.k
-
-abbrev pub decreases-loop-k : goal.decreases-loop-k
-decreases-loop-k l = l.count - l.k

@@ -1,5 +1,5 @@
--- `put_matches` meets its contract. The loop keeps `Putting`: the commands stored, and those still to come, make the
--- buffer that is wanted. The measure is what is left of the records. Assumes nothing.
+-- `put_matches` meets its contract: the commands stored, and those still to come, make the buffer that is wanted.
+-- Assumes nothing.
 use mathlib.Core.Path.{refl}
 use native.Mathlib.Omega.{arith}
 use borrow.Author.Rules.{rules}

@@ -1,6 +1,4 @@
--- `put_matches` meets its contract. The loop keeps `Putting`: the commands stored, and those still to come, make the
--- buffer that is wanted. The measure is what is left of the records. Assumes nothing.
-use Prim.Native.Nat.{◌-◌}
+-- The commands stored, and those still to come, make the buffer that is wanted. Assumes nothing.
 use Rattle.script.specs.Commands.{lengths_width, match_width}
 use Rattle.records.specs.Records.{matches_of}
 use Rattle.records.specs.Bytes.{match_bytes}
@@ -9,6 +7,3 @@ use Rattle.writer.proofs.put_matches.Given as goal
 
 abbrev pub invariant-loop-k : goal.invariant-loop-k
 invariant-loop-k l = Putting match_bytes match_width lengths_width (matches_of l.records) l.initial.out l.out l.k
-
-abbrev pub decreases-loop-k : goal.decreases-loop-k
-decreases-loop-k l = l.count - l.k
