@@ -4,8 +4,6 @@
 --     Listing           what the walk keeps
 --     listing_start, listing-taken, listing-kept, listing-ends     at the start, a match or a mark later, at the end
 --     record-room, mark-room     where the next one is put, there is room for it
---     listing-refused   a script that was admitted is not refused on the second walk
---     lists-room        what the verdict counts is what is read
 --     unread-listed, short-listed, whole-listed     the contract of the call, by its answer
 -- Assumes nothing.
 use Prim.Native.Nat.{ℕ, zero, suc, ◌+◌, ◌*◌, ◌≤◌, ◌<◌}
@@ -16,6 +14,7 @@ use mathlib.Core.List.{List, [], ◌∷◌, ◌++◌, flat_map}
 use native.Mathlib.Omega.{arith}
 use borrow.Author.Tests.{lt-ltb, le-ltb}
 use lib.ListN.{length, drop, set, length-append}
+use Rattle.std.specs.Prelude.{Result, Ok, Err}
 use Rattle.script.specs.Commands.{lengths_width, match_width, mark_width, command_of, bit_of}
 use Rattle.script.specs.Steps.{step_of}
 use Rattle.script.specs.Reading.{admitted, after_step, read_from, read_script, verdict_of}
@@ -25,12 +24,12 @@ use Rattle.script.specs.declared.refusal.Refusal.TheVariants.{BufferTooShort}
 use Rattle.script.specs.declared.command.Match.{Match}
 use Rattle.script.specs.declared.command.Mark.{Mark}
 use Rattle.script.specs.declared.step.Step.{Step}
-use Rattle.script.specs.declared.Verdict.{Verdict}
+use Rattle.script.specs.declared.Admitted.{Admitted}
 use Rattle.script.proofs.Outcome.{reach-read}
 use Rattle.script.proofs.Holding.{holds-admitted, reading-refused}
 use Rattle.reader.specs.Walking.{Admits, next_of}
 use Rattle.reader.proofs.Progress.{Progress, progress_start, step-finished, step-taken, step_kept}
-use Rattle.reader.proofs.Walks.{admits-reach, never-refused, next-is}
+use Rattle.reader.proofs.Walks.{admits-reach, next-is}
 use Rattle.records.specs.Records.{record_width, numbers_of, list_of, mark_numbers, point_numbers, point_list}
 use Rattle.records.specs.Storing.{Stored}
 use Rattle.records.specs.Listing.{Listing as Outcome, listing_of}
@@ -61,26 +60,26 @@ reads_more (suc n) p q at ms ks s {ls} {all} {points} e =
     go : ((at' : ℕ) (ms' : List Match) (ks' : List Mark) (s' : List ℕ)
         → read_from n p q at' ms' ks' s' ≡ admitted ls all points
         → (length ms' ≤ length all) × (length ks' ≤ length points))
-        → (t : Step)
+        → (t : Result Step Refusal)
         → after_step p q ms ks t (λ width ms' ks'. read_from n p q (at + width) ms' ks' (drop width s))
         ≡ admitted ls all points
         → (length ms ≤ length all) × (length ks ≤ length points)
-    go more (Step.Refuse r) e = let z : ◌≡◌ {A = ℕ} 0 1 = cc in absurd (omega arith)
-    go more Step.Finish e =
+    go more (Err r) e = let z : ◌≡◌ {A = ℕ} 0 1 = cc in absurd (omega arith)
+    go more (Ok Step.Finish) e =
         let same : ms ≡ all = cc in
         let same-marks : ks ≡ points = cc in
         omega (arith, ap length same, ap length same-marks)
-    go more (Step.Take m) e =
+    go more (Ok (Step.Take m)) e =
         omega (
           arith,
           more (at + match_width) (ms ++ m ∷ []) ks (drop match_width s) e,
           length-append ms (m ∷ []),
         )
-    go more (Step.Keep k) e =
+    go more (Ok (Step.Keep k)) e =
         omega (arith, more (at + mark_width) ms (ks ++ k ∷ []) (drop mark_width s) e, length-append ks (k ∷ []))
 
 pub progress-few : {s : List ℕ} {count marked at : ℕ} (admits : Admits s)
-    → Progress s admits.p admits.q count marked at
+    → Progress s admits.admitted.p admits.admitted.q count marked at
     → (count ≤ length (matches_read (read_script s))) × (marked ≤ length (marks_read (read_script s)))
 progress-few {s} {at = at} admits progress =
     let read = (holds-admitted s admits.told refl).read in
@@ -88,7 +87,7 @@ progress-few {s} {at = at} admits progress =
     let k = progress.counted_marks in
     rw read (omega (
       arith,
-      reads_more _ admits.p admits.q at progress.matches progress.points _
+      reads_more _ admits.admitted.p admits.admitted.q at progress.matches progress.points _
           (sym (reach-read progress.reach) ∙ read),
     ))
 
@@ -96,7 +95,7 @@ progress-few {s} {at = at} admits progress =
 
 pub record Listing (s before before-marks out points : List ℕ) (count marked at : ℕ) : Type 0 where
   pub admits : Admits s
-  pub progress : Progress s admits.p admits.q count marked at
+  pub progress : Progress s admits.admitted.p admits.admitted.q count marked at
   pub stored : Stored before 0 (list_of progress.matches) out
   pub stored_marks : Stored before-marks 0 (point_list progress.points) points
 
@@ -115,19 +114,19 @@ module _ {s before before-marks : List ℕ} where
       (h : Listing s before before-marks out points count marked at) {t : Step}
       (en : t ≡ next_of s at) where
     -- the byte tells the step
-    et : t ≡ step_of h.admits.p h.admits.q count marked at (command_of (drop at s))
+    et : Ok t ≡ step_of h.admits.admitted.p h.admits.admitted.q count marked at (command_of (drop at s))
     et = next-is h.admits h.progress en
 
     pub record-room : {m : Match} → t ≡ Step.Take m
         → record_width * length (matches_read (read_script s)) ≤ length before
         → record_width * count + record_width ≤ length out
     record-room e room =
-        omega (arith, (progress-few h.admits (step-taken h.progress et e)).0, h.stored.as_long)
+        omega (arith, (progress-few h.admits (step-taken h.progress et (ap Ok e))).0, h.stored.as_long)
 
     pub mark-room : {k : Mark} → t ≡ Step.Keep k → mark_numbers * length (marks_read (read_script s)) ≤ length before-marks
         → mark_numbers * marked + mark_numbers ≤ length points
     mark-room e room =
-        omega (arith, (progress-few h.admits (step_kept h.progress et e)).1, h.stored_marks.as_long)
+        omega (arith, (progress-few h.admits (step_kept h.progress et (ap Ok e))).1, h.stored_marks.as_long)
 
     pub listing-taken : {m : Match} {out' : List ℕ} → t ≡ Step.Take m
         → Stored out (record_width * count) (numbers_of m) out'
@@ -138,7 +137,7 @@ module _ {s before before-marks : List ℕ} where
         let n = h.progress.counted in
         record {
           admits = h.admits;
-          progress = step-taken h.progress et e;
+          progress = step-taken h.progress et (ap Ok e);
           stored = rw (flat-snoc numbers_of ms m) (stored-behind h.stored (omega (arith, list_length ms)) put);
           stored_marks = h.stored_marks;
         }
@@ -152,7 +151,7 @@ module _ {s before before-marks : List ℕ} where
         let n = h.progress.counted_marks in
         record {
           admits = h.admits;
-          progress = step_kept h.progress et e;
+          progress = step_kept h.progress et (ap Ok e);
           stored = h.stored;
           stored_marks =
               rw (flat-snoc point_numbers ks k)
@@ -162,23 +161,20 @@ module _ {s before before-marks : List ℕ} where
     pub listing-ends : t ≡ Step.Finish
         → Stored before 0 (list_of (matches_read (read_script s))) out
         × Stored before-marks 0 (point_list (marks_read (read_script s))) points
-    listing-ends e = rw (step-finished h.progress et e) (h.stored, h.stored_marks)
-
-    pub listing-refused : {f : Refusal} → t ≡ Step.Refuse f → ⊥
-    listing-refused {f} e = never-refused h.admits h.progress f (sym et ∙ e)
+    listing-ends e = rw (step-finished h.progress et (ap Ok e)) (h.stored, h.stored_marks)
 
 -- ---- the call
 
 module _ (s : List ℕ) (bytes : Bytes s) (out points : List ℕ) where
   -- what the contract says of a reply and the buffers
-  abbrev Contract : Listed → List ℕ → List ℕ → Type 0
+  abbrev Contract : Result Listed Refusal → List ℕ → List ℕ → Type 0
   Contract reply out' points' =
       (reply ≡ (listing_of s out points).reply)
       × ((out' ≡ (listing_of s out points).records)
       × ((points' ≡ (listing_of s out points).marks)
       × ListingDemand s out points out' points' (listed_answer reply)))
 
-  contract : {reply : Listed} {out' points' : List ℕ}
+  contract : {reply : Result Listed Refusal} {out' points' : List ℕ}
       → record { reply = reply; records = out'; marks = points' } ≡ listing_of s out points
       → Contract reply out' points'
   contract e =
@@ -190,7 +186,7 @@ module _ (s : List ℕ) (bytes : Bytes s) (out points : List ℕ) where
   admitted-listed : {p q : ℕ} {ms : List Match} {ks : List Mark} {out' points' : List ℕ}
       → read_script s ≡ admitted (p ∷ q ∷ []) ms ks → record_width * length ms ≤ length out
       → mark_numbers * length ks ≤ length points → Stored out 0 (list_of ms) out'
-      → Stored points 0 (point_list ks) points' → Contract (Listed.Records p q (length ms) (length ks)) out' points'
+      → Stored points 0 (point_list ks) points' → Contract (Ok (record { p = p; q = q; count = length ms; marks = length ks })) out' points'
   admitted-listed {ms = ms} {ks = ks} e room room-marks stored stored_marks =
       let long = list_length ms in
       let long-marks = point-list-length ks in
@@ -204,39 +200,29 @@ module _ (s : List ℕ) (bytes : Bytes s) (out points : List ℕ) where
         stored-front stored_marks (omega arith),
       ))
 
-  module _ {told : Verdict} (reads : told ≡ verdict_of (read_script s)) where
-    pub unread-listed : {f : Refusal} → told ≡ Verdict.Refused f → Contract (Listed.Refused f) out points
+  module _ {told : Result Admitted Refusal} (reads : told ≡ verdict_of (read_script s)) where
+    pub unread-listed : {f : Refusal} → told ≡ Err f → Contract (Err f) out points
     unread-listed v = contract (rw (reading-refused s reads v))
 
-    module _ {p q count marked : ℕ} (v : told ≡ Verdict.Admitted p q count marked) where
-      pub lists-room : record_width * count ≤ length out → mark_numbers * marked ≤ length points
-          → Admits s
-          × ((record_width * length (matches_read (read_script s)) ≤ length out)
-          × (mark_numbers * length (marks_read (read_script s)) ≤ length points))
-      lists-room room room-marks =
-          let held = holds-admitted s reads v in
-          let n = held.counted in
-          let k = held.counted_marks in
-          (record { p = p; q = q; count = count; marks = marked; told = sym v ∙ reads }, rw held.read (omega arith))
-
-      pub short-listed : (length out < record_width * count) ⊎ (length points < mark_numbers * marked)
-          → Contract (Listed.Refused BufferTooShort) out points
+    module _ {a : Admitted} (v : told ≡ Ok a) where
+      pub short-listed : (length out < record_width * a.count) ⊎ (length points < mark_numbers * a.marks)
+          → Contract (Err BufferTooShort) out points
       short-listed (inl short) =
           let held = holds-admitted s reads v in
-          contract (rw (held.read, held.counted, lt-ltb (length out) (record_width * count) short))
+          contract (rw (held.read, held.counted, lt-ltb (length out) (record_width * a.count) short))
       short-listed (inr short) =
           let held = holds-admitted s reads v in
           contract (rw (
             held.read,
             held.counted_marks,
-            lt-ltb (length points) (mark_numbers * marked) short,
+            lt-ltb (length points) (mark_numbers * a.marks) short,
             or-true,
           ))
 
-      pub whole-listed : {out' points' : List ℕ} → record_width * count ≤ length out
-          → mark_numbers * marked ≤ length points → Stored out 0 (list_of (matches_read (read_script s))) out'
+      pub whole-listed : {out' points' : List ℕ} → record_width * a.count ≤ length out
+          → mark_numbers * a.marks ≤ length points → Stored out 0 (list_of (matches_read (read_script s))) out'
           → Stored points 0 (point_list (marks_read (read_script s))) points'
-          → Contract (Listed.Records p q count marked) out' points'
+          → Contract (Ok (record { p = a.p; q = a.q; count = a.count; marks = a.marks })) out' points'
       whole-listed room room-marks stored stored_marks =
           let held = holds-admitted s reads v in
           let n = held.counted in

@@ -17,7 +17,7 @@ use reader::walk::next_at;
 use records::{Listed, MARK_NUMBERS, RECORD_WIDTH};
 use script::command::{LENGTHS_WIDTH, MARK_WIDTH, MATCH_WIDTH};
 use script::step::Step;
-use script::{Mark, Match, Refusal, Verdict};
+use script::{Admitted, Mark, Match, Refusal};
 
 // Puts the record of a match behind k others.
 fn put_record(out: &mut [u32], k: usize, found: Match)
@@ -49,12 +49,12 @@ fn put_lists(script: &[u8], out: &mut [u32], marks: &mut [u32])
     ensures records { Stored out.old 0 (list_of (matches_read (read_script script.now))) out.new }
     ensures marks { Stored marks.old 0 (point_list (marks_read (read_script script.now))) marks.new }
 {
-    let mut count: usize = 0;
-    let mut marked: usize = 0;
-    let mut at: usize = LENGTHS_WIDTH;
+    let mut count = 0;
+    let mut marked = 0;
+    let mut at = LENGTHS_WIDTH;
+    // Not a `for`: each command tells where the next one stands.
     loop {
         match next_at(script, at) {
-            Step::Refuse(_) => return,
             Step::Finish => return,
             Step::Take(found) => {
                 put_record(out, count, found);
@@ -72,34 +72,27 @@ fn put_lists(script: &[u8], out: &mut [u32], marks: &mut [u32])
 
 // Reads a script, and the records and the marks of an admitted one to the start of the lent buffers. All commands are
 // judged before a number is written, so that a refusal leaves the buffers as they were.
-pub fn read_records(script: &[u8], out: &mut [u32], marks: &mut [u32]) -> Listed
+pub fn read_records(script: &[u8], out: &mut [u32], marks: &mut [u32]) -> Result<Listed, Refusal>
     ensures reply { result ≡ (listing_of script.now out.old marks.old).reply }
     ensures records { out.new ≡ (listing_of script.now out.old marks.old).records }
     ensures marks { marks.new ≡ (listing_of script.now out.old marks.old).marks }
     ensures demand { ListingDemand script.now out.old marks.old out.new
         marks.new (listed_answer result) }
 {
-    match read(script) {
-        Verdict::Refused(refusal) => Listed::Refused(refusal),
-        Verdict::Admitted {
-            p,
-            q,
-            count,
-            marks: marked,
-        } => {
-            if out.len() < RECORD_WIDTH * count {
-                return Listed::Refused(Refusal::BufferTooShort);
-            }
-            if marks.len() < MARK_NUMBERS * marked {
-                return Listed::Refused(Refusal::BufferTooShort);
-            }
-            put_lists(script, out, marks);
-            Listed::Records {
-                p,
-                q,
-                count,
-                marks: marked,
-            }
-        }
+    let Admitted {
+        p,
+        q,
+        count,
+        marks: marked,
+    } = read(script)?;
+    if out.len() < RECORD_WIDTH * count || marks.len() < MARK_NUMBERS * marked {
+        return Err(Refusal::BufferTooShort);
     }
+    put_lists(script, out, marks);
+    Ok(Listed {
+        p,
+        q,
+        count,
+        marks: marked,
+    })
 }
