@@ -1,13 +1,10 @@
 -- What a pass over the rows keeps, that gathers the numbers of the rows of a span, or of every step-th of them.
 --     gathered-starts                    before any pass
 --     Filling                            between two rows: rows of the span are gathered, if the step is one all so far
---     filling-starts                     before the first row
 --     filling-other, filling-one         after a row outside the span, and after one of it
---     filling-rooms, filling-numbers     what making room asks for
 --     filling-roomier                    after room was made
---     filling-all                        behind the last row
 -- Assumes nothing.
-use Prim.Native.Nat.{ℕ, ◌+◌, ◌≤◌, ◌<◌, zero-le}
+use Prim.Native.Nat.{ℕ, ◌+◌, ◌<◌, zero-le}
 use mathlib.Core.Bool.{true, false}
 use mathlib.Core.Logic.{⊎_elim}
 use mathlib.Core.Path.{◌≡◌, refl, sym, ◌∙◌}
@@ -15,16 +12,15 @@ use mathlib.Core.List.{List}
 use native.Mathlib.Omega.{arith}
 use native.Mathlib.Decide.{ℕ_discrete}
 use lib.ListN.{length, get_or, set, length-set}
-use lib.Seq.{get_or-set_same, get_or-set_other, take_all, take-length}
+use lib.Seq.{get_or-set_same, get_or-set_other}
 use Rattle.rows.specs.Rows.{row_at}
 use Rattle.table.specs.Distinct.{same, occurs}
-use Rattle.sorted_pieces.specs.Order.{piece_at, Numbers, Among}
-use Rattle.piece_windows.specs.Windows.{in_span, Rooms, Gathered, Roomier, Stepped}
+use Rattle.sorted_pieces.specs.Order.{piece_at, Among}
+use Rattle.piece_windows.specs.Windows.{in_span, Gathered, Roomier}
 use Rattle.rows.specs.declared.Row.{Row}
 use Rattle.piece_windows.specs.declared.Span.{Span}
 use Rattle.piece_windows.specs.declared.Window.{Window}
 use Rattle.table.proofs.Pieces.{never_both, same-itself, same-trans, occurs-passed}
-use Rattle.piece_windows.proofs.Parts.{rooms-kept}
 use Rattle.piece_windows.proofs.Spans.{in-span-same}
 
 -- ---- what is gathered, row by row
@@ -116,29 +112,8 @@ pub record Filling (rs : List Row) (from : Row) (step : ℕ) (ns₀ spare₀ ns 
   pub gathered : Gathered rs 0 ns used span
   pub all : step ≡ 1 → Gathered rs k ns used span
 
-pub filling-starts : {rs : List Row} {ns : List ℕ} {used : ℕ} {span : Span} (step : ℕ) (spare : List ℕ)
-    → Gathered rs 0 ns used span → Filling rs span.from step ns spare ns spare used span 0
-filling-starts step spare g =
-    record { room = refl; spare_room = refl; start = refl; gathered = g; all = λ e. g }
-
 module _ {rs : List Row} {from : Row} {step : ℕ} {ns₀ spare₀ ns spare : List ℕ} {used : ℕ} {span : Span} {k : ℕ}
     (f : Filling rs from step ns₀ spare₀ ns spare used span k) where
-  pub filling-all : length rs ≤ k → Stepped rs from step ns (record { used = used; span = span })
-  filling-all ended =
-      record {
-        start = f.start;
-        gathered = f.gathered;
-        all = λ e.
-            let g = f.all e in
-            record {
-              within = g.within;
-              named = g.named;
-              inside = g.inside;
-              complete = λ r i o. g.complete r i (rw (take_all k rs ended ∙ sym (take-length rs)) o);
-              spanned = g.spanned;
-            };
-      }
-
   module _ (inside : k < length rs) where
     pub filling-other : in_span span (row_at rs k) ≡ false
         → Filling rs from step ns₀ spare₀ ns spare used span (k + step)
@@ -165,9 +140,6 @@ module _ {rs : List Row} {from : Row} {step : ℕ} {ns₀ spare₀ ns spare : Li
         }
 
   module _ (full : used ≡ length ns) where
-    pub filling-numbers : Numbers rs ns
-    filling-numbers = record { inside = λ i l. f.gathered.named i (omega arith) }
-
     pub filling-roomier : {at : ℕ} {ns' spare' : List ℕ} {w : Window} → Roomier rs ns span at ns' w
         → length ns' ≡ length ns → length spare' ≡ length spare
         → Filling rs from step ns₀ spare₀ ns' spare' w.used w.span k
@@ -179,6 +151,3 @@ module _ {rs : List Row} {from : Row} {step : ℕ} {ns₀ spare₀ ns spare : Li
           gathered = roomier.gathered 0 (rw full at f.gathered);
           all = λ e. roomier.gathered k (rw full at (f.all e));
         }
-
-  pub filling-rooms : Rooms ns₀ spare₀ → Rooms ns spare
-  filling-rooms rooms = rooms-kept rooms f.room f.spare_room

@@ -1,24 +1,19 @@
 -- The numbers that are gathered, as a part of all there is room for.
---     rooms-kept                    room stays, whatever is written
 --     among-taken, taken-among      a row is in the part where it is in the whole up to there
 --     taken-length, taken-named     the part has so many numbers, and each names a row
---     cut-front, cut-rooms          once the part's span is cut, what is left stands at the front of the whole
+--     cut-front                     once the part's span is cut, what is left stands at the front of the whole
 -- Assumes nothing.
 use Prim.Native.Nat.{ℕ, ◌≤◌, ◌<◌}
-use mathlib.Core.Path.{◌≡◌, ◌∙◌}
+use mathlib.Core.Path.{◌≡◌}
 use mathlib.Core.List.{List, ◌++◌}
 use native.Mathlib.Omega.{arith}
 use lib.ListN.{length, get_or, take, drop, length-append, get_or-append}
-use lib.Seq.{length-take-le, length_front, get_or-take}
+use lib.Seq.{length-take-le, get_or-take}
 use Rattle.sorted_pieces.specs.Order.{Numbers, Among}
-use Rattle.piece_windows.specs.Windows.{Rooms, Gathered, Roomier}
+use Rattle.piece_windows.specs.Windows.{Gathered, Roomier}
 use Rattle.rows.specs.declared.Row.{Row}
 use Rattle.piece_windows.specs.declared.Span.{Span}
 use Rattle.piece_windows.specs.declared.Window.{Window}
-
-pub rooms-kept : {ns₀ spare₀ ns spare : List ℕ} → Rooms ns₀ spare₀ → length ns ≡ length ns₀
-    → length spare ≡ length spare₀ → Rooms ns spare
-rooms-kept rooms one other = record { some = omega (arith, rooms.some); room = omega (arith, rooms.room) }
 
 module _ (rs : List Row) (ns : List ℕ) (used : ℕ) (within : used ≤ length ns) where
   pub among-taken : (r : Row) → Among rs ns used r → Among rs (take used ns) (length (take used ns)) r
@@ -80,8 +75,3 @@ module _ {rs : List Row} {k : ℕ} {ns part : List ℕ} {used at : ℕ} {span : 
     (g : Gathered rs k ns used span) (roomier : Roomier rs (take used ns) span at part w) where
   pub cut-front : Gathered rs k (part ++ drop used ns) w.used w.span
   cut-front = gathered-front (roomier.gathered k (gathered-taken g)) (drop used ns)
-
-  pub cut-rooms : {ns₀ spare₀ spare : List ℕ} → Rooms ns₀ spare₀ → length ns ≡ length ns₀
-      → length part ≡ length (take used ns) → length spare ≡ length spare₀ → Rooms (part ++ drop used ns) spare
-  cut-rooms rooms same-room front same-spare =
-      rooms-kept rooms (length_front ns part used front ∙ same-room) same-spare

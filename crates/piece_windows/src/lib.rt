@@ -11,7 +11,7 @@ ghost use Rattle.sorted_pieces.specs.Order.{before, Numbers};
 ghost use Rattle.piece_windows.specs.Windows.{in_span, Rooms, Gathered, Roomier, Stepped, Filled, Counted};
 
 use rows::{Row, row_at, row_count};
-use sorted_pieces::{Standing, compare, sort};
+use sorted_pieces::{compare, sort};
 
 // The numbers that a window has room for.
 const ROOM: usize = 8192;
@@ -40,23 +40,14 @@ pub struct Window {
 fn stands_before(r: Row, s: Row) -> bool
     ensures { result ≡ before r s }
 {
-    match compare(r, s) {
-        Standing::Before => true,
-        Standing::Same => false,
-        Standing::After => false,
-    }
+    compare(r, s).is_lt()
 }
 
+#[tactic(auto, unfolding(crate::specs::Windows::in_span))]
 fn is_in_span(row: Row, span: Span) -> bool
     ensures { result ≡ in_span span row }
 {
-    if stands_before(row, span.from) {
-        return false;
-    }
-    if span.closed {
-        return stands_before(row, span.to);
-    }
-    true
+    !stands_before(row, span.from) && (!span.closed || stands_before(row, span.to))
 }
 
 // Sorts what is gathered, and where more than `at` pieces are left, cuts the span at the next.
@@ -75,16 +66,13 @@ fn make_room(
     if kept <= at {
         return Window { used: kept, span };
     }
-    let to = row_at(table, numbers[at]);
-    let from = span.from;
-    let shorter = Span {
-        from,
-        to,
-        closed: true,
-    };
     Window {
         used: at,
-        span: shorter,
+        span: Span {
+            from: span.from,
+            to: row_at(table, numbers[at]),
+            closed: true,
+        },
     }
 }
 
@@ -105,6 +93,7 @@ fn gather(
     let mut used = window.used;
     let mut span = window.span;
     let mut k: usize = 0;
+    // Not a `for`: a step may pass over rows, and a full window is cut before the same row is looked at again.
     while k < rows {
         if used == numbers.len() {
             let shorter = make_room(table, numbers, spare, span, used / 2);
@@ -153,9 +142,10 @@ fn count_window(table: &[u32], numbers: &mut [usize], spare: &mut [usize], from:
 {
     let filled = fill(table, numbers, spare, from);
     let used = filled.used;
-    let kept = sort(table, &mut numbers[..used], spare);
-    let span = filled.span;
-    Window { used: kept, span }
+    Window {
+        used: sort(table, &mut numbers[..used], spare),
+        span: filled.span,
+    }
 }
 
 // Counts window by window, from the least piece on.
@@ -173,12 +163,11 @@ pub fn count_in_windows(table: &[u32]) -> usize
     };
     let mut found: usize = 0;
     loop {
-        let window = count_window(table, &mut numbers[..], &mut spare[..], from);
-        let span = window.span;
+        let window = count_window(table, &mut numbers, &mut spare, from);
         found += window.used;
-        if !span.closed {
+        if !window.span.closed {
             return found;
         }
-        from = span.to;
+        from = window.span.to;
     }
 }

@@ -1,5 +1,4 @@
--- `count_in_windows` meets its contract. The loop keeps `Passed`: the pieces before the next window are counted; the
--- measure is how many are left, since a closed window has at least one. Assumes nothing.
+-- `count_in_windows` meets its contract: the loop keeps `Passed`, window by window. Assumes nothing.
 use mathlib.Core.Path.{refl}
 use native.Mathlib.Omega.{arith}
 use borrow.Author.Rules.{rules}
@@ -17,16 +16,16 @@ overflow_add-found c =
     let bound = passed-bound _ c.loop-numbers.invariant.1 c.count_window-window.ensures in
     omega (arith, bound, rows-length c.args.table.now)
 
-pub returns-then-not-span : goal.returns-then-not-span
-returns-then-not-span c =
-    passed-all _ c.loop-numbers.invariant.1 c.count_window-window.ensures c.if-not-span.true
+pub returns-then-not-window : goal.returns-then-not-window
+returns-then-not-window c =
+    passed-all _ c.loop-numbers.invariant.1 c.count_window-window.ensures c.if-not-window.true
 
 pub loop-numbers-smaller : goal.loop-numbers-smaller
 loop-numbers-smaller c =
-    passed-less _ c.loop-numbers.invariant.1 c.count_window-window.ensures c.if-not-span.false
+    passed-less _ c.loop-numbers.invariant.1 c.count_window-window.ensures c.if-not-window.false
 
 pub loop-numbers-preserved : goal.loop-numbers-preserved
 loop-numbers-preserved c = (
   record { numbers_room = search rules; spare_room = search rules },
-  passed-more _ c.loop-numbers.invariant.1 c.count_window-window.ensures c.if-not-span.false,
+  passed-more _ c.loop-numbers.invariant.1 c.count_window-window.ensures c.if-not-window.false,
 )

@@ -1,5 +1,5 @@
--- `count_in_windows` meets its contract. The loop keeps `Passed`: the pieces before the next window are counted; the
--- measure is how many are left, since a closed window has at least one. Assumes nothing.
+-- The pieces before the next window are counted; the measure is how many are left, since a closed window has at least
+-- one.
 use Prim.Native.Nat.{◌-◌}
 use lib.ListN.{length}
 use Rattle.rows.specs.Rows.{rows_of}

@@ -7,6 +7,6 @@ returns c =
     let gathered = c.fill-filled.ensures.gathered in
     record {
       start = c.fill-filled.ensures.start;
-      counted = sorted-counts gathered c.sort-kept.ensures;
-      spanned = sorted-spanned gathered c.sort-kept.ensures;
+      counted = sorted-counts gathered c.sort.ensures;
+      spanned = sorted-spanned gathered c.sort.ensures;
     }

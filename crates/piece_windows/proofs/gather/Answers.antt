@@ -1,6 +1,5 @@
 -- `gather` meets its contract. The loop keeps `Filling`: what is gathered are rows of the span, and if the step is one,
--- all its pieces among the first k rows. The measure is twice how many rows are left, and one more for each number: a
--- full window loses some, a row adds one. Assumes nothing.
+-- all its pieces among the first k rows. Assumes nothing.
 use mathlib.Core.Path.{sym, ◌∙◌}
 use native.Mathlib.Omega.{arith}
 use borrow.Author.Rules.{rules}

@@ -12,4 +12,4 @@ returns-then-kept-at c =
 pub returns : goal.returns
 returns c =
     room_cut c.sort-kept.ensures c.args.span (search rules) (omega arith)
-    c.requires.numbers_in_bounds.1 c.row_at-to.ensures
+    c.requires.numbers_in_bounds.1 c.row_at.ensures
