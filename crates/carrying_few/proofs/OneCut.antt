@@ -14,8 +14,7 @@ use Rattle.cut_set.specs.Store.{Good, Stored, Cramped}
 use Rattle.cut_set.specs.declared.CutSet.{CutSet}
 use Rattle.cut_set.proofs.Laws.{stored-none, stored_same, cramped-wide}
 use Rattle.carrying_match.specs.OneMatch.{Carrying}
-use Rattle.std.specs.Prelude.{Ok, Err}
-use Rattle.carrying_match.specs.declared.Stop.{Stop}
+use Rattle.std.specs.Prelude.{Ok}
 use Rattle.refining.specs.Columns.{Columns, from_at, from_right_at, to_at, to_right_at, way_at}
 use Rattle.carrying_cuts.specs.Worker.{Image}
 use Rattle.carrying_few.specs.Hit.{hit_on}
