@@ -3,7 +3,7 @@
 --     Heard, heard     what such a caller goes by: what is handed out, or the number and the place
 --     Hears            this is heard, and the rest is as it was
 --     number-some      no refusal has the number 0
---     success-heard, refusal-heard of what the doors on scripts share
+--     success-heard, refusal-heard, said-heard     of what the doors on scripts share
 --     read-heard, write-heard, records-heard, match-heard, refine-heard, chain-heard, carry-heard, carry-all-heard
 --                                  of each of these doors
 --     rows-heard, summary-heard    of the doors on tables
@@ -17,33 +17,30 @@ use native.Mathlib.Omega.{arith}
 use native.Mathlib.Decide.{dec_le}
 use borrow.Author.Tests.{lt-ltb, le-ltb}
 use lib.ListN.{length, take, drop}
+use Rattle.std.specs.Prelude.{Result, Ok, Err}
 use Rattle.script.specs.Commands.{bit_of}
 use Rattle.script.specs.Refusals.{number_of, place_of}
 use Rattle.script.specs.Reading.{Reading, admitted, refused, read_script, verdict_of}
 use Rattle.script.specs.Finding.{finding_of}
 use Rattle.script.specs.declared.refusal.Refusal.{Refusal}
-use Rattle.script.specs.declared.Verdict.{Verdict}
-use Rattle.script.specs.declared.Finding.{Finding}
+use Rattle.script.specs.declared.Admitted.{Admitted}
+use Rattle.script.specs.declared.command.Match.{Match}
 use Rattle.records.specs.Writing.{writing_of}
 use Rattle.records.specs.Listing.{listing_of}
-use Rattle.records.specs.declared.Written.{Written}
 use Rattle.records.specs.declared.Listed.{Listed}
 use Rattle.refinement.specs.declared.Side.{Side}
 use Rattle.refining.specs.Refining.{refining_of}
 use Rattle.refining.specs.Carrying.{carrying_of}
-use Rattle.refining.specs.declared.answers.Refined.{Refined}
-use Rattle.refining.specs.declared.answers.Carried.{Carried}
 use Rattle.positions.specs.CarryingAll.{carrying_all_of}
-use Rattle.positions.specs.declared.CarriedAll.{CarriedAll}
 use Rattle.reporting.specs.Reporting.{report_of, reporting_of_text, reporting_of}
 use Rattle.backbone.specs.Chaining.{chaining_of}
 use Rattle.backbone.specs.declared.Chained.{Chained}
 use Rattle.table.specs.Finding.{size_of, part_of}
 use Rattle.table.specs.Summing.{summary_of}
-use Rattle.doors.specs.Doors.{Reply, gives, refuses, door, Read, of_reading, read_door, OneMatch, of_finding}
-use Rattle.doors.specs.Doors.{match_door, of_refined, refine_door, of_carried, carry_door, carry_from_a, carry_from_b}
+use Rattle.doors.specs.Doors.{Reply, door, Read, of_reading, read_door, OneMatch, of_finding}
+use Rattle.doors.specs.Doors.{match_door, refine_door, carry_door, carry_from_a, carry_from_b}
 use Rattle.doors.specs.Doors.{rows_door, summary_door, ReportReply, of_reported, report_door}
-use Rattle.doors.specs.Doors.{of_written, write_door, of_listed, records_door, OneChain, of_chained, chain_door}
+use Rattle.doors.specs.Doors.{write_door, of_listed, records_door, OneChain, of_chained, chain_door}
 use Rattle.doors.specs.Doors.{of_carried_all, carry_all_door, carry_all_from_a, carry_all_from_b}
 
 -- ---- what the doors on scripts share
@@ -62,6 +59,11 @@ heard x = heard_by x.number x.place x.given
 -- "A refusal returns its number and a place."
 abbrev refusal_heard : {X : Type 0} → Refusal → Heard X
 refusal_heard r = failure (number_of r) (place_of r)
+
+-- what a call of the library says, as it is
+abbrev said_heard : {X : Type 0} → Result X Refusal → Heard X
+said_heard (Ok x) = success x
+said_heard (Err r) = refusal_heard r
 
 -- where `place` and `was` stood behind the pointers, the reply tells y and leaves the rest
 record Hears {X : Type 0} (place : ℕ) (was : X) (y : Heard X) (x : Reply X) : Type 0 where
@@ -100,10 +102,10 @@ some-heard zero place x h = absurd (omega arith)
 some-heard (suc n) place x h = refl
 
 module _ {X : Type 0} (place : ℕ) (was : X) where
-  success-heard : (x : X) → Hears place was (success x) (door (gives x) place was)
+  success-heard : (x : X) → Hears place was (success x) (door (Ok x) place was)
   success-heard x = record { told = refl; place_kept = λ _. refl; rest_kept = λ n. absurd (n refl) }
 
-  refusal-heard : (r : Refusal) → Hears place was (refusal_heard r) (door (refuses r) place was)
+  refusal-heard : (r : Refusal) → Hears place was (refusal_heard r) (door (Err r) place was)
   refusal-heard r =
       let some = number-some r in
       record {
@@ -112,12 +114,16 @@ module _ {X : Type 0} (place : ℕ) (was : X) where
         rest_kept = λ _. refl;
       }
 
+  said-heard : (a : Result X Refusal) → Hears place was (said_heard a) (door a place was)
+  said-heard (Ok x) = success-heard x
+  said-heard (Err r) = refusal-heard r
+
 -- ---- the doors on scripts
 
 -- the verdict on the script
-abbrev verdict_heard : Verdict → Heard Read
-verdict_heard (Verdict.Admitted p q n k) = success (record { p = p; q = q; count = n; marks = k })
-verdict_heard (Verdict.Refused r) = refusal_heard r
+abbrev verdict_heard : Result Admitted Refusal → Heard Read
+verdict_heard (Ok a) = success (record { p = a.p; q = a.q; count = a.count; marks = a.marks })
+verdict_heard (Err r) = refusal_heard r
 
 read-heard : (script : List ℕ) (place : ℕ) (was : Read)
     → Hears place was (verdict_heard (verdict_of (read_script script))) (read_door script place was)
@@ -128,103 +134,80 @@ read-heard script place was = go (read_script script)
     go (refused r) = refusal-heard place was r
 
 -- the length of the script that is written
-abbrev written_heard : Written → Heard ℕ
-written_heard (Written.Bytes n) = success n
-written_heard (Written.Refused r) = refusal_heard r
-
 write-heard : (p q : ℕ) (records marks script : List ℕ) (place was : ℕ)
-    → Hears place was (written_heard (writing_of p q records marks script).reply)
+    → Hears place was (said_heard (writing_of p q records marks script).reply)
     (write_door p q records marks script place was)
-write-heard p q records marks script place was = go (writing_of p q records marks script).reply
-  where
-    go : (a : Written) → Hears place was (written_heard a) (door (of_written a) place was)
-    go (Written.Bytes n) = success-heard place was _
-    go (Written.Refused r) = refusal-heard place was r
+write-heard p q records marks script place was = said-heard place was (writing_of p q records marks script).reply
 
 -- the lengths and the counts of the records and marks that are read
-abbrev listed_heard : Listed → Heard Read
-listed_heard (Listed.Records p q n k) = success (record { p = p; q = q; count = n; marks = k })
-listed_heard (Listed.Refused r) = refusal_heard r
+abbrev listed_heard : Result Listed Refusal → Heard Read
+listed_heard (Ok l) = success (record { p = l.p; q = l.q; count = l.count; marks = l.marks })
+listed_heard (Err r) = refusal_heard r
 
 records-heard : (script records marks : List ℕ) (place : ℕ) (was : Read)
-    → Hears place was (listed_heard (listing_of script records marks).reply) (records_door script records marks place was)
+    → Hears place was (listed_heard (listing_of script records marks).reply)
+    (records_door script records marks place was)
 records-heard script records marks place was = go (listing_of script records marks).reply
   where
-    go : (a : Listed) → Hears place was (listed_heard a) (door (of_listed a) place was)
-    go (Listed.Records p q n k) = success-heard place was _
-    go (Listed.Refused r) = refusal-heard place was r
+    go : (a : Result Listed Refusal) → Hears place was (listed_heard a) (door (of_listed a) place was)
+    go (Ok l) = success-heard place was _
+    go (Err r) = refusal-heard place was r
 
 -- the match that is found
-abbrev finding_heard : Finding → Heard OneMatch
-finding_heard (Finding.Found m) =
+abbrev finding_heard : Result Match Refusal → Heard OneMatch
+finding_heard (Ok m) =
     success
     (record { left_a = m.left_a; left_b = m.left_b; letters = m.length; reversed = bit_of m.reversed })
-finding_heard (Finding.Refused r) = refusal_heard r
+finding_heard (Err r) = refusal_heard r
 
 match-heard : (script : List ℕ) (number place : ℕ) (was : OneMatch)
     → Hears place was (finding_heard (finding_of (read_script script) number)) (match_door script number place was)
 match-heard script number place was = go (finding_of (read_script script) number)
   where
-    go : (a : Finding) → Hears place was (finding_heard a) (door (of_finding a) place was)
-    go (Finding.Found m) = success-heard place was _
-    go (Finding.Refused r) = refusal-heard place was r
+    go : (a : Result Match Refusal) → Hears place was (finding_heard a) (door (of_finding a) place was)
+    go (Ok m) = success-heard place was _
+    go (Err r) = refusal-heard place was r
 
 -- the count of rows
-abbrev refined_heard : Refined → Heard ℕ
-refined_heard (Refined.Rows n) = success n
-refined_heard (Refined.Refused r) = refusal_heard r
-
 refine-heard : (script table work : List ℕ) (place was : ℕ)
-    → Hears place was (refined_heard (refining_of script table work).reply) (refine_door script table work place was)
-refine-heard script table work place was = go (refining_of script table work).reply
-  where
-    go : (a : Refined) → Hears place was (refined_heard a) (door (of_refined a) place was)
-    go (Refined.Rows n) = success-heard place was _
-    go (Refined.Refused r) = refusal-heard place was r
+    → Hears place was (said_heard (refining_of script table work).reply) (refine_door script table work place was)
+refine-heard script table work place was = said-heard place was (refining_of script table work).reply
 
 -- the score, the count of rows and the chain's length
-abbrev chained_heard : Chained → Heard OneChain
-chained_heard (Chained.Best s n l) = success (record { score = s; rows = n; length = l })
-chained_heard (Chained.Refused r) = refusal_heard r
+abbrev chained_heard : Result Chained Refusal → Heard OneChain
+chained_heard (Ok c) = success (record { score = c.score; rows = c.rows; length = c.length })
+chained_heard (Err r) = refusal_heard r
 
 chain-heard : (script : List ℕ) (price : ℕ) (table work chain scores : List ℕ) (place : ℕ) (was : OneChain)
     → Hears place was (chained_heard (chaining_of script price table work chain scores).reply)
     (chain_door script price table work chain scores place was)
 chain-heard script price table work chain scores place was = go (chaining_of script price table work chain scores).reply
   where
-    go : (a : Chained) → Hears place was (chained_heard a) (door (of_chained a) place was)
-    go (Chained.Best s n l) = success-heard place was _
-    go (Chained.Refused r) = refusal-heard place was r
+    go : (a : Result Chained Refusal) → Hears place was (chained_heard a) (door (of_chained a) place was)
+    go (Ok c) = success-heard place was _
+    go (Err r) = refusal-heard place was r
 
 -- the carried position
-abbrev carried_heard : Carried → Heard ℕ
-carried_heard (Carried.To x) = success x
-carried_heard (Carried.Refused r) = refusal_heard r
-
 carry-heard : (side : Side) (script : List ℕ) (number position place was : ℕ)
-    → Hears place was (carried_heard (carrying_of script number side position))
+    → Hears place was (said_heard (carrying_of script number side position))
     (carry_door side script number position place was)
-carry-heard side script number position place was = go (carrying_of script number side position)
-  where
-    go : (a : Carried) → Hears place was (carried_heard a) (door (of_carried a) place was)
-    go (Carried.To x) = success-heard place was _
-    go (Carried.Refused r) = refusal-heard place was r
+carry-heard side script number position place was = said-heard place was (carrying_of script number side position)
 
 module _ (script : List ℕ) (number position place was : ℕ) where
   carry-a-heard :
-      Hears place was (carried_heard (carrying_of script number Side.A position))
+      Hears place was (said_heard (carrying_of script number Side.A position))
       (carry_from_a script number position place was)
   carry-a-heard = carry-heard Side.A script number position place was
 
   carry-b-heard :
-      Hears place was (carried_heard (carrying_of script number Side.B position))
+      Hears place was (said_heard (carrying_of script number Side.B position))
       (carry_from_b script number position place was)
   carry-b-heard = carry-heard Side.B script number position place was
 
 -- the carried positions, all of them
-abbrev carried_all_heard : CarriedAll → List ℕ → Heard (List ℕ)
-carried_all_heard CarriedAll.All carried = success carried
-carried_all_heard (CarriedAll.Refused r) carried = refusal_heard r
+abbrev carried_all_heard : Result (Unit {0}) Refusal → List ℕ → Heard (List ℕ)
+carried_all_heard (Ok _) carried = success carried
+carried_all_heard (Err r) carried = refusal_heard r
 
 carry-all-heard : (side : Side) (script : List ℕ) (number : ℕ) (positions : List ℕ) (place : ℕ) (was : List ℕ)
     → let made = carrying_all_of script number side positions was in
@@ -233,10 +216,10 @@ carry-all-heard : (side : Side) (script : List ℕ) (number : ℕ) (positions : 
 carry-all-heard side script number positions place was =
     let made = carrying_all_of script number side positions was in go made.reply made.carried
   where
-    go : (a : CarriedAll) (carried : List ℕ)
+    go : (a : Result (Unit {0}) Refusal) (carried : List ℕ)
         → Hears place was (carried_all_heard a carried) (door (of_carried_all a carried) place was)
-    go CarriedAll.All carried = success-heard place was carried
-    go (CarriedAll.Refused r) carried = refusal-heard place was r
+    go (Ok _) carried = success-heard place was carried
+    go (Err r) carried = refusal-heard place was r
 
 module _ (script : List ℕ) (number : ℕ) (positions : List ℕ) (place : ℕ) (was : List ℕ) where
   carry-all-a-heard : let made = carrying_all_of script number Side.A positions was in

@@ -7,17 +7,16 @@ use mathlib.Core.Path.{◌≡◌, refl}
 use mathlib.Core.List.{List}
 use lib.ListN.{length}
 use native.Mathlib.Omega.{arith}
+use Rattle.std.specs.Prelude.{Result, Ok, Err}
+use Rattle.script.specs.declared.refusal.Refusal.{Refusal}
 use Rattle.refinement.specs.declared.Side.{Side}
 use Rattle.refinement.specs.declared.Side.TheVariants.{A, B}
 use Rattle.refinement.specs.Match.{other}
 use Rattle.refining.specs.Carrying.{carrying_of}
-use Rattle.refining.specs.declared.answers.Carried.{Carried}
-use Rattle.refining.specs.declared.answers.Carried.TheVariants.{To, Refused}
 use Rattle.refining.proofs.CarryingOutcome.{carrying-back}
 use Rattle.positions.specs.CarryingAll.{carrying_all_of}
-use Rattle.positions.specs.declared.CarriedAll.{CarriedAll}
 use Rattle.positions.proofs.Laws.{carried-back}
-use Rattle.doors.specs.Doors.{door, of_carried, carry_door, carry_from_a, carry_from_b}
+use Rattle.doors.specs.Doors.{door, carry_door, carry_from_a, carry_from_b}
 use Rattle.doors.specs.Doors.{of_carried_all, carry_all_door, carry_all_from_a, carry_all_from_b}
 use Rattle.doors.proofs.Agreement.{number-some}
 
@@ -27,11 +26,11 @@ module _ (script : List ℕ) (number position place was place' was' : ℕ) where
       ≡ record { number = 0; place = place'; given = position }
   there_and_back s = go (carrying_of script number s position) refl
     where
-      go : (a : Carried) → carrying_of script number s position ≡ a → let there = door (of_carried a) place was in
+      go : (a : Result ℕ Refusal) → carrying_of script number s position ≡ a → let there = door a place was in
           there.number ≡ 0 → carry_door (other s) script number there.given place' was'
           ≡ record { number = 0; place = place'; given = position }
-      go (To x) e z = rw (carrying-back script number s position e)
-      go (Refused r) e z = absurd (omega (arith, number-some r))
+      go (Ok x) e z = rw (carrying-back script number s position e)
+      go (Err r) e z = absurd (omega (arith, number-some r))
 
   a-then-b : let there = carry_from_a script number position place was in there.number ≡ 0
       → carry_from_b script number there.given place' was' ≡ record { number = 0; place = place'; given = position }
@@ -50,17 +49,17 @@ module _ (script : List ℕ) (number : ℕ) (positions : List ℕ) (place : ℕ)
     all-there-and-back s =
         let made = carrying_all_of script number s positions was in go made.reply made.carried refl refl
       where
-        go : (a : CarriedAll) (xs : List ℕ) → (carrying_all_of script number s positions was).reply ≡ a
+        go : (a : Result (Unit {0}) Refusal) (xs : List ℕ) → (carrying_all_of script number s positions was).reply ≡ a
             → (carrying_all_of script number s positions was).carried ≡ xs
             → let there = door (of_carried_all a xs) place was in
             there.number ≡ 0 → length there.given ≡ length was'
             → carry_all_door (other s) script number there.given place' was'
             ≡ record { number = 0; place = place'; given = positions }
-        go CarriedAll.All xs e h z long =
-            let made : carrying_all_of script number s positions was ≡ record { reply = CarriedAll.All; carried = xs } =
+        go (Ok _) xs e h z long =
+            let made : carrying_all_of script number s positions was ≡ record { reply = Ok tt; carried = xs } =
             rw (← e, ← h) in
             rw (carried-back script number s positions was was' xs made long)
-        go (CarriedAll.Refused r) xs e h z long = absurd (omega (arith, number-some r))
+        go (Err r) xs e h z long = absurd (omega (arith, number-some r))
 
     all-a-then-b : let there = carry_all_from_a script number positions place was in there.number ≡ 0
         → length there.given ≡ length was'

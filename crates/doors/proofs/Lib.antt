@@ -1,4 +1,3 @@
 pub mod Agreement
 pub mod Carrying
-pub mod Handed
 pub mod Lists

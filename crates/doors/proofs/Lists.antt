@@ -9,15 +9,16 @@ use mathlib.Core.Path.{◌≡◌, refl, sym, ap, ◌∙◌}
 use mathlib.Core.List.{List, ◌++◌}
 use native.Mathlib.Omega.{arith}
 use lib.ListN.{length, take, drop}
+use Rattle.std.specs.Prelude.{Result, Ok, Err}
+use Rattle.script.specs.declared.refusal.Refusal.{Refusal}
 use Rattle.records.specs.Writing.{writing_of}
 use Rattle.records.specs.Listing.{listing_of}
 use Rattle.records.specs.Demands.{MatchesFirst}
-use Rattle.records.specs.declared.Written.{Written}
 use Rattle.records.specs.declared.Listed.{Listed}
 use Rattle.records.proofs.Bytes.{Bytes}
 use Rattle.records.proofs.Lists.{list_length, point-list-length}
 use Rattle.records.proofs.Demands.{writing-demand, listing-demand}
-use Rattle.doors.specs.Doors.{door, Read, of_written, write_door, of_listed, records_door}
+use Rattle.doors.specs.Doors.{door, Read, write_door, of_listed, records_door}
 use Rattle.doors.proofs.Agreement.{number-some}
 
 -- ---- records to bytes to records
@@ -41,12 +42,12 @@ write-then-read : (p q : ℕ) (ns zs out : List ℕ) (place was : ℕ) → let t
 write-then-read p q ns zs out place was z lent points place' was' room spots =
     go (writing_of p q ns zs out).reply refl z
   where
-    go : (a : Written) → (writing_of p q ns zs out).reply ≡ a
-        → let there = door (of_written a) place was in there.number ≡ 0
+    go : (a : Result ℕ Refusal) → (writing_of p q ns zs out).reply ≡ a
+        → let there = door a place was in there.number ≡ 0
         → ReadBack p q ns zs (take there.given (writing_of p q ns zs out).script) lent points place' was'
-    go (Written.Refused r) e z = absurd (omega (arith, number-some r))
-    go (Written.Bytes n) e z =
-        let back = (writing-demand p q ns zs out {reply = Written.Bytes n} (sym e) refl).undone refl in
+    go (Err r) e z = absurd (omega (arith, number-some r))
+    go (Ok n) e z =
+        let back = (writing-demand p q ns zs out {reply = Ok n} (sym e) refl).undone refl in
         let again = back.back lent points room spots in
         record {
           count = length back.matches;
@@ -76,15 +77,14 @@ read-then-write : (s : List ℕ) → Bytes s → (out points : List ℕ) (place 
     place' was'
 read-then-write s bytes out points place was z lent place' was' room = go (listing_of s out points).reply refl z
   where
-    go : (a : Listed) → (listing_of s out points).reply ≡ a
+    go : (a : Result Listed Refusal) → (listing_of s out points).reply ≡ a
         → let there = door (of_listed a) place was in there.number ≡ 0
         → let given = there.given in let x = listing_of s out points in
         WrittenBack s given.p given.q (take (4 * given.count) x.records) (take (2 * given.marks) x.marks)
         lent place' was'
-    go (Listed.Refused r) e z = absurd (omega (arith, number-some r))
-    go (Listed.Records p q count marks) e z =
-        let reply = Listed.Records p q count marks in
-        let again = (listing-demand s bytes out points {reply = reply} (sym e) refl refl).undone refl in
+    go (Err r) e z = absurd (omega (arith, number-some r))
+    go (Ok l) e z =
+        let again = (listing-demand s bytes out points {reply = Ok l} (sym e) refl refl).undone refl in
         let back = again.written lent room in
         record {
           told = rw back;

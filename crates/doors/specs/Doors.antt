@@ -1,7 +1,6 @@
 -- What each door returns and leaves behind its pointers. TO READ: contracts mean what stands here.
 --     Reply X          the number returned, and what stands behind the pointers: the place, and what is handed out
---     Said X           what a call of the library says, whatever its kind: something to hand out, or a refusal
---     door             what a door makes of it
+--     door             what a door makes of what a call of the library says: something to hand out, or a refusal
 --     read_door, match_door, refine_door, carry_from_a, carry_from_b     the doors on scripts
 --     carry_all_from_a, carry_all_from_b     the doors for lists of positions
 --     chain_door        the door for the backbone
@@ -9,28 +8,24 @@
 --     rows_door, summary_door     the doors on tables, which refuse nothing
 --     report_door       the door for the text
 -- `place` and `was` stood behind the pointers before the call. Assumes nothing.
-use Rattle.std.specs.Prelude.{ℕ, List, length}
+use Rattle.std.specs.Prelude.{ℕ, List, length, Result, Ok, Err}
 use Rattle.script.specs.Commands.{bit_of}
 use Rattle.script.specs.Refusals.{number_of, place_of}
 use Rattle.script.specs.Reading.{Reading, admitted, refused, read_script, letters}
 use Rattle.script.specs.Finding.{finding_of}
 use Rattle.script.specs.declared.refusal.Refusal.{Refusal}
 use Rattle.script.specs.declared.refusal.Refusal.TheVariants.{BufferTooShort}
-use Rattle.script.specs.declared.Finding.{Finding}
+use Rattle.script.specs.declared.command.Match.{Match}
 use Rattle.records.specs.Writing.{writing_of}
 use Rattle.records.specs.Listing.{listing_of}
-use Rattle.records.specs.declared.Written.{Written}
 use Rattle.records.specs.declared.Listed.{Listed}
 use Rattle.refinement.specs.declared.Side.{Side}
 use Rattle.refinement.specs.declared.Side.TheVariants.{A, B}
 use Rattle.refining.specs.Refining.{refining_of}
 use Rattle.refining.specs.Carrying.{carrying_of}
-use Rattle.refining.specs.declared.answers.Refined.{Refined}
-use Rattle.refining.specs.declared.answers.Carried.{Carried}
 use Rattle.positions.specs.CarryingAll.{carrying_all_of}
-use Rattle.positions.specs.declared.CarriedAll.{CarriedAll}
 use Rattle.reporting.specs.Reporting.{reporting_of}
-use Rattle.reporting.specs.declared.Reported.{Reported}
+use Rattle.reporting.specs.declared.TextTooShort.{TextTooShort}
 use Rattle.backbone.specs.Chaining.{chaining_of}
 use Rattle.backbone.specs.declared.Chained.{Chained}
 use Rattle.table.specs.Finding.{span_of}
@@ -46,16 +41,11 @@ pub record Reply (X : Type 0) : Type 0 where
   pub place : ℕ
   pub given : X
 
--- what is to be handed out, or why nothing is
-pub data Said (X : Type 0) : Type 0 where
-  gives : X → Said X
-  refuses : Refusal → Said X
-
 -- SCOPE, "Place": a refusal gives its number and a place; 0 is no refusal's number. What is not given is as it was:
 -- SCOPE, "Kept when refused" and "Kept on success".
-abbrev pub door : {X : Type 0} → Said X → ℕ → X → Reply X
-door (gives x) place was = record { number = 0; place = place; given = x }
-door (refuses r) place was = record { number = number_of r; place = place_of r; given = was }
+abbrev pub door : {X : Type 0} → Result X Refusal → ℕ → X → Reply X
+door (Ok x) place was = record { number = 0; place = place; given = x }
+door (Err r) place was = record { number = number_of r; place = place_of r; given = was }
 
 -- ---- reading
 
@@ -67,10 +57,10 @@ pub record Read : Type 0 where
   pub marks : ℕ
 
 -- of an admitted script its lengths and its counts of matches and marks
-abbrev pub of_reading : Reading → Said Read
+abbrev pub of_reading : Reading → Result Read Refusal
 of_reading (admitted ls ms ks) =
-    gives (record { p = letters ls 0; q = letters ls 1; count = length ms; marks = length ks })
-of_reading (refused r) = refuses r
+    Ok (record { p = letters ls 0; q = letters ls 1; count = length ms; marks = length ks })
+of_reading (refused r) = Err r
 
 -- notchergrey_read
 abbrev pub read_door : List ℕ → ℕ → Read → Reply Read
@@ -78,19 +68,15 @@ read_door script place was = door (of_reading (read_script script)) place was
 
 -- ---- lists
 
--- SCOPE, "Written": the script's length
-abbrev pub of_written : Written → Said ℕ
-of_written (Written.Bytes n) = gives n
-of_written (Written.Refused r) = refuses r
-
--- notchergrey_write; what the lent bytes are after it is the library's `writing_of`
+-- notchergrey_write; SCOPE, "Written": the script's length. What the lent bytes are after it is the library's
+-- `writing_of`.
 abbrev pub write_door : ℕ → ℕ → List ℕ → List ℕ → List ℕ → ℕ → ℕ → Reply ℕ
-write_door p q records marks script place was = door (of_written (writing_of p q records marks script).reply) place was
+write_door p q records marks script place was = door (writing_of p q records marks script).reply place was
 
 -- SCOPE, "Listed": the lengths and the counts of records and marks
-abbrev pub of_listed : Listed → Said Read
-of_listed (Listed.Records p q count marks) = gives (record { p = p; q = q; count = count; marks = marks })
-of_listed (Listed.Refused r) = refuses r
+abbrev pub of_listed : Result Listed Refusal → Result Read Refusal
+of_listed (Ok l) = Ok (record { p = l.p; q = l.q; count = l.count; marks = l.marks })
+of_listed (Err r) = Err r
 
 -- notchergrey_read_records; what the lent numbers are after it is the library's `listing_of`
 abbrev pub records_door : List ℕ → List ℕ → List ℕ → ℕ → Read → Reply Read
@@ -106,11 +92,10 @@ pub record OneMatch : Type 0 where
   pub reversed : ℕ
 
 -- of a match that is there its numbers
-abbrev pub of_finding : Finding → Said OneMatch
-of_finding (Finding.Found m) =
-    gives
-    (record { left_a = m.left_a; left_b = m.left_b; letters = m.length; reversed = bit_of m.reversed })
-of_finding (Finding.Refused r) = refuses r
+abbrev pub of_finding : Result Match Refusal → Result OneMatch Refusal
+of_finding (Ok m) =
+    Ok (record { left_a = m.left_a; left_b = m.left_b; letters = m.length; reversed = bit_of m.reversed })
+of_finding (Err r) = Err r
 
 -- notchergrey_match; SCOPE, "Numbering": from 1
 abbrev pub match_door : List ℕ → ℕ → ℕ → OneMatch → Reply OneMatch
@@ -118,14 +103,10 @@ match_door script number place was = door (of_finding (finding_of (read_script s
 
 -- ---- refining
 
--- SCOPE, "Success": the count of rows
-abbrev pub of_refined : Refined → Said ℕ
-of_refined (Refined.Rows n) = gives n
-of_refined (Refined.Refused r) = refuses r
-
--- notchergrey_refine; what the lent table and work buffer hold after it is the library's `refining_of`
+-- notchergrey_refine; SCOPE, "Success": the count of rows. What the lent table and work buffer hold after it is the
+-- library's `refining_of`.
 abbrev pub refine_door : List ℕ → List ℕ → List ℕ → ℕ → ℕ → Reply ℕ
-refine_door script table work place was = door (of_refined (refining_of script table work).reply) place was
+refine_door script table work place was = door (refining_of script table work).reply place was
 
 -- ---- the backbone
 
@@ -136,9 +117,9 @@ pub record OneChain : Type 0 where
   pub length : ℕ
 
 -- SCOPE, "Chained": the score, the count of rows and the chain's length
-abbrev pub of_chained : Chained → Said OneChain
-of_chained (Chained.Best score rows length) = gives (record { score = score; rows = rows; length = length })
-of_chained (Chained.Refused r) = refuses r
+abbrev pub of_chained : Result Chained Refusal → Result OneChain Refusal
+of_chained (Ok c) = Ok (record { score = c.score; rows = c.rows; length = c.length })
+of_chained (Err r) = Err r
 
 -- notchergrey_chain; what the four lent buffers hold after it is the library's `chaining_of`
 abbrev pub chain_door : List ℕ → ℕ → List ℕ → List ℕ → List ℕ → List ℕ → ℕ → OneChain → Reply OneChain
@@ -147,14 +128,9 @@ chain_door script price table work chain scores place was =
 
 -- ---- carrying
 
--- where the position lies on the other side
-abbrev pub of_carried : Carried → Said ℕ
-of_carried (Carried.To x) = gives x
-of_carried (Carried.Refused r) = refuses r
-
--- from the side named
+-- from the side named: where the position lies on the other side
 abbrev pub carry_door : Side → List ℕ → ℕ → ℕ → ℕ → ℕ → Reply ℕ
-carry_door side script number position place was = door (of_carried (carrying_of script number side position)) place was
+carry_door side script number position place was = door (carrying_of script number side position) place was
 
 -- notchergrey_carry_from_a
 abbrev pub carry_from_a : List ℕ → ℕ → ℕ → ℕ → ℕ → Reply ℕ
@@ -165,9 +141,9 @@ abbrev pub carry_from_b : List ℕ → ℕ → ℕ → ℕ → ℕ → Reply ℕ
 carry_from_b script number position place was = carry_door B script number position place was
 
 -- SCOPE, "Carrying together": all numbers of the lent buffer
-abbrev pub of_carried_all : CarriedAll → List ℕ → Said (List ℕ)
-of_carried_all CarriedAll.All carried = gives carried
-of_carried_all (CarriedAll.Refused r) carried = refuses r
+abbrev pub of_carried_all : Result (Unit {0}) Refusal → List ℕ → Result (List ℕ) Refusal
+of_carried_all (Ok _) carried = Ok carried
+of_carried_all (Err r) carried = Err r
 
 -- from the side named; `was` stood in the lent buffer before the call
 abbrev pub carry_all_door : Side → List ℕ → ℕ → List ℕ → ℕ → List ℕ → Reply (List ℕ)
@@ -224,9 +200,9 @@ pub record ReportReply : Type 0 where
   pub length : ℕ
 
 -- a text that fits: 0 and its length; else the number of a buffer that is too short, and the length that it needs
-abbrev pub of_reported : Reported → ReportReply
-of_reported (Reported.Printed n) = record { number = 0; length = n }
-of_reported (Reported.TextTooShort n) = record { number = number_of BufferTooShort; length = n }
+abbrev pub of_reported : Result ℕ TextTooShort → ReportReply
+of_reported (Ok n) = record { number = 0; length = n }
+of_reported (Err short) = record { number = number_of BufferTooShort; length = short.needed }
 
 -- notchergrey_report; what the lent text holds after it is the library's `reporting_of`
 abbrev pub report_door : List ℕ → List ℕ → ReportReply

@@ -12,12 +12,12 @@
 --     prints, hands     what the program prints; and the same in a lent buffer, through the door
 -- Every lent number, and every number behind a pointer, is 99 before the call, so that a number that is kept shows.
 -- The table itself: specs/Lines. Assumes nothing.
-use Rattle.std.specs.Prelude.{ℕ, ◌*◌, ◌-◌, cond, List, [], ◌∷◌, ◌++◌, length, take, replicate, eqb}
+use Rattle.std.specs.Prelude.{ℕ, ◌*◌, ◌-◌, cond, List, [], ◌∷◌, ◌++◌, length, take, replicate, eqb, Result, Ok, Err}
+use Rattle.script.specs.declared.refusal.Refusal.{Refusal}
 use Rattle.records.specs.Writing.{writing_of}
 use Rattle.records.specs.Listing.{listing_of}
 use Rattle.table.specs.Summing.{summary_of}
 use Rattle.refining.specs.Refining.{refining_of}
-use Rattle.refining.specs.declared.answers.Refined.{Refined}
 use Rattle.backbone.specs.Chaining.{chaining_of}
 use Rattle.reporting.specs.Reporting.{report_of, reporting_of}
 use Rattle.doors.specs.Doors.{Reply, Read, OneMatch, OneChain, RowsReply, SummaryReply, ReportReply}
@@ -63,13 +63,13 @@ pub record Refining : Type 0 where
   pub work : ℕ
   pub expected : Expected
 
-abbrev pub distinct_of : Refined → List ℕ → ℕ
-distinct_of (Refined.Rows n) table = (summary_of (take (5 * n) table)).distinct
-distinct_of (Refined.Refused r) table = 0
+abbrev pub distinct_of : Result ℕ Refusal → List ℕ → ℕ
+distinct_of (Ok n) table = (summary_of (take (5 * n) table)).distinct
+distinct_of (Err r) table = 0
 
-abbrev pub covers_of : Refined → List ℕ → List ℕ
-covers_of (Refined.Rows n) table = (summary_of (take (5 * n) table)).covers
-covers_of (Refined.Refused r) table = []
+abbrev pub covers_of : Result ℕ Refusal → List ℕ → List ℕ
+covers_of (Ok n) table = (summary_of (take (5 * n) table)).covers
+covers_of (Err r) table = []
 
 abbrev pub flat : List (List ℕ) → List ℕ
 flat [] = []
