@@ -2,13 +2,12 @@
 --     way_over m side         the way over a match of a script
 --     crossing_of f side      over the match that is found, or why there is none
 -- Assumes nothing.
-use Rattle.std.specs.Prelude.{◌+◌}
-use Rattle.script.specs.declared.Finding.{Finding}
+use Rattle.std.specs.Prelude.{◌+◌, Result, Ok, Err}
 use Rattle.script.specs.declared.command.Match.{Match}
+use Rattle.script.specs.declared.refusal.Refusal.{Refusal}
 use Rattle.refinement.specs.declared.Side.{Side}
 use Rattle.refinement.specs.Match.{other, on_side}
 use Rattle.carrying.specs.declared.Way.{Way}
-use Rattle.carrying.specs.declared.Crossing.{Crossing}
 
 abbrev pub way_over : Match → Side → Way
 way_over m side =
@@ -22,6 +21,6 @@ way_over m side =
       reversed = m.reversed;
     }
 
-abbrev pub crossing_of : Finding → Side → Crossing
-crossing_of (Finding.Refused r) side = Crossing.Refused r
-crossing_of (Finding.Found m) side = Crossing.Over (way_over m side)
+abbrev pub crossing_of : Result Match Refusal → Side → Result Way Refusal
+crossing_of (Err r) side = Err r
+crossing_of (Ok m) side = Ok (way_over m side)

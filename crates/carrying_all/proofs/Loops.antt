@@ -1,19 +1,16 @@
--- The loops over the positions: one tests them, one does so block by block, and one writes them.
---     Testing                     the first loop's invariant: what is tested so far and what is left decide
---     testing-start, testing-step, testing-end     where it begins, one position more, and the end
---     block_on, block-off         a block that passes leaves the test to what is behind it, another one ends it
---     Writing                     the second loop's invariant: the first k numbers are written
---     writing_start, writing_step, writing-end     where it begins, one number more, and the end
---     writing-next                the next position passes the test
+-- The loops over the positions: one tests them, and one writes them.
+--     Testing          the first loop's invariant: what is tested so far and what is left decide
+--     Writing          the second loop's invariant: the first k numbers are written
+--     writing_step     one number more
 -- Assumes nothing.
-use Prim.Native.Nat.{ℕ, suc, ◌+◌, ◌-◌, ◌≤◌, ◌<◌}
-use mathlib.Core.Path.{◌≡◌, refl, sym, ap, ap₂, ◌∙◌}
-use mathlib.Core.Bool.{Bool, true, false, ◌&&◌, and-true, and_assoc}
-use mathlib.Core.List.{List, [], ◌∷◌, ◌++◌, map, append-nil, append_assoc, map-append}
+use Prim.Native.Nat.{ℕ, suc, ◌+◌, ◌≤◌, ◌<◌}
+use mathlib.Core.Path.{◌≡◌, refl, sym, ap₂, ◌∙◌}
+use mathlib.Core.Bool.{Bool, true, false, ◌&&◌}
+use mathlib.Core.List.{List, ◌++◌, map, append_assoc, map-append}
 use native.Mathlib.Omega.{arith}
 use native.Mathlib.Numerals.{add-one}
-use lib.ListN.{length, get_or, take, drop, set, length-map, length-set, length-drop, take-append-drop}
-use lib.Seq.{length-take-le, take-suc, take_all, take-length, drop-cons, drop-length, set_at}
+use lib.ListN.{length, get_or, take, drop, set, length-map, length-set}
+use lib.Seq.{length-take-le, take-suc, drop-cons, set_at}
 use Rattle.positions.specs.CarryingAll.{every}
 
 -- ---- the test
@@ -27,45 +24,6 @@ pub record Testing (test : ℕ → Bool) (positions : List ℕ) (all : Bool) (k 
 next : (test : ℕ → Bool) (positions : List ℕ) {k : ℕ} → k < length positions
     → every test (drop k positions) ≡ (test (get_or positions k 0) && every test (drop (k + 1) positions))
 next test positions {k} inside = rw (drop-cons positions k 0 inside, add-one)
-
-module _ {test : ℕ → Bool} {positions : List ℕ} where
-  pub testing-start : Testing test positions true 0
-  testing-start = record { to = omega arith; decides = refl }
-
-  module _ {all : Bool} {k : ℕ} (t : Testing test positions all k) where
-    pub testing-step : k < length positions → {passes : Bool} → passes ≡ test (get_or positions k 0)
-        → Testing test positions (all && passes) (k + 1)
-    testing-step inside {passes} e = record {
-      to = omega arith;
-      decides =
-          t.decides
-          ∙ ap (λ (b : Bool). all && b) (next test positions inside)
-          ∙ rw (← e) (sym (and_assoc all passes (every test (drop (k + 1) positions))));
-    }
-
-    pub testing-end : length positions ≤ k → all ≡ every test positions
-    testing-end past =
-        let end : k ≡ length positions = omega (arith, t.to) in
-        sym (t.decides ∙ rw (end, drop-length positions) (and-true all))
-
--- ---- block by block
-
--- of two parts of a list each decides
-module _ (test : ℕ → Bool) where
-  every-parts : (xs ys : List ℕ) → every test (xs ++ ys) ≡ (every test xs && every test ys)
-  every-parts [] ys = refl
-  every-parts (x ∷ xs) ys = rw (every-parts xs ys) (sym (and_assoc (test x) (every test xs) (every test ys)))
-
-  module _ (n : ℕ) (rest : List ℕ) where
-    parts : every test rest ≡ (every test (take n rest) && every test (drop n rest))
-    parts = ap (every test) (sym (take-append-drop n rest)) ∙ every-parts (take n rest) (drop n rest)
-
-    pub block_on : every test (take n rest) ≡ true
-        → every test rest ≡ every test (take (length rest - n) (drop n rest))
-    block_on e = parts ∙ rw (e, take_all (length rest - n) (drop n rest) (omega (arith, length-drop n rest)))
-
-    pub block-off : every test (take n rest) ≡ false → every test rest ≡ false
-    block-off e = parts ∙ rw e
 
 -- ---- the numbers
 
@@ -81,56 +39,42 @@ pub record Writing (test : ℕ → Bool) (carries : ℕ → ℕ) (positions befo
   pub long : length carried ≡ length before
   pub made : carried ≡ written_to carries positions before k
 
-module _ {test : ℕ → Bool} {carries : ℕ → ℕ} {positions before : List ℕ} where
-  pub writing_start : every test positions ≡ true → length positions ≡ length before
-      → Writing test carries positions before before 0
-  writing_start e same = record { to = omega arith; passes = e; room = same; long = refl; made = refl }
+module _ {test : ℕ → Bool} {carries : ℕ → ℕ} {positions before carried : List ℕ} {k : ℕ}
+    (w : Writing test carries positions before carried k) where
+  -- a number is written behind the others
+  one_more : k < length positions
+      → set (written_to carries positions before k) k (carries (get_or positions k 0))
+      ≡ written_to carries positions before (k + 1)
+  one_more inside =
+      let front = map carries (take k positions) in
+      let long : length front ≡ k =
+      length-map (take k positions) carries ∙ length-take-le k positions (omega arith) in
+      rw (
+        add-one,
+        take-suc positions k 0 inside,
+        map-append,
+        append_assoc,
+        drop-cons before k 0 (omega (arith, w.room)),
+      )
+      (set_at front (get_or before k 0) (drop (suc k) before) (carries (get_or positions k 0)) k long)
 
-  module _ {carried : List ℕ} {k : ℕ} (w : Writing test carries positions before carried k) where
-    -- a number is written behind the others
-    one_more : k < length positions
-        → set (written_to carries positions before k) k (carries (get_or positions k 0))
-        ≡ written_to carries positions before (k + 1)
-    one_more inside =
-        let front = map carries (take k positions) in
-        let long : length front ≡ k =
-        length-map (take k positions) carries ∙ length-take-le k positions (omega arith) in
-        rw (
-          add-one,
-          take-suc positions k 0 inside,
-          map-append,
-          append_assoc,
-          drop-cons before k 0 (omega (arith, w.room)),
-        )
-        (set_at front (get_or before k 0) (drop (suc k) before) (carries (get_or positions k 0)) k long)
+  -- of positions that all pass the next one does, and so do those behind it
+  here-passes : k < length positions
+      → (test (get_or positions k 0) ≡ true) × (every test (drop (k + 1) positions) ≡ true)
+  here-passes inside =
+      both (test (get_or positions k 0)) (every test (drop (k + 1) positions))
+      (sym (next test positions inside) ∙ w.passes)
+    where
+      both : (b c : Bool) → (b && c) ≡ true → (b ≡ true) × (c ≡ true)
+      both true c e = (refl, e)
+      both false c e = let z : ◌≡◌ {A = ℕ} 0 1 = cc in absurd (omega arith)
 
-    -- of positions that all pass the next one does, and so do those behind it
-    here-passes : k < length positions
-        → (test (get_or positions k 0) ≡ true) × (every test (drop (k + 1) positions) ≡ true)
-    here-passes inside =
-        both (test (get_or positions k 0)) (every test (drop (k + 1) positions))
-        (sym (next test positions inside) ∙ w.passes)
-      where
-        both : (b c : Bool) → (b && c) ≡ true → (b ≡ true) × (c ≡ true)
-        both true c e = (refl, e)
-        both false c e = let z : ◌≡◌ {A = ℕ} 0 1 = cc in absurd (omega arith)
-
-    -- the next position passes
-    pub writing-next : k < length positions → test (get_or positions k 0) ≡ true
-    writing-next inside = (here-passes inside).0
-
-    pub writing_step : k < length positions → {x : ℕ} → x ≡ carries (get_or positions k 0)
-        → Writing test carries positions before (set carried k x) (k + 1)
-    writing_step inside {x} e = record {
-      to = omega arith;
-      passes = (here-passes inside).1;
-      room = w.room;
-      long = length-set carried k x ∙ w.long;
-      made = ap₂ (λ (l : List ℕ) (y : ℕ). set l k y) w.made e ∙ one_more inside;
-    }
-
-    pub writing-end : length positions ≤ k → carried ≡ map carries positions
-    writing-end past =
-        let all : k ≡ length positions = omega (arith, w.to) in
-        w.made
-        ∙ rw (all, take-length positions, w.room, drop-length before) (append-nil (map carries positions))
+  pub writing_step : k < length positions → {x : ℕ} → x ≡ carries (get_or positions k 0)
+      → Writing test carries positions before (set carried k x) (k + 1)
+  writing_step inside {x} e = record {
+    to = omega arith;
+    passes = (here-passes inside).1;
+    room = w.room;
+    long = length-set carried k x ∙ w.long;
+    made = ap₂ (λ (l : List ℕ) (y : ℕ). set l k y) w.made e ∙ one_more inside;
+  }

@@ -11,6 +11,7 @@ use mathlib.Core.Bool.{Bool, true, false}
 use mathlib.Core.List.{List, [], ◌∷◌, map}
 use mathlib.Core.Logic.{◌≢◌}
 use lib.ListN.{length}
+use Rattle.std.specs.Prelude.{Result, Ok, Err}
 use Rattle.script.specs.Reading.{read_script}
 use Rattle.script.specs.Finding.{finding_of}
 use Rattle.script.specs.declared.refusal.Refusal.{Refusal}
@@ -20,16 +21,13 @@ use Rattle.refinement.specs.Match.{left, spanned, between, carry_to, carry}
 use Rattle.refining.specs.Refining.{with_number}
 use Rattle.positions.specs.CarryingAll.{every, kept_by, carrying_all_of}
 use Rattle.positions.specs.Demands.{carried_all_answer, CarryingAllDemand}
-use Rattle.positions.specs.declared.CarriedAll.{CarriedAll}
-use Rattle.positions.specs.declared.CarriedAll.TheVariants.{All}
 use Rattle.positions.proofs.Demands.{all-refused, all_found, over-differ, over-off, over-all, all-demand}
 use Rattle.carrying.specs.Ways.{crossing_of}
 use Rattle.carrying.specs.declared.Way.{Way}
-use Rattle.carrying.specs.declared.Crossing.{Crossing}
 use Rattle.carrying.proofs.Ways.{Crossed, crossing-refused, crossed, way_test, way-carries}
 
 module _ {script : List ℕ} {number : ℕ} {side : Side} {positions lent : List ℕ} where
-  pub replied : {reply : CarriedAll} {lent' : List ℕ}
+  pub replied : {reply : Result (Unit {0}) Refusal} {lent' : List ℕ}
       → carrying_all_of script number side positions lent ≡ record { reply = reply; carried = lent' }
       → (reply ≡ (carrying_all_of script number side positions lent).reply)
       × ((lent' ≡ (carrying_all_of script number side positions lent).carried)
@@ -52,13 +50,13 @@ module _ {script : List ℕ} {number : ℕ} {side : Side} {way : Way} (c : Cross
   carries-all [] = refl
   carries-all (x ∷ xs) = ap₂ ◌∷◌ (way-carries c x) (carries-all xs)
 
-module _ (script : List ℕ) (number : ℕ) (side : Side) (positions lent : List ℕ) {crossing : Crossing}
+module _ (script : List ℕ) (number : ℕ) (side : Side) (positions lent : List ℕ) {crossing : Result Way Refusal}
     (crosses : crossing ≡ crossing_of (finding_of (read_script script) number) side) where
-  pub no_way : {r : Refusal} → crossing ≡ Crossing.Refused r
-      → carrying_all_of script number side positions lent ≡ kept_by r lent
-  no_way e = all-refused script number side positions lent (crossing-refused script number side crosses e)
+  pub no_way : {r : Refusal} {reply : Result (Unit {0}) Refusal} → crossing ≡ Err r → reply ≡ Err r
+      → carrying_all_of script number side positions lent ≡ record { reply = reply; carried = lent }
+  no_way e is = rw is (all-refused script number side positions lent (crossing-refused script number side crosses e))
 
-  module _ {way : Way} (over : crossing ≡ Crossing.Over way) where
+  module _ {way : Way} (over : crossing ≡ Ok way) where
     pub other_length : length positions ≢ length lent
         → carrying_all_of script number side positions lent ≡ kept_by CountsDiffer lent
     other_length n =
@@ -77,10 +75,10 @@ module _ (script : List ℕ) (number : ℕ) (side : Side) (positions lent : List
 
       pub all-on : test ≡ true → {lent' : List ℕ}
           → lent' ≡ map (carry_to way.reversed way.from way.to way.to_right) positions
-          → carrying_all_of script number side positions lent ≡ record { reply = All; carried = lent' }
+          → carrying_all_of script number side positions lent ≡ record { reply = Ok tt; carried = lent' }
       all-on on is =
           let c = crossed script number side crosses over in
           all_found script number side positions lent c.found
           ∙ over-all (with_number number c.over) side positions lent same
           (sym (tests-all c positions) ∙ sym tests ∙ on)
-          ∙ ap (λ (l : List ℕ). record { reply = All; carried = l }) (sym (is ∙ carries-all c positions))
+          ∙ ap (λ (l : List ℕ). record { reply = Ok tt; carried = l }) (sym (is ∙ carries-all c positions))

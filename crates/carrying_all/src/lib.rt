@@ -6,8 +6,7 @@ ghost use Rattle.refinement.specs.Match.{between, carry_to};
 ghost use Rattle.positions.specs.CarryingAll.{every, carrying_all_of};
 ghost use Rattle.positions.specs.Demands.{carried_all_answer, CarryingAllDemand};
 
-use carrying::{Crossing, Way};
-use positions::CarriedAll;
+use carrying::Way;
 use refinement::Side;
 use script::Refusal;
 
@@ -20,10 +19,8 @@ fn spans_block(left: u32, right: u32, positions: &[u32]) -> bool
     ensures { result ≡ every (between left right) positions.now }
 {
     let mut all = true;
-    let mut k = 0;
-    while k < positions.len() {
-        all = all & refinement::spans(left, right, positions[k]);
-        k += 1;
+    for position in positions {
+        all &= refinement::spans(left, right, *position);
     }
     all
 }
@@ -32,14 +29,12 @@ fn spans_block(left: u32, right: u32, positions: &[u32]) -> bool
 fn spans_all(left: u32, right: u32, positions: &[u32]) -> bool
     ensures { result ≡ every (between left right) positions.now }
 {
-    let mut rest = positions;
-    while BLOCK < rest.len() {
-        if !spans_block(left, right, &rest[..BLOCK]) {
+    for block in positions.chunks(BLOCK) {
+        if !spans_block(left, right, block) {
             return false;
         }
-        rest = &rest[BLOCK..];
     }
-    spans_block(left, right, rest)
+    true
 }
 
 // Writes where the way leads each of the positions, all of which are on it.
@@ -50,10 +45,9 @@ fn carry_each(way: Way, positions: &[u32], carried: &mut [u32])
     ensures { carried.new
         ≡ map (carry_to way.reversed way.from way.to way.to_right) positions.now }
 {
-    let mut k = 0;
-    while k < positions.len() {
-        carried[k] = refinement::carry(way.from, way.to, way.to_right, way.reversed, positions[k]);
-        k += 1;
+    // By index: a proof knows no element that a zip with `iter_mut` wrote.
+    for (k, position) in positions.iter().enumerate() {
+        carried[k] = refinement::carry(way.from, way.to, way.to_right, way.reversed, *position);
     }
 }
 
@@ -64,24 +58,20 @@ pub fn carry_all(
     side: Side,
     positions: &[u32],
     carried: &mut [u32],
-) -> CarriedAll
+) -> Result<(), Refusal>
     ensures value { result ≡ (carrying_all_of script.now number side positions.now carried.old).reply }
     ensures carried_after { carried.new
         ≡ (carrying_all_of script.now number side positions.now carried.old).carried }
     ensures carrying_all_demand { CarryingAllDemand script.now number side positions.now carried.old
         (carried_all_answer result carried.new) carried.new }
 {
-    match carrying::find_way(script, number, side) {
-        Crossing::Refused(refusal) => CarriedAll::Refused(refusal),
-        Crossing::Over(way) => {
-            if positions.len() != carried.len() {
-                return CarriedAll::Refused(Refusal::CountsDiffer);
-            }
-            if !spans_all(way.from, way.from_right, positions) {
-                return CarriedAll::Refused(Refusal::OffTheMatch);
-            }
-            carry_each(way, positions, carried);
-            CarriedAll::All
-        }
+    let way = carrying::find_way(script, number, side)?;
+    if positions.len() != carried.len() {
+        return Err(Refusal::CountsDiffer);
     }
+    if !spans_all(way.from, way.from_right, positions) {
+        return Err(Refusal::OffTheMatch);
+    }
+    carry_each(way, positions, carried);
+    Ok(())
 }

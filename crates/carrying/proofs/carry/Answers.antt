@@ -1,30 +1,25 @@
--- `carry` meets its contract: it refuses what finding the match refuses and a position off the match, and carries any
+-- `carry` meets its contract: it refuses what finding the way refuses and a position off the match, and carries any
 -- other. Assumes nothing.
-use Rattle.std.proofs.Common.{refl, rules}
-use Rattle.carrying.proofs.Carried.{replied, found-refused, found-off, found-to, from-fits, to-fits}
+use borrow.Author.Rules.{rules}
+use Rattle.std.proofs.Common.{◌≡◌, Err, ◌∙◌}
+use Rattle.carrying.proofs.Carried.{replied, carried-refused, carried-off, carried-to}
 use Rattle.carrying.proofs.carry.Goals as goal
-
-pub overflow_add-from_right : goal.overflow_add-from_right
-overflow_add-from_right c = search (rules, from-fits)
-
-pub overflow_add-to_right : goal.overflow_add-to_right
-overflow_add-to_right c = search (rules, to-fits)
 
 pub returns-then-spans : goal.returns-then-spans
 returns-then-spans c =
     let a = c.args in
     let r = replied
-    (found-to a.script.now a.number a.side a.position c.find_match.ensures.value
-    c.in-Found.is c.on_side-from.ensures refl c.opposite.ensures c.on_side-to.ensures
-    refl refl c.spans.ensures.test c.if-spans.true c.carry.ensures refl)
+    (carried-to a.script.now a.number a.side a.position c.find_way.ensures c.in_ok-way.was c.spans.ensures.test
+    c.if-spans.true c.carry.ensures)
     in
     record { value = r.0; carrying_demand = r.1 }
 
-pub returns-in-Refused : goal.returns-in-Refused
-returns-in-Refused c =
+pub returns-in_err-way : goal.returns-in_err-way
+returns-in_err-way c =
     let a = c.args in
+    let e : c.from_residual.result ≡ Err c.in_err-way.field-0.0 = search rules in
     let r = replied
-    (found-refused a.script.now a.number a.side a.position c.find_match.ensures.value c.in-Refused.is refl)
+    (e ∙ carried-refused a.script.now a.number a.side a.position c.find_way.ensures c.in_err-way.was)
     in
     record { value = r.0; carrying_demand = r.1 }
 
@@ -32,7 +27,7 @@ pub returns-else-spans : goal.returns-else-spans
 returns-else-spans c =
     let a = c.args in
     let r = replied
-    (found-off a.script.now a.number a.side a.position c.find_match.ensures.value
-    c.in-Found.is c.on_side-from.ensures refl refl c.spans.ensures.test c.if-spans.false)
+    (carried-off a.script.now a.number a.side a.position c.find_way.ensures c.in_ok-way.was c.spans.ensures.test
+    c.if-spans.false)
     in
     record { value = r.0; carrying_demand = r.1 }

@@ -9,7 +9,7 @@ returns-then-positions-carried c =
     let a = c.args in
     let r = replied
     (other_length a.script.now a.number a.side a.positions.now a.carried.now c.find_way.ensures
-    c.in-Over.is (search rules))
+    c.in_ok-way.was (search rules))
     in
     record { value = r.0; carried_after = r.1.0; carrying_all_demand = r.1.1 }
 
@@ -18,24 +18,24 @@ returns-then-not-spans_all c =
     let a = c.args in
     let r = replied
     (some-off a.script.now a.number a.side a.positions.now a.carried.now c.find_way.ensures
-    c.in-Over.is (search rules) c.spans_all.ensures c.if-not-spans_all.true)
+    c.in_ok-way.was (search rules) c.spans_all.ensures c.if-not-spans_all.true)
     in
     record { value = r.0; carried_after = r.1.0; carrying_all_demand = r.1.1 }
 
-pub returns-in-Refused : goal.returns-in-Refused
-returns-in-Refused c =
+pub returns-in_err-way : goal.returns-in_err-way
+returns-in_err-way c =
     let a = c.args in
     let r = replied
     (no_way a.script.now a.number a.side a.positions.now a.carried.now c.find_way.ensures
-    c.in-Refused.is)
+    c.in_err-way.was (search rules))
     in
     record { value = r.0; carried_after = r.1.0; carrying_all_demand = r.1.1 }
 
-pub returns-else-not-spans_all : goal.returns-else-not-spans_all
-returns-else-not-spans_all c =
+pub returns : goal.returns
+returns c =
     let a = c.args in
     let r = replied
     (all-on a.script.now a.number a.side a.positions.now a.carried.now c.find_way.ensures
-    c.in-Over.is (search rules) c.spans_all.ensures c.if-not-spans_all.false c.carry_each.ensures)
+    c.in_ok-way.was (search rules) c.spans_all.ensures c.if-not-spans_all.false c.carry_each.ensures)
     in
     record { value = r.0; carried_after = r.1.0; carrying_all_demand = r.1.1 }

@@ -1,5 +1,5 @@
--- `carry_each` meets its contract. The loop has written the first k numbers, and what is left is on the way; its
--- measure is what is left. Assumes nothing.
+-- `carry_each` meets its contract. The loop has written the first k numbers, and what is left is on the way. Assumes
+-- nothing.
 use borrow.Author.Rules.{rules}
 use Rattle.carrying_all.proofs.Loops.{writing_step}
 use Rattle.carrying_all.proofs.carry_each.Goals as goal

@@ -1,13 +1,12 @@
--- `spans_all` meets its contract. The loop keeps that what is left decides; its measure is what is left. Assumes
--- nothing.
+-- What is left decides.
+use Prim.Native.Nat.{◌<◌}
 use mathlib.Core.Path.{◌≡◌}
-use lib.ListN.{length}
+use Rattle.std.specs.Slice.Iter.{chunks_rest, chunks_size}
 use Rattle.refinement.specs.Match.{between}
 use Rattle.positions.specs.CarryingAll.{every}
 use Rattle.carrying_all.proofs.spans_all.Given as goal
 
-abbrev pub invariant-loop-rest : goal.invariant-loop-rest
-invariant-loop-rest l = every (between l.left l.right) l.positions ≡ every (between l.left l.right) l.rest
-
-abbrev pub decreases-loop-rest : goal.decreases-loop-rest
-decreases-loop-rest l = length l.rest
+abbrev pub invariant-loop-block : goal.invariant-loop-block
+invariant-loop-block l =
+    (0 < chunks_size l.block-iterator)
+    × (every (between l.left l.right) l.positions ≡ every (between l.left l.right) (chunks_rest l.block-iterator))
