@@ -1,17 +1,15 @@
 -- What was added to a set is sorted, what is new of it is kept and merged with the newly found run.
 --     base_done, done-fresh, base-fresh, used-top, used-limit, used-within     the order of the ends of a set's runs
---     has-notes, still_noted, good-standing       the notes of a set, that they stay, and its runs
---     good-sortable       what was added can be sorted
+--     has-notes, still_noted      the notes of a set, and that they stay
 --     sorted_apart        then it is a run behind the others
---     new-mergeable, new-spare, new-between       what is new can be merged with the newly found run; where that ends
+--     new-mergeable, new-spare    what is new can be merged with the newly found run
 --     gathered-set        the set that gathering leaves
---     gathered, gathered_none     it keeps the members; and nothing is to be done where nothing was added
+--     gathered            it keeps the members
 -- Assumes nothing.
 use Prim.Native.Nat.{ℕ, ◌≤◌, ◌<◌}
 use native.Mathlib.Omega.{arith}
 use mathlib.Core.Path.{◌≡◌, refl, sym, ◌∙◌}
 use mathlib.Core.List.{List}
-use mathlib.Core.Logic.Iff
 use mathlib.Core.Logic.{◌↔◌, ◌⊎◌, inl, inr, ⊎_elim}
 use lib.ListN.{length, get_or}
 use Rattle.runs.specs.Runs.{In, DistinctIn, Same}
@@ -19,10 +17,10 @@ use Rattle.runs.proofs.Membership.{lt-or-le, in-wide, in_parts, in-or-not, in-sa
 use Rattle.merging.specs.Steps.{Mergeable}
 use Rattle.merging.proofs.Rearranging.{MergedTo, merged-wide, merged-distinct}
 use Rattle.merging_wide.specs.Wide.{Spare, MergedOver}
-use Rattle.sorting.specs.Sorting.{Sortable, Sorted}
+use Rattle.sorting.specs.Sorting.{Sorted}
 use Rattle.noting.specs.Notes.{Notes, Noted, Remembered}
 use Rattle.noting.proofs.Noting.{noted-same}
-use Rattle.cut_set.specs.Store.{Good, Gathered, NothingAdded, Standing, SortedApart, NewOnes}
+use Rattle.cut_set.specs.Store.{Good, Gathered, SortedApart, NewOnes}
 use Rattle.cut_set.specs.declared.CutSet.{CutSet}
 
 module _ {xs : List ℕ} {s : CutSet} (g : Good xs s) where
@@ -44,10 +42,6 @@ module _ {xs : List ℕ} {s : CutSet} (g : Good xs s) where
   pub used-within : s.used ≤ length xs
   used-within = omega (arith, used-limit, g.within)
 
-  pub good-sortable : Sortable xs s.fresh s.used s.used
-  good-sortable =
-      record { order = g.added; apart = omega arith; within = omega (arith, g.room, g.notes.order, g.within) }
-
   pub has-notes : s.top < s.limit → Notes xs s.top s.limit
   has-notes h = record { some = h; few = g.notes.few; within = g.within }
 
@@ -55,16 +49,6 @@ module _ {xs : List ℕ} {s : CutSet} (g : Good xs s) where
   pub still_noted : (ys : List ℕ) → Same xs ys s.top s.limit → s.top < s.limit
       → (y : ℕ) → In xs s.base s.fresh y → Noted ys s.top s.limit y
   still_noted ys e h y i = noted-same ys (has-notes h) e y (g.notes.noted h y i)
-
-  pub good-standing : Standing xs s
-  good-standing = record {
-    finished_long = g.finished_long;
-    finished_middle = g.finished_middle;
-    finished_short = g.finished_short;
-    found_run = g.found_run;
-    notes = g.notes;
-    within = g.within;
-  }
 
 -- the set with its newly found run up to `end`, and nothing added behind it
 abbrev pub gathered_to : CutSet → ℕ → CutSet
@@ -154,9 +138,6 @@ module _ {xs ys : List ℕ} {s : CutSet} {end : ℕ} (g : Good xs s) (n : length
       order = r_top;
       within = omega (arith, m, n, g.notes.order, g.within);
     }
-
-    pub new-between : (s.done ≤ r) × (r ≤ s.top)
-    new-between = (omega (arith, done-fresh g, q.from), r_top)
 
     module _ {us ws : List ℕ} (t : length us ≡ length zs) (w : length ws ≡ length us)
         (o : MergedOver zs s.done r r s.top us) (v : Remembered us s.done r s.top s.limit ws) where
@@ -261,21 +242,3 @@ module _ {xs ys : List ℕ} {s : CutSet} {end : ℕ} (g : Good xs s) (n : length
         run = merged.rising;
         ready = refl;
       }
-
-pub gathered_none : {xs : List ℕ} {s : CutSet} → Good xs s → NothingAdded s → Gathered xs s xs s
-gathered_none {xs} {s} g e = record {
-  kept = record {
-    good = g;
-    base_same = refl;
-    limit_same = refl;
-    members = λ y. Iff.rfl;
-    outside = λ k o. refl;
-  };
-  done_same = refl;
-  finished = λ y. Iff.rfl;
-  only = λ y i. i;
-  run_kept = λ y i. i;
-  more = omega arith;
-  run = rw (sym e) g.found_run.rising;
-  ready = e;
-}

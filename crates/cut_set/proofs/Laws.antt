@@ -8,7 +8,7 @@
 --     stored_same         storing numbers with P, which are those with Q
 --     cramped-wide        no room for one with P is none for one with Q
 --     cramped-then        storing numbers with P, and then no room for one with Q
--- Not here: what stays of a run, Membership.in-same; which members a walk meets, Searching.walk-from.
+-- Not here: what stays of a run, Membership.in-same; which members a walk meets, Searching.walk_from.
 -- Assumes nothing.
 use Prim.Native.Nat.{ℕ, ◌≤◌}
 use native.Mathlib.Omega.{arith}

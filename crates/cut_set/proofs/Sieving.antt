@@ -1,7 +1,6 @@
 -- Members are taken out of a run that stands behind them, one of the set's runs after the other.
 --     Sieved              what is left of the run: the numbers with Q
 --     sieve-first, sieve-then     one run is taken out, and then another
---     sieve-siftable      another one can be taken out
 --     sieved-all          when all four are, what is left is new
 --     kept-standing, kept-known, kept_new    the same number by number: the runs stand, what is known, and what is left
 -- Assumes nothing.
@@ -11,10 +10,10 @@ use mathlib.Core.Path.{◌≡◌, sym, ◌∙◌}
 use mathlib.Core.List.{List}
 use mathlib.Core.Logic.{◌↔◌, ⊎_elim}
 use mathlib.Core.Bool.{Bool}
-use lib.ListN.{length, get_or}
+use lib.ListN.{get_or}
 use Rattle.runs.specs.Runs.{In, Run, RisingIn, Same, Answers}
 use Rattle.runs.proofs.Membership.{in-wide, in_parts, in-same, run-same}
-use Rattle.sifting.specs.Sifting.{Siftable, Sifted}
+use Rattle.sifting.specs.Sifting.{Sifted}
 use Rattle.sifting.proofs.Keeping.{Keeping}
 use Rattle.noting.proofs.Noting.{noted-same}
 use Rattle.cut_set.specs.Store.{Standing, SortedApart, NewOnes}
@@ -42,17 +41,6 @@ sieve-first p = record {
 }
 
 module _ {xs ys : List ℕ} {at end r : ℕ} {Q : ℕ → Type 0} (p : Sieved xs at end Q ys r) {lo hi : ℕ} (h : hi ≤ at) where
-  pub sieve-siftable : Run xs lo hi → Run xs at end → length ys ≡ length xs → Siftable ys lo hi at r
-  sieve-siftable u v n = record {
-    first = run-same {xs = xs} (λ k a b. p.before k (omega arith)) n u;
-    second = record {
-      order = p.from;
-      within = omega (arith, n, p.to, v.within);
-      rising = p.rising;
-    };
-    order = h;
-  }
-
   pub sieve-then :
       {zs : List ℕ} {r' : ℕ} → Sifted ys lo hi at r zs r' → Sieved xs at end (λ y. Q y × (In xs lo hi y → ⊥)) zs r'
   sieve-then {zs} {r'} q = record {

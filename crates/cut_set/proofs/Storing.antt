@@ -1,12 +1,10 @@
 -- What adding to a set does.
 --     outside-same        what is outside a part is outside the same part
---     room-told           half of one more, rounded down, is half rounded up
 --     grown               one place more is used
 --     appended            a number in the first unused place is stored
 --     gathered-stored     storing after gathering
---     good-bare, gathered-bare    a set without its notes
 -- Assumes nothing.
-use Prim.Native.Nat.{ℕ, ◌+◌, ◌-◌, ◌/◌, ◌%◌, ◌≤◌, ◌<◌}
+use Prim.Native.Nat.{ℕ, ◌+◌, ◌≤◌, ◌<◌}
 use native.Mathlib.Omega.{arith}
 use mathlib.Core.Path.{◌≡◌, refl, sym, ◌∙◌}
 use mathlib.Core.List.{List}
@@ -16,17 +14,13 @@ use lib.ListN.{length, set, length-set}
 use lib.Seq.{get_or-set_same, get_or-set_other}
 use Rattle.runs.specs.Runs.{In, Same}
 use Rattle.runs.proofs.Membership.{in-wide, in_parts, in-same, run-same}
-use Rattle.cut_set.specs.Store.{Good, Gathered, Stored, RoomForOne, bare}
+use Rattle.cut_set.specs.Store.{Good, Gathered, Stored, RoomForOne}
 use Rattle.cut_set.specs.declared.CutSet.{CutSet}
 use Rattle.cut_set.proofs.Gathering.{done-fresh, base-fresh, still_noted}
 
 pub outside-same : (s t : CutSet) {k : ℕ} → t.base ≡ s.base → t.limit ≡ s.limit → (k < s.base) ⊎ (s.limit ≤ k) →
     (k < t.base) ⊎ (t.limit ≤ k)
 outside-same s t a b = ⊎_elim (λ h. inl (omega arith)) (λ h. inr (omega arith))
-
-pub room-told : (s : CutSet) → s.fresh ≤ s.used
-    → (s.used - s.fresh) / 2 + (s.used - s.fresh) % 2 < s.top - s.used → RoomForOne s
-room-told s h l = omega arith
 
 abbrev pub grown : CutSet → CutSet
 grown s = record {
@@ -118,36 +112,4 @@ gathered-stored {s = s} {t = t} g p = record {
   held = p.held;
   more = omega (arith, g.more, p.more);
   outside = λ k o. p.outside k (outside-same s t g.kept.base_same g.kept.limit_same o) ∙ g.kept.outside k o;
-}
-
-pub good-bare : {xs : List ℕ} {s : CutSet} → Good xs s → Good xs (bare s)
-good-bare g = record {
-  finished_long = g.finished_long;
-  finished_middle = g.finished_middle;
-  finished_short = g.finished_short;
-  found_run = g.found_run;
-  few_finished = g.few_finished;
-  added = g.added;
-  room = omega (arith, g.room, g.notes.order);
-  notes = record { order = omega arith; few = omega arith; noted = λ h y i. absurd (omega arith) };
-  within = g.within;
-  distinct = g.distinct;
-}
-
-pub gathered-bare : {xs ys : List ℕ} {s t : CutSet} → Gathered xs s ys t → Gathered xs s ys (bare t)
-gathered-bare g = record {
-  kept = record {
-    good = good-bare g.kept.good;
-    base_same = g.kept.base_same;
-    limit_same = g.kept.limit_same;
-    members = g.kept.members;
-    outside = g.kept.outside;
-  };
-  done_same = g.done_same;
-  finished = g.finished;
-  only = g.only;
-  run_kept = g.run_kept;
-  more = g.more;
-  run = g.run;
-  ready = g.ready;
 }

@@ -36,7 +36,7 @@ pub struct CutSet {
 }
 
 // What adding a number answers: the set with it, or the set as it stands where no place is left for it, gathered and
-// without notes.
+// without notes. Not a `Result`: in both cases the set is handed on.
 #[derive(Drop)]
 pub enum Added {
     Held(CutSet),
@@ -49,14 +49,14 @@ pub fn empty(a: &[u32], base: usize, limit: usize) -> CutSet
     ensures { Emptied a.now base limit result }
 {
     CutSet {
-        base: base,
+        base,
         long: base,
         mid: base,
         done: base,
         fresh: base,
         used: base,
         top: limit,
-        limit: limit,
+        limit,
     }
 }
 
@@ -65,16 +65,10 @@ fn among(a: &[u32], s: CutSet, x: u32) -> bool
     requires { Standing a.now s }
     ensures { Answers (In a.now s.base s.fresh x) result }
 {
-    if runs::has(a, s.mid, s.done, x) {
-        return true;
-    }
-    if runs::has(a, s.long, s.mid, x) {
-        return true;
-    }
-    if runs::has(a, s.base, s.long, x) {
-        return true;
-    }
-    runs::has(a, s.done, s.fresh, x)
+    runs::has(a, s.mid, s.done, x)
+        || runs::has(a, s.long, s.mid, x)
+        || runs::has(a, s.base, s.long, x)
+        || runs::has(a, s.done, s.fresh, x)
 }
 
 // Whether x is a member of a set to which nothing was added since it was gathered.
@@ -92,10 +86,7 @@ fn known(a: &[u32], s: CutSet, x: u32) -> bool
     requires top_lt_limit { s.top < s.limit }
     ensures { Answers (In a.now s.base s.fresh x) result }
 {
-    if !noted(a, s.top, s.limit, x) {
-        return false;
-    }
-    among(a, s, x)
+    noted(a, s.top, s.limit, x) && among(a, s, x)
 }
 
 // Takes the members out of the run [fresh, end) number by number, where there are notes.
@@ -105,13 +96,11 @@ fn sift_noted(a: &mut [u32], s: CutSet, end: usize) -> usize
     ensures { NewOnes a.old s end a.new result }
 {
     let mut kept = s.fresh;
-    let mut k = s.fresh;
-    while k < end {
+    for k in s.fresh..end {
         let x = a[k];
         let old = known(a, s, x);
         a[kept] = x;
         kept += counted(old);
-        k += 1;
     }
     kept
 }
@@ -135,12 +124,11 @@ fn sift(a: &mut [u32], s: CutSet, end: usize) -> usize
     requires { SortedApart a.old s end }
     ensures { NewOnes a.old s end a.new result }
 {
-    if s.top < s.limit {
-        if end - s.fresh <= FEW {
-            return sift_noted(a, s, end);
-        }
+    if s.top < s.limit && end - s.fresh <= FEW {
+        sift_noted(a, s, end)
+    } else {
+        sift_runs(a, s, end)
     }
-    sift_runs(a, s, end)
 }
 
 // The set with its newly found members in one rising run, the places [done, used).
@@ -156,14 +144,9 @@ pub fn gather(a: &mut [u32], s: CutSet) -> CutSet
     merge_wide(a, s.done, s.fresh, end, end, s.top);
     remember(a, s.done, end, s.top, s.limit);
     CutSet {
-        base: s.base,
-        long: s.long,
-        mid: s.mid,
-        done: s.done,
         fresh: end,
         used: end,
-        top: s.top,
-        limit: s.limit,
+        ..s
     }
 }
 
@@ -173,16 +156,7 @@ pub fn gather_bare(a: &mut [u32], s: CutSet) -> CutSet
     ensures { GatheredBare a.old s a.new result }
 {
     let t = gather(a, s);
-    CutSet {
-        base: t.base,
-        long: t.long,
-        mid: t.mid,
-        done: t.done,
-        fresh: t.fresh,
-        used: t.used,
-        top: t.limit,
-        limit: t.limit,
-    }
+    CutSet { top: t.limit, ..t }
 }
 
 // Whether there is a place for one number more, with those that sorting it takes. Adding is then a store.
@@ -201,17 +175,10 @@ pub fn append(a: &mut [u32], s: CutSet, x: u32) -> CutSet
     requires room_for_one { RoomForOne s }
     ensures { Stored (λ y. y ≡ x) a.old s a.new result }
 {
-    let used = s.used;
-    a[used] = x;
+    a[s.used] = x;
     CutSet {
-        base: s.base,
-        long: s.long,
-        mid: s.mid,
-        done: s.done,
-        fresh: s.fresh,
-        used: used + 1,
-        top: s.top,
-        limit: s.limit,
+        used: s.used + 1,
+        ..s
     }
 }
 
@@ -222,12 +189,12 @@ fn add_tightly(a: &mut [u32], s: CutSet, x: u32) -> Added
 {
     let t = gather_bare(a, s);
     if t.used < t.limit {
-        return Added::Held(append(a, t, x));
+        Added::Held(append(a, t, x))
+    } else if member(a, t, x) {
+        Added::Held(t)
+    } else {
+        Added::Full(t)
     }
-    if member(a, t, x) {
-        return Added::Held(t);
-    }
-    Added::Full(t)
 }
 
 // Adds x as newly found, unless it is a member.
@@ -236,9 +203,10 @@ pub fn add(a: &mut [u32], s: CutSet, x: u32) -> Added
     ensures { Adding a.old s x a.new result }
 {
     if has_room(s) {
-        return Added::Held(append(a, s, x));
+        Added::Held(append(a, s, x))
+    } else {
+        add_tightly(a, s, x)
     }
-    add_tightly(a, s, x)
 }
 
 // The place of the first newly found member that is at least x. From there to used they rise.

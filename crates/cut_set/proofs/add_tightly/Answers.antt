@@ -6,8 +6,8 @@ use Rattle.cut_set.proofs.Storing.{gathered-stored}
 use borrow.Author.Rules.{rules}
 use Rattle.cut_set.proofs.add_tightly.Goals as goal
 
-pub returns : goal.returns
-returns c =
+pub returns-else-member : goal.returns-else-member
+returns-else-member c =
     let now = c.gather_bare-t.ensures in
     record {
       stored = gathered-stored now.gathered (stored-none now.gathered.kept.good (λ y h. h.1));

@@ -1,5 +1,4 @@
--- `cut_set::sift_noted` meets its contract: the invariant is Keeping, where what stands in a run is known. The measure is
--- what is left of the numbers.
+-- `cut_set::sift_noted` meets its contract: each number is kept unless it stands in a run.
 -- Assumes nothing.
 use mathlib.Core.Path.{refl}
 use Rattle.sifting.proofs.Keeping.{keep-step}
