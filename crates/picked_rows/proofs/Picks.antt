@@ -1,10 +1,9 @@
 -- Rows of one share picked out of a run, one row after the other.
 --     Picking                the rows of the share from `from` to k are picked, and are no more than the rows passed
---     picking-starts         before the first row
 --     picking-on             after one more row, whose number is written down in any case and kept if it is picked
 -- Assumes nothing.
-use Prim.Native.Nat.{ℕ, ◌+◌, ◌≤◌, ◌<◌, zero-le}
-use mathlib.Core.Bool.{cond}
+use Prim.Native.Nat.{ℕ, ◌+◌, ◌≤◌, ◌<◌}
+use mir.Val.{bool_byte}
 use mathlib.Core.Path.{◌≡◌, sym, ◌∙◌}
 use mathlib.Core.List.{List}
 use native.Mathlib.Omega.{arith}
@@ -22,21 +21,6 @@ use Rattle.distinct_store.specs.declared.Dealing.{Dealing}
 pub record Picking (by : Dealing) (share : ℕ) (rs : List Row) (from k : ℕ) (ns : List ℕ) (used : ℕ) : Type 0 where
   pub few : from + used ≤ k
   pub picked : Picked by share rs from k ns used
-
-pub picking-starts : (by : Dealing) (share : ℕ) (rs : List Row) (from : ℕ) (ns : List ℕ)
-    → Picking by share rs from from ns 0
-picking-starts by share rs from ns =
-    record {
-      few = omega arith;
-      picked = record {
-        room = zero-le;
-        above = λ i l. absurd (omega arith);
-        below = λ i l. absurd (omega arith);
-        mine = λ i l. absurd (omega arith);
-        rising = λ i j l l'. absurd (omega arith);
-        all = λ k l l' m. absurd (omega arith);
-      };
-    }
 
 module _ {by : Dealing} {share : ℕ} {rs : List Row} {from k : ℕ} {ns : List ℕ} {used : ℕ}
     (p : Picking by share rs from k ns used) (room : used < length ns) where
@@ -97,7 +81,7 @@ module _ {by : Dealing} {share : ℕ} {rs : List Row} {from k : ℕ} {ns : List 
             ];
       }
 
-  pub picking-on : (dealt more : ℕ) → dealt ≡ share_of by (row_at rs k) → more ≡ cond (eqb dealt share) 1 0
+  pub picking-on : (dealt more : ℕ) → dealt ≡ share_of by (row_at rs k) → more ≡ bool_byte (eqb dealt share)
       → Picking by share rs from (k + 1) (set ns used k) (used + more)
   picking-on dealt more it told =
       elim (ℕ_discrete dealt share) [

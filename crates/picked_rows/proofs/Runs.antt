@@ -1,7 +1,6 @@
 -- The picked rows of a run, enrolled one after the other.
 --     dealt-passed              after rows of other shares
 --     Gone                      the first i of them are enrolled, and the rows of the share from `at` on are the others
---     gone-starts               before the first
 --     gone-next, gone-kept      the next is a row, and the store is kept up to it
 --     gone-known, gone-fresh    after one whose piece has its first row, and after a first row
 --     gone-bound, gone-all      no more counted than rows; behind the last the whole run is dealt
@@ -50,20 +49,6 @@ pub record Gone (by : Dealing) (share : ℕ) (rs : List Row) (from to : ℕ) (ns
   pub next : (j : ℕ) → i ≤ j → j < c → at ≤ get_or ns j 0
   pub rest : (k : ℕ) → at ≤ k → k < to → share_of by (row_at rs k) ≡ share
       → (j : ℕ) × (i ≤ j) × (j < c) × (get_or ns j 0 ≡ k)
-
-pub gone-starts : {by : Dealing} {share : ℕ} {rs : List Row} {from to : ℕ} {ns : List ℕ} {c : ℕ} {slots : List ℕ}
-    {found : ℕ} → from ≤ to → to ≤ length rs → Picked by share rs from to ns c → Dealt by share rs slots found from
-    → Gone by share rs from to ns c 0 slots found
-gone-starts {from = from} l inside p d =
-    record {
-      inside = inside;
-      picked = p;
-      at = from;
-      reached = l;
-      dealt = d;
-      next = λ j l l'. p.above j l';
-      rest = λ k l l' m. let (j, inside, it) = p.all k l l' m in (j, omega arith, inside, it);
-    }
 
 module _ {by : Dealing} {share : ℕ} {rs : List Row} {from to : ℕ} {ns : List ℕ} {c i : ℕ} {slots : List ℕ} {found : ℕ}
     (g : Gone by share rs from to ns c i slots found) where
