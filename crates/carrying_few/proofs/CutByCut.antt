@@ -19,11 +19,11 @@ use Rattle.cut_set.proofs.Laws.{done-used, stored-none, stored_same, stored-then
 use Rattle.reading_cuts.specs.Reading.{FoundPlace}
 use Rattle.refining.specs.Columns.{Columns, count_of}
 use Rattle.carrying_match.specs.OneMatch.{Ready, Carrying}
-use Rattle.std.specs.Prelude.{Ok, Err}
+use Rattle.std.specs.Prelude.{Err}
 use Rattle.carrying_match.specs.declared.Stop.{Stop}
 use Rattle.cut_set.proofs.Gathering.{base_done, used-limit, used-within}
 use Rattle.carrying_match.proofs.Storing.{same-apart, ready-then}
-use Rattle.carrying_cuts.specs.Worker.{Images, hits_over}
+use Rattle.carrying_cuts.specs.Worker.{Images, hits_over, Working}
 
 pub record CutsPassed (columns : Columns) (xs : List ℕ) (from to : CutSet) (hits most end : ℕ) (ys : List ℕ)
     (set : CutSet) (count at : ℕ) : Type 0 where
@@ -134,8 +134,8 @@ module _ {columns : Columns} {xs : List ℕ} {from to : CutSet} {hits most end :
 
       pub cuts-step :
           {zs : List ℕ} {t : CutSet} {c : ℕ} → length zs ≡ length ys
-          → Carrying (Images columns (count_of columns) (λ z. z ≡ cut)) (hits_over columns (count_of columns) (cut ∷ []))
-          ys set count most zs (Ok (record { hits = c; to = t }))
+          → Stored (Images columns (count_of columns) (λ z. z ≡ cut)) ys set zs t
+          × (c ≡ count + hits_over columns (count_of columns) (cut ∷ [])) × (c ≤ most)
           → CutsPassed columns xs from to hits most end zs t c (at + 1)
       cuts-step n q = record {
         ends = p.ends;
@@ -163,15 +163,14 @@ module _ {columns : Columns} {xs : List ℕ} {from to : CutSet} {hits most end :
           (zs : List ℕ) (stop : Stop)
           → Carrying (Images columns (count_of columns) (λ z. z ≡ cut)) (hits_over columns (count_of columns) (cut ∷ []))
           ys set count most zs (Err stop)
-          → Carrying (Images columns (count_of columns) (Found xs from))
-          (hits_over columns (count_of columns) (found_in xs from)) xs to hits most zs (Err stop)
+          → Working columns (count_of columns) xs from to (found_in xs from) hits most zs (Err stop)
       cuts-stop zs (Stop.Full t) c = cuts-full c
       cuts-stop zs Stop.TooMany m = cuts-excess m
 
     pub cuts-end :
         end ≤ at
-        → Carrying (Images columns (count_of columns) (Found xs from))
-        (hits_over columns (count_of columns) (found_in xs from)) xs to hits most ys (Ok (record { hits = count; to = set }))
+        → Stored (Images columns (count_of columns) (Found xs from)) xs to ys set
+        × (count ≡ hits + hits_over columns (count_of columns) (found_in xs from)) × (count ≤ most)
     cuts-end past =
         let e : at ≡ from.used = omega (arith, p.until, p.ends) in
         let none : hits_over columns (count_of columns) (slice at from.used xs) ≡ 0 =

@@ -23,7 +23,7 @@ use Rattle.arrangement.specs.Index.{sum_to, sum_at, Indexed}
 use Rattle.near_blocks.specs.Places.{PassedPlaces}
 use Rattle.near_blocks.proofs.Passing.{passed-away}
 use Rattle.carrying_match.specs.OneMatch.{Carrying}
-use Rattle.std.specs.Prelude.{Ok, Err}
+use Rattle.std.specs.Prelude.{Err}
 use Rattle.carrying_match.specs.declared.Stop.{Stop}
 use Rattle.carrying_cuts.specs.Worker.{Image, Images, hits_over}
 use Rattle.carrying_few.specs.Hit.{hit_on}
@@ -159,8 +159,8 @@ module _ {columns : Columns} {order : List ℕ} (i : Indexed order columns.from_
       (p : PlacesPassed columns order xs to cut hits most ys set count k) where
     pub places-step :
         {zs : List ℕ} {t : CutSet} {c r : ℕ} → length zs ≡ length ys → k < length columns.from_lefts
-        → Carrying (Image columns (get_or order k 0) cut) (hit_on columns cut (get_or order k 0)) ys set count most zs
-        (Ok (record { hits = c; to = t })) → PassedPlaces order (length columns.from_lefts) cut (k + 1) r
+        → Stored (Image columns (get_or order k 0) cut) ys set zs t
+        × (c ≡ count + hit_on columns cut (get_or order k 0)) × (c ≤ most) → PassedPlaces order (length columns.from_lefts) cut (k + 1) r
         → PlacesPassed columns order xs to cut hits most zs t c r
     places-step {zs} {t} {c} n h q past = places-over more past
       where
@@ -192,18 +192,18 @@ module _ {columns : Columns} {order : List ℕ} (i : Indexed order columns.from_
           omega (arith, p.counted, rest, one-sum columns order cut k, all-sum fit i cut)
 
       pub place-stop :
-          (zs : List ℕ) (stop : Stop) → k < length columns.from_lefts
+          k < length columns.from_lefts → (zs : List ℕ) (stop : Stop)
           → Carrying (Image columns (get_or order k 0) cut) (hit_on columns cut (get_or order k 0)) ys set count most zs
           (Err stop)
           → Carrying (Images columns (count_of columns) (λ z. z ≡ cut)) (hits_over columns (count_of columns) (cut ∷ []))
           xs to hits most zs (Err stop)
-      place-stop zs (Stop.Full t) h c = place-full h c
-      place-stop zs Stop.TooMany h m = place-excess h m
+      place-stop h zs (Stop.Full t) c = place-full h c
+      place-stop h zs Stop.TooMany m = place-excess h m
 
       pub places-end :
           length columns.from_lefts ≤ k
-          → Carrying (Images columns (count_of columns) (λ z. z ≡ cut)) (hits_over columns (count_of columns) (cut ∷ []))
-          xs to hits most ys (Ok (record { hits = count; to = set }))
+          → Stored (Images columns (count_of columns) (λ z. z ≡ cut)) xs to ys set
+          × (count ≡ hits + hits_over columns (count_of columns) (cut ∷ [])) × (count ≤ most)
       places-end h =
           let e : k ≡ length columns.from_lefts = omega (arith, p.until) in
           let counted = rw e at p.counted in

@@ -4,8 +4,8 @@
 
 ghost use Rattle.std.specs.Prelude.{[], ◌∷◌, ◌≡◌, ◌≤◌, ◌<◌, length};
 ghost use Rattle.cut_set.specs.Store.{Good, FoundRun, found_in};
-ghost use Rattle.arrangement.specs.Index.{Indexed};
 ghost use Rattle.match_columns.specs.Held.{columns_in};
+ghost use Rattle.arrangement.specs.Index.{Indexed};
 ghost use Rattle.carrying_match.specs.OneMatch.{Ready, Carrying};
 ghost use Rattle.carrying_cuts.specs.Worker.{Image, Images, hits_over, Working};
 ghost use Rattle.carrying_few.specs.Hit.{hit_on};
@@ -46,11 +46,8 @@ fn carry_over(
         cut,
     );
     match cut_set::add(work, to, image) {
-        Added::Held(s) => Ok(Held {
-            hits: hits + 1,
-            to: s,
-        }),
-        Added::Full(s) => Err(Stop::Full { to: s }),
+        Added::Held(to) => Ok(Held { hits: hits + 1, to }),
+        Added::Full(to) => Err(Stop::Full { to }),
     }
 }
 
@@ -67,8 +64,7 @@ fn carry_cut(
     requires indexed { Indexed index.now matches.now.lefts.now matches.now.rights.now }
     requires good { Good work.old to }
     requires hits_le_most { hits ≤ most }
-    ensures { Carrying
-        (Images (columns_in matches.now) (length matches.now.reversed.now) (λ z. z ≡ cut))
+    ensures { Carrying (Images (columns_in matches.now) (length matches.now.reversed.now) (λ z. z ≡ cut))
         (hits_over (columns_in matches.now) (length matches.now.reversed.now) (cut ∷ []))
         work.old to hits most work.new result }
 {
@@ -108,18 +104,10 @@ pub fn carry_few(
     ensures { Working (columns_in matches.now) (length matches.now.reversed.now) work.old from to
         (found_in work.old from) hits most work.new result }
 {
-    let end = reading_cuts::found_end(from);
     let mut held = Held { hits, to };
-    for at in reading_cuts::found_start(from)..end {
-        held = carry_cut(
-            matches,
-            index,
-            work,
-            held.to,
-            reading_cuts::found_at(work, from, at),
-            held.hits,
-            most,
-        )?;
+    for at in reading_cuts::found_start(from)..reading_cuts::found_end(from) {
+        let cut = reading_cuts::found_at(work, from, at);
+        held = carry_cut(matches, index, work, held.to, cut, held.hits, most)?;
     }
     Ok(held)
 }

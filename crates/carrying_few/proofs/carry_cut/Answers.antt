@@ -1,5 +1,4 @@
--- `carry_cut` meets its contract. The loop keeps `PlacesPassed`; its measure is the places that are left.
--- Assumes nothing.
+-- `carry_cut` meets its contract. Assumes nothing.
 use borrow.Author.Rules.{rules}
 use Rattle.std.proofs.Common.{◌≡◌, Err}
 use Rattle.carrying_few.proofs.Placing.{places-start, places-step, places-end, place-stop}
@@ -11,7 +10,8 @@ loop-k-init c = places-start c.requires.indexed c.requires.good c.requires.hits_
 pub returns-in_err-held : goal.returns-in_err-held
 returns-in_err-held c =
     let e : c.from_residual.result ≡ Err c.in_err-held.field-0.0 = search rules in
-    rw e (place-stop c.requires.indexed c.requires.good c.loop-k.invariant c.args.matches.now.fit _ _ c.loop-k-test.true c.in_err-held.ensures)
+    rw e (place-stop c.requires.indexed c.requires.good c.loop-k.invariant c.args.matches.now.fit c.loop-k-test.true _ _
+    c.in_err-held.ensures)
 
 pub loop-k-preserved : goal.loop-k-preserved
 loop-k-preserved c =

@@ -1,5 +1,4 @@
--- `carry_cut` meets its contract. The loop keeps `PlacesPassed`; its measure is the places that are left.
--- Assumes nothing.
+-- The loop keeps `PlacesPassed`; its measure is the places that are left. Assumes nothing.
 use Prim.Native.Nat.{◌-◌}
 use Rattle.match_columns.specs.Held.{columns_in}
 use Rattle.carrying_few.proofs.Placing.{PlacesPassed}

@@ -6,6 +6,5 @@ use Rattle.carrying_few.proofs.carry_over.Goals as goal
 
 pub returns-in-Full : goal.returns-in-Full
 returns-in-Full c =
-    let a = c.args in
-    over-full (columns_in a.matches.now) a.m a.cut
+    over-full (columns_in c.args.matches.now) c.args.m c.args.cut
     (sym c.spans.ensures.test ∙ c.if-not-spans.false) c.carry-image.ensures c.in-Full.ensures
