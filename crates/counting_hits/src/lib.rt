@@ -18,14 +18,14 @@ fn hits_of(work: &[u32], from: CutSet, left: u32, right: u32) -> usize
     let first = cut_set::first_found(work, from, left);
     let last = cut_set::first_found(work, from, right);
     if last < first {
-        return 0;
+        0
+    } else if last < reading_cuts::found_end(from)
+        && reading_cuts::found_at(work, from, last) == right
+    {
+        last - first + 1
+    } else {
+        last - first
     }
-    if last < reading_cuts::found_end(from) {
-        if reading_cuts::found_at(work, from, last) == right {
-            return last - first + 1;
-        }
-    }
-    last - first
 }
 
 // Whether the hits of every `step`th match are more than `room`: then those of all matches are.
@@ -47,6 +47,7 @@ pub fn exceed(
 {
     let mut free = room;
     let mut k = 0;
+    // Not a `for`: the places are `step` apart.
     while k < lefts.len() {
         let hits = hits_of(work, from, lefts[k], rights[k]);
         if free < hits {

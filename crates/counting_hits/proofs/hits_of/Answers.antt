@@ -8,5 +8,6 @@ returns-then-found_at-right c =
     hits-to c.requires.good c.first_found-first.ensures c.first_found-last.ensures c.if-last-first.false
     (omega (arith, c.found_end.ensures)) (omega (arith, c.found_at.ensures))
 
-pub returns : goal.returns
-returns c = hits-before c.requires.good c.first_found-first.ensures c.first_found-last.ensures c.if-last-first.false
+pub returns-else-last-found_end : goal.returns-else-last-found_end
+returns-else-last-found_end c =
+    hits-before c.requires.good c.first_found-first.ensures c.first_found-last.ensures c.if-last-first.false
