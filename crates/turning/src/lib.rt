@@ -31,20 +31,12 @@ fn too_many(lefts: &[u32], rights: &[u32], work: &[u32], from: CutSet, room: usi
     requires found_run { FoundRun work.now from }
     ensures { result ≡ true → MoreHits lefts.now rights.now (found_in work.now from) room }
 {
-    if lefts.len() < SAMPLED {
-        return false;
-    }
     let cuts = reading_cuts::count_found(from);
-    if cuts == 0 {
-        return false;
-    }
-    if lefts.len() <= room / cuts {
-        return false;
-    }
-    if !exceed(lefts, rights, work, from, SAMPLED, room / SURELY) {
-        return false;
-    }
-    exceed(lefts, rights, work, from, 1, room)
+    SAMPLED <= lefts.len()
+        && 0 < cuts
+        && room / cuts < lefts.len()
+        && exceed(lefts, rights, work, from, SAMPLED, room / SURELY)
+        && exceed(lefts, rights, work, from, 1, room)
 }
 
 // Carries the newly found cuts: cut by cut where there are few of them and there is an index, and else match by match.
@@ -66,10 +58,9 @@ pub fn carry_new(
     ensures { Working (columns_in matches.now) (length matches.now.reversed.now) work.old from to
         (found_in work.old from) hits most work.new result }
 {
-    if 0 < index.len() {
-        if reading_cuts::count_found(from) <= matches.reversed.len() / MATCHES_TO_A_CUT {
-            return carry_few(matches, index, work, from, to, hits, most);
-        }
+    let few = matches.lefts.len() / MATCHES_TO_A_CUT;
+    if !index.is_empty() && reading_cuts::count_found(from) <= few {
+        return carry_few(matches, index, work, from, to, hits, most);
     }
     if too_many(matches.lefts, matches.rights, work, from, most - hits) {
         return Err(Stop::TooMany);
