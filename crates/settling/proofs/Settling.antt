@@ -1,49 +1,28 @@
 -- Newly found members become finished, and all members one run, by merges of neighbouring runs.
---     kept_then, finished-then, joined-after      keeping a set twice; finishing twice; joining what was kept
 --     over-to, merged-outside, over-outside       what a merge leaves of a set's part and of what is outside
 --     settled             a merge of runs leaves a set all of whose members are finished
---     settled-short, settled-apart, settled-middle, lengthened, finished-none     each way of it
+--     settled-short, settled-apart, settled-middle, lengthened     each way of it
 --     joined              all members are one run
---     short-mergeable, middle-mergeable, found-mergeable, long-mergeable, last-mergeable     two runs can be merged
+--     found-mergeable, last-mergeable     two runs can be merged
 --     spare-places        the places behind the set are spare ones
---     members-noted       notes of all members
 -- Assumes nothing.
-use Prim.Native.Nat.{ℕ, ◌+◌, ◌≤◌, ◌<◌}
+use Prim.Native.Nat.{ℕ, ◌+◌, ◌≤◌}
 use native.Mathlib.Omega.{arith}
 use mathlib.Core.Path.{◌≡◌, refl, sym, ◌∙◌}
 use mathlib.Core.List.{List}
 use mathlib.Core.Logic.Iff
-use mathlib.Core.Logic.{inl, inr, ⊎_elim}
+use mathlib.Core.Logic.{⊎_elim}
 use lib.ListN.{length, get_or}
 use Rattle.runs.specs.Runs.{Run, RisingIn, DistinctIn, Same}
-use Rattle.runs.proofs.Membership.{in-wide, in-same, distinct-part, run-same}
+use Rattle.runs.proofs.Membership.{distinct-part, run-same}
 use Rattle.merging.specs.Steps.{Mergeable, Merged}
 use Rattle.merging.proofs.Rearranging.{MergedTo, merged-to, merged-wide, merged-distinct}
 use Rattle.merging_wide.specs.Wide.{Spare, MergedOver}
-use Rattle.cut_set.specs.Store.{Good, Outside, Kept, AllFinished, Joined, NothingAdded, NothingFound}
+use Rattle.cut_set.specs.Store.{Good, Outside, AllFinished, Joined, NothingAdded, NothingFound}
 use Rattle.cut_set.specs.declared.CutSet.{CutSet}
-use Rattle.cut_set.proofs.Gathering.{base_done, base-fresh, used-top, used-limit, used-within, still_noted}
+use Rattle.cut_set.proofs.Gathering.{base_done, used-top, used-limit, used-within, still_noted}
 use Rattle.cut_set.proofs.Laws.{none-added}
-use Rattle.cut_set.proofs.Storing.{outside-same}
-use Rattle.noting.specs.Notes.{OnlyNotes, Remembered}
-use Rattle.settling.specs.Parts.{parts, with_notes, Begins}
-
-pub kept_then : {xs ys zs : List ℕ} {s t u : CutSet} → Kept xs s ys t → Kept ys t zs u → Kept xs s zs u
-kept_then {s = s} {t = t} p q = record {
-  good = q.good;
-  base_same = q.base_same ∙ p.base_same;
-  limit_same = q.limit_same ∙ p.limit_same;
-  members = λ y. Iff.trans (q.members y) (p.members y);
-  outside = λ k o. q.outside k (outside-same s t p.base_same p.limit_same o) ∙ p.outside k o;
-}
-
-pub finished-then : {xs ys zs : List ℕ} {s t u : CutSet} → AllFinished xs s ys t → AllFinished ys t zs u →
-    AllFinished xs s zs u
-finished-then p q =
-    record { kept = kept_then p.kept q.kept; used_same = q.used_same ∙ p.used_same; all = q.all }
-
-pub joined-after : {xs ys zs : List ℕ} {s t u : CutSet} → Kept xs s ys t → Joined ys t zs u → Joined xs s zs u
-joined-after p q = record { kept = kept_then p q.kept; run = q.run }
+use Rattle.settling.specs.Parts.{parts}
 
 -- a run of no place
 empty-run : {xs : List ℕ} {k : ℕ} → k ≤ length xs → Run xs k k
@@ -86,27 +65,6 @@ module _ {xs : List ℕ} {s : CutSet} (g : Good xs s) (e : NothingAdded s) where
 
   part : {lo hi : ℕ} → s.base ≤ lo → hi ≤ s.used → DistinctIn xs lo hi
   part l h = distinct-part xs l h whole
-
-  pub short-mergeable : Mergeable xs s.mid s.done s.used
-  short-mergeable = record {
-    low = g.finished_short;
-    high = found;
-    distinct = part (omega (arith, g.finished_long.order, g.finished_middle.order)) (omega arith);
-  }
-
-  pub middle-mergeable : Mergeable xs s.long s.mid s.done
-  middle-mergeable = record {
-    low = g.finished_middle;
-    high = g.finished_short;
-    distinct = part g.finished_long.order found.order;
-  }
-
-  pub long-mergeable : Mergeable xs s.base s.long s.mid
-  long-mergeable = record {
-    low = g.finished_long;
-    high = g.finished_middle;
-    distinct = part (omega arith) (omega (arith, g.finished_short.order, found.order));
-  }
 
   module _ {ys : List ℕ} (n : length ys ≡ length xs) where
     -- the newly found run goes into what the first merge made of the middle and the short one
@@ -237,19 +195,6 @@ module _ {xs : List ℕ} {s : CutSet} (g : Good xs s) (e : NothingAdded s) where
         all = rw (sym d) o.rising
 
 module _ {xs : List ℕ} {s : CutSet} (g : Good xs s) (d : NothingFound s) where
-  pub finished-none : AllFinished xs s xs s
-  finished-none = record {
-    kept = record {
-      good = g;
-      base_same = refl;
-      limit_same = refl;
-      members = λ y. Iff.rfl;
-      outside = λ k o. refl;
-    };
-    used_same = refl;
-    all = d;
-  }
-
   pub lengthened : {ys : List ℕ} → length ys ≡ length xs → MergedOver xs s.base s.mid s.used s.top ys →
       AllFinished xs s ys (parts s s.mid s.mid)
   lengthened {ys} n m = settled g (none-added g d) n (omega arith) mid-used
@@ -267,50 +212,3 @@ module _ {xs : List ℕ} {s : CutSet} (g : Good xs s) (d : NothingFound s) where
     where
       mid-used : s.mid ≤ s.used
       mid-used = omega (arith, g.finished_short.order)
-
-  -- notes of all members, whatever was there before
-  pub members-noted : {ys zs : List ℕ} {top : ℕ} → Begins s top → length ys ≡ length xs → length zs ≡ length ys →
-      OnlyNotes xs top s.limit ys → Remembered ys s.base s.used top s.limit zs →
-      AllFinished xs s zs (with_notes s top)
-  members-noted {ys} {zs} {top} b n p o r = record {
-    kept = record {
-      good = record {
-        finished_long =
-            run (omega (arith, g.finished_middle.order, g.finished_short.order, done-used)) g.finished_long;
-        finished_middle = run (omega (arith, g.finished_short.order, done-used)) g.finished_middle;
-        finished_short = run done-used g.finished_short;
-        found_run = run g.added g.found_run;
-        few_finished = g.few_finished;
-        added = g.added;
-        room = omega (arith, none-added g d, b.from);
-        notes = record {
-          order = b.to;
-          few = b.few;
-          noted = λ h y i. (r.noted h).now y
-              (in-same (λ k l u. sym (r.only k (inl (omega (arith, b.from))))) (in-wide (omega arith) g.added i));
-        };
-        within = omega (arith, n, p, g.within);
-        distinct = λ i j il ih jl jh e. g.distinct i j il ih jl jh
-            (sym (same i (omega (arith, g.added))) ∙ e ∙ same j (omega (arith, g.added)));
-      };
-      base_same = refl;
-      limit_same = refl;
-      members = λ y. (
-        in-same (λ k l u. sym (same k u)),
-        in-same (λ k l u. same k u),
-      );
-      outside = λ k u. ⊎_elim (λ h. same k (omega (arith, base-fresh g, g.added)))
-          (λ h. r.only k (inr h) ∙ o k (inr h)) u;
-    };
-    used_same = refl;
-    all = d;
-  }
-    where
-      done-used : s.done ≤ s.used
-      done-used = omega (arith, d)
-
-      same : (k : ℕ) → k < s.used → get_or zs k 0 ≡ get_or xs k 0
-      same k u = r.only k (inl (omega (arith, b.from))) ∙ o k (inl (omega (arith, b.from)))
-
-      run : {lo hi : ℕ} → hi ≤ s.used → Run xs lo hi → Run zs lo hi
-      run h u = run-same {xs = xs} (λ k l v. same k (omega arith)) (p ∙ n) u

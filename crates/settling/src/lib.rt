@@ -18,14 +18,11 @@ fn parted(s: CutSet, long: usize, mid: usize) -> CutSet
     ensures { result ≡ parts s long mid }
 {
     CutSet {
-        base: s.base,
-        long: long,
-        mid: mid,
+        long,
+        mid,
         done: s.used,
         fresh: s.used,
-        used: s.used,
-        top: s.top,
-        limit: s.limit,
+        ..s
     }
 }
 
@@ -51,10 +48,11 @@ fn regroup(a: &mut [u32], s: CutSet) -> CutSet
 {
     merge(a, s.long, s.mid, s.done);
     if s.used - s.done <= 512 {
-        return parted(s, s.long, s.done);
+        parted(s, s.long, s.done)
+    } else {
+        merge_wide(a, s.long, s.done, s.used, s.used, s.top);
+        parted(s, s.long, s.used)
     }
-    merge_wide(a, s.long, s.done, s.used, s.used, s.top);
-    parted(s, s.long, s.used)
 }
 
 // The set with all newly found members made finished: they go to the short run if they fit there.
@@ -88,19 +86,14 @@ fn notes_start(s: CutSet) -> usize
 {
     let members = s.used - s.base;
     let places = members / (32 / BITS) * 2;
-    if members < MANY {
-        return s.limit;
+    let few = members < MANY;
+    let enough = members / (32 / BITS) <= s.limit - s.top;
+    let crowded = (s.limit - s.used) / 2 < places;
+    if few || enough || crowded || 134217728 < places {
+        s.limit
+    } else {
+        s.limit - places
     }
-    if members / (32 / BITS) <= s.limit - s.top {
-        return s.limit;
-    }
-    if (s.limit - s.used) / 2 < places {
-        return s.limit;
-    }
-    if 134217728 < places {
-        return s.limit;
-    }
-    s.limit - places
 }
 
 // The set with notes of all its members from place `top` on. All members are finished.
@@ -112,16 +105,7 @@ fn note_members(a: &mut [u32], s: CutSet, top: usize) -> CutSet
 {
     forget(a, top, s.limit);
     remember(a, s.base, s.used, top, s.limit);
-    CutSet {
-        base: s.base,
-        long: s.long,
-        mid: s.mid,
-        done: s.done,
-        fresh: s.fresh,
-        used: s.used,
-        top: top,
-        limit: s.limit,
-    }
+    CutSet { top, ..s }
 }
 
 // The set with notes of its members, if it has too few and they seem worthwhile. All members are finished.
@@ -132,9 +116,10 @@ fn take_notes(a: &mut [u32], s: CutSet) -> CutSet
 {
     let top = notes_start(s);
     if top == s.limit {
-        return s;
+        s
+    } else {
+        note_members(a, s, top)
     }
-    note_members(a, s, top)
 }
 
 // The set with all newly found members made finished. Where some were finished before, it is likely that more will be
@@ -146,9 +131,10 @@ pub fn finish(a: &mut [u32], s: CutSet) -> CutSet
 {
     let t = settle(a, s);
     if s.base == s.done {
-        return t;
+        t
+    } else {
+        take_notes(a, t)
     }
-    take_notes(a, t)
 }
 
 // The set with its finished runs in one, where all members are finished.

@@ -15,7 +15,7 @@ merge_wide-requires c =
       spare = spare-places c.requires.good (search rules) (search rules);
     }
 
-pub returns : goal.returns
-returns c =
-    rw c.parted-2.ensures
+pub returns-else-s-le512 : goal.returns-else-s-le512
+returns-else-s-le512 c =
+    rw c.parted-else-s-le512.ensures
     (settled-middle c.requires.good c.requires.nothing_added (search rules) (search rules) c.merge.ensures (search rules))
