@@ -218,10 +218,10 @@ straight-in n few = record {
 }
 
 -- a script with the bytes of n matches has no more, and no more marks than its bytes have room for
-pub short-matches : (n : ℕ) {s : List ℕ} → length s ≤ bytes_of n → length (matches_read (read_script s)) ≤ n
-short-matches n {s} short = omega (arith, matches-few s)
+pub short-matches : (n : ℕ) (s : List ℕ) → length s ≤ bytes_of n → length (matches_read (read_script s)) ≤ n
+short-matches n s short = omega (arith, matches-few s)
 
 pub short-marks :
-    (n k : ℕ) {s : List ℕ} → length s ≤ bytes_of n → bytes_of n < mark_width * (k + 1)
+    (n k : ℕ) (s : List ℕ) → length s ≤ bytes_of n → bytes_of n < mark_width * (k + 1)
     → length (marks_read (read_script s)) ≤ k
-short-marks n k {s} short room = omega (arith, marks-few s)
+short-marks n k s short room = omega (arith, marks-few s)

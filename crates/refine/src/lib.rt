@@ -1,7 +1,7 @@
 // The refining call, which stands above the reader, the theory and the store of cuts.
 #![tactic(auto)]
 
-ghost use Rattle.std.specs.Prelude.{◌≡◌, ◌≤◌, length};
+ghost use Rattle.std.specs.Prelude.{◌≡◌, ◌+◌, ◌^◌, ◌≤◌, ◌<◌, length};
 ghost use Rattle.refining.specs.Refining.{refining_of};
 ghost use Rattle.script.specs.Reading.{read_script};
 ghost use Rattle.script.specs.Columns.{matches_read, marks_read};
@@ -85,6 +85,7 @@ fn refine_sized<const MATCHES: usize, const MARKS: usize, const INDEX: usize>(
 ) -> Result<usize, Refusal>
     requires matches { length (matches_read (read_script script.now)) ≤ MATCHES }
     requires marks { length (marks_read (read_script script.now)) ≤ MARKS }
+    requires columns_bound { MATCHES + MARKS + INDEX < 2 ^ 32 }
     ensures { ScriptRefined script.now table.old work.old result table.new work.new }
 {
     let mut left_a = [0; MATCHES];

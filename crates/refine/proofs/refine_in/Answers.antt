@@ -1,13 +1,13 @@
 -- `refine_in` meets its contract: a refused script is refused; the columns of an admitted one begin with the fields of
 -- its matches and of its marks, and `refine_read` does the rest. Assumes nothing.
-use Rattle.std.proofs.Common.{refl}
+use borrow.Author.Rules.{rules}
 use Rattle.refine.proofs.Calls.{columns-fit, read-refused, read-refined}
 use Rattle.refine.proofs.refine_in.Goals as goal
 
 pub refine_read-requires : goal.refine_read-requires
 refine_read-requires c =
     let told = c.read_columns.ensures in
-    let fit = columns-fit c.args.script.now told.reply c.in-Admitted.is c.requires.roomy told.columns
+    let fit = columns-fit c.args.script.now told.reply c.in_ok-read.was c.requires.roomy told.columns
     c.requires.straight c.requires.roomy_marks told.marks
     in
     record {
@@ -19,14 +19,14 @@ refine_read-requires c =
       left_a_in_bounds_2 = fit.1.1.1.1.1;
     }
 
-pub returns-in-Refused : goal.returns-in-Refused
-returns-in-Refused c =
+pub returns-in_err-read : goal.returns-in_err-read
+returns-in_err-read c =
     let a = c.args in
-    read-refused a.script.now a.table.now a.work.now c.read_columns.ensures.reply c.in-Refused.is refl
+    read-refused a.script.now a.table.now a.work.now c.read_columns.ensures.reply c.in_err-read.was (search rules)
 
-pub returns-in-Admitted : goal.returns-in-Admitted
-returns-in-Admitted c =
+pub returns : goal.returns
+returns c =
     let told = c.read_columns.ensures in
     let a = c.args in
-    read-refined a.script.now told.reply c.in-Admitted.is c.requires.roomy told.columns c.requires.roomy_marks
+    read-refined a.script.now told.reply c.in_ok-read.was c.requires.roomy told.columns c.requires.roomy_marks
     told.marks a.table.now a.work.now c.refine_read.ensures.refined
