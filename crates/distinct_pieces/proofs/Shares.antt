@@ -12,7 +12,9 @@ use Rattle.table.specs.Summing.{count}
 use Rattle.distinct_store.specs.Store.{scattered, mixed, spot, share_of, in_share, Sharing}
 use Rattle.rows.specs.declared.Row.{Row}
 use Rattle.distinct_store.specs.declared.Dealing.{Dealing}
-use Rattle.distinct_store.specs.declared.Counting.{Counting}
+use Rattle.distinct_store.specs.declared.Counted.{Counted}
+use Rattle.distinct_store.specs.declared.GaveUp.{GaveUp}
+use Rattle.std.proofs.Common.{Result, Ok, Err}
 use Rattle.distinct_pieces.specs.Attempts.{Attempt}
 use Rattle.table.proofs.Counting.{count-inside, count-agrees, count-every, count-no-one, count-joined}
 use Rattle.table.proofs.Pieces.{firsts-inside}
@@ -68,8 +70,8 @@ module _ {by : Dealing} {rs : List Row} {all share : ℕ} (b : Below by rs all s
       dealt : (r : Row) → share_of by r < by.shares
       dealt r = share-below _ by.shares (omega arith) some
 
-pub one-share : (by : Dealing) (rs : List Row) (x : Counting) → by.shares ≡ 1 → Sharing by 0 rs x → Attempt rs x
-one-share by rs (Counting.Counted found left) one counted =
-    let all = below_more (below-starts by rs) found (omega arith) counted in
+pub one-share : (by : Dealing) (rs : List Row) (x : Result Counted GaveUp) → by.shares ≡ 1 → Sharing by 0 rs x → Attempt rs x
+one-share by rs (Ok it) one counted =
+    let all = below_more (below-starts by rs) it.found (omega arith) counted in
     omega (arith, below_all all (omega arith) (omega arith))
-one-share by rs Counting.GaveUp one counted = tt
+one-share by rs (Err gave_up) one counted = tt

@@ -10,7 +10,7 @@ ghost use Rattle.table.specs.Distinct.{first_of_each};
 ghost use Rattle.distinct_store.specs.Store.{Sharing};
 ghost use Rattle.distinct_pieces.specs.Attempts.{Attempt};
 
-use distinct_store::{Counting, Dealing};
+use distinct_store::{Counted, Dealing, GaveUp};
 use piece_windows::count_in_windows;
 use rows::{Row, row_at, row_count};
 
@@ -57,17 +57,17 @@ struct Pool {
 
 // One round of adding, rotating and exclusive or, as in SipHash.
 fn stir(pool: Pool) -> Pool {
-    let a = std::num::wrapping_add_u64(pool.a, pool.b);
-    let b = (pool.b << 13 | pool.b >> 51) ^ a;
-    let c = std::num::wrapping_add_u64(pool.c, pool.d);
-    let d = (pool.d << 16 | pool.d >> 48) ^ c;
-    let e = std::num::wrapping_add_u64(a << 32 | a >> 32, d);
-    let f = std::num::wrapping_add_u64(c, b);
+    let a = pool.a.wrapping_add(pool.b);
+    let b = pool.b.rotate_left(13) ^ a;
+    let c = pool.c.wrapping_add(pool.d);
+    let d = pool.d.rotate_left(16) ^ c;
+    let e = a.rotate_left(32).wrapping_add(d);
+    let f = c.wrapping_add(b);
     Pool {
         a: e,
-        b: (b << 17 | b >> 47) ^ f,
-        c: f << 32 | f >> 32,
-        d: (d << 21 | d >> 43) ^ e,
+        b: b.rotate_left(17) ^ f,
+        c: f.rotate_left(32),
+        d: d.rotate_left(21) ^ e,
     }
 }
 
@@ -101,6 +101,7 @@ fn pool_of(table: &[u32], attempt: u64) -> Pool {
         d: 0x7465_6462_7974_6573,
     };
     let mut k: usize = 0;
+    // Not a `for`: two rows at a time, and the last one alone where they are odd.
     while 1 < rows - k {
         pool = stir_in(pool, row_at(table, k), row_at(table, k + 1));
         k += 2;
@@ -126,62 +127,61 @@ fn drawn_dealing(table: &[u32], attempt: u64, shares: u32, homes: u32) -> Dealin
     }
 }
 
-fn count_with_small_store(table: &[u32]) -> Counting
+fn count_with_small_store(table: &[u32]) -> Result<Counted, GaveUp>
     requires { length (rows_of table.now) < 2 ^ 32 }
     ensures { Attempt (rows_of table.now) result }
 {
     let by = drawn_dealing(table, 0, 1, SMALL_HOMES);
     let probes = probes_of(row_count(table));
     let mut slots = [0u32; SMALL_STORE];
-    distinct_store::count_share(table, &mut slots[..], by, 0, probes)
+    distinct_store::count_share(table, &mut slots, by, 0, probes)
 }
 
-fn count_with_medium_store(table: &[u32]) -> Counting
+fn count_with_medium_store(table: &[u32]) -> Result<Counted, GaveUp>
     requires { length (rows_of table.now) < 2 ^ 32 }
     ensures { Attempt (rows_of table.now) result }
 {
     let by = drawn_dealing(table, 0, 1, MEDIUM_HOMES);
     let probes = probes_of(row_count(table));
     let mut slots = [0u32; MEDIUM_STORE];
-    distinct_store::count_share(table, &mut slots[..], by, 0, probes)
+    distinct_store::count_share(table, &mut slots, by, 0, probes)
 }
 
-fn count_with_large_store(table: &[u32], by: Dealing, share: u64, probes: usize) -> Counting
+fn count_with_large_store(
+    table: &[u32],
+    by: Dealing,
+    share: u64,
+    probes: usize,
+) -> Result<Counted, GaveUp>
     requires { length (rows_of table.now) < 2 ^ 32 }
     ensures { Sharing by share (rows_of table.now) result }
 {
     let mut slots = [0u32; LARGE_STORE];
-    picked_rows::count_share(table, &mut slots[..], by, share, probes)
+    picked_rows::count_share(table, &mut slots, by, share, probes)
 }
 
 // Counts share by share.
-fn count_shares(table: &[u32], by: Dealing, probes: usize) -> Counting
+fn count_shares(table: &[u32], by: Dealing, probes: usize) -> Result<Counted, GaveUp>
     requires table_len_bound { length (rows_of table.now) < 2 ^ 32 }
     requires shares_nonzero { 0 < by.shares }
     ensures { Attempt (rows_of table.now) result }
 {
-    let shares = by.shares as u64;
-    let mut all: usize = 0;
-    let mut rest = probes;
-    let mut share: u64 = 0;
-    while share < shares {
-        match count_with_large_store(table, by, share, rest) {
-            Counting::Counted { found, left } => {
-                all += found;
-                rest = left;
-            }
-            Counting::GaveUp => return Counting::GaveUp,
-        }
-        share += 1;
+    let mut all = Counted {
+        found: 0,
+        left: probes,
+    };
+    for share in 0..by.shares {
+        let counted = count_with_large_store(table, by, share as u64, all.left)?;
+        all = Counted {
+            found: all.found + counted.found,
+            left: counted.left,
+        };
     }
-    Counting::Counted {
-        found: all,
-        left: rest,
-    }
+    Ok(all)
 }
 
 // Counts a long table, by the factors of an attempt.
-fn count_long(table: &[u32], attempt: u64) -> Counting
+fn count_long(table: &[u32], attempt: u64) -> Result<Counted, GaveUp>
     requires { length (rows_of table.now) < 2 ^ 32 }
     ensures { Attempt (rows_of table.now) result }
 {
@@ -192,13 +192,13 @@ fn count_long(table: &[u32], attempt: u64) -> Counting
 }
 
 // What was counted; in windows, if it was given up.
-fn settled(table: &[u32], counting: Counting) -> usize
-    requires { Attempt (rows_of table.now) counting }
+fn settled(table: &[u32], attempt: Result<Counted, GaveUp>) -> usize
+    requires { Attempt (rows_of table.now) attempt }
     ensures { result ≡ length (first_of_each (rows_of table.now)) }
 {
-    match counting {
-        Counting::Counted { found, left: _ } => found,
-        Counting::GaveUp => count_in_windows(table),
+    match attempt {
+        Ok(counted) => counted.found,
+        Err(GaveUp) => count_in_windows(table),
     }
 }
 
@@ -208,16 +208,15 @@ pub fn count_distinct(table: &[u32]) -> usize
 {
     let rows = row_count(table);
     if rows <= SMALL_ROWS {
-        return settled(table, count_with_small_store(table));
-    }
-    if rows <= MEDIUM_ROWS {
-        return settled(table, count_with_medium_store(table));
-    }
-    if ROW_NUMBERS < rows {
-        return count_in_windows(table);
-    }
-    match count_long(table, 0) {
-        Counting::Counted { found, left: _ } => found,
-        Counting::GaveUp => settled(table, count_long(table, 1)),
+        settled(table, count_with_small_store(table))
+    } else if rows <= MEDIUM_ROWS {
+        settled(table, count_with_medium_store(table))
+    } else if rows <= ROW_NUMBERS {
+        match count_long(table, 0) {
+            Ok(counted) => counted.found,
+            Err(GaveUp) => settled(table, count_long(table, 1)),
+        }
+    } else {
+        count_in_windows(table)
     }
 }

@@ -1,5 +1,4 @@
--- `count_shares` meets its contract. The loop keeps `Below`: the pieces of the shares so far are counted; the measure
--- is how many shares are left. Assumes nothing.
+-- `count_shares` meets its contract: the loop keeps `Below`, share by share. Assumes nothing.
 use Rattle.std.proofs.Common.{arith}
 use Rattle.distinct_pieces.proofs.Shares.{below-starts, below_more, below-bound, below_all}
 use Rattle.distinct_pieces.proofs.count_shares.Goals as goal
@@ -10,12 +9,12 @@ loop-share-init c =
 
 pub overflow_add-all : goal.overflow_add-all
 overflow_add-all c =
-    let counted = c.in-Counted.ensures in
+    let counted = c.in_ok-counted.ensures in
     omega (arith, below-bound (below_more c.loop-share.invariant _ (omega arith) counted))
 
 pub loop-share-preserved : goal.loop-share-preserved
 loop-share-preserved c =
-    let counted = c.in-Counted.ensures in
+    let counted = c.in_ok-counted.ensures in
     below_more c.loop-share.invariant _ (omega arith) counted
 
 pub returns : goal.returns

@@ -1,4 +1,4 @@
--- `pool_of` meets its contract, which asks only that it ends: the measure is how many rows are left. Assumes nothing.
+-- `pool_of` only has to end: the measure is how many rows are left.
 use Rattle.std.proofs.Common.{◌-◌, ◌≤◌}
 use Rattle.distinct_pieces.proofs.pool_of.Given as goal
 
