@@ -1,19 +1,14 @@
 -- Moving numbers, and a set of them.
 --     Shifting            the invariant of the loop that moves down: k numbers are moved
---     shifted_none, shifting-step, shifted-all    nothing is moved; one number more, from the first on; all
---     shifted-same, shifted_up    numbers that stay; a move up is such a move
 --     moved-set           a set whose members were moved keeps them
 -- Assumes nothing.
 use Prim.Native.Nat.{ℕ, ◌+◌, ◌-◌, ◌≤◌, ◌<◌}
 use native.Mathlib.Omega.{arith}
 use mathlib.Core.Path.{◌≡◌, refl, sym, ◌∙◌}
 use mathlib.Core.List.{List}
-use mathlib.Core.Logic.{inl, ⊎_elim}
-use lib.ListN.{length, get_or, set, length-set}
-use lib.Seq.{get_or-set_same, get_or-set_other}
+use mathlib.Core.Logic.{inl}
+use lib.ListN.{length, get_or}
 use Rattle.runs.specs.Runs.{In, Run}
-use Rattle.runs.proofs.Membership.{lt-or-le}
-use Rattle.merging.specs.Steps.{Moved}
 use Rattle.cut_set.specs.Store.{Good}
 use Rattle.cut_set.specs.declared.CutSet.{CutSet}
 use Rattle.moving.specs.Moving.{Shifted, placed, Ends, Movable, MovedSet}
@@ -22,40 +17,6 @@ pub record Shifting (xs : List ℕ) (lo to n k : ℕ) (ys : List ℕ) : Type 0 w
   pub most : k ≤ n
   pub lengths : length ys ≡ length xs
   pub so_far : Shifted xs lo to k ys
-
-pub shifted_none : (xs : List ℕ) (lo to : ℕ) → Shifted xs lo to 0 xs
-shifted_none xs lo to = record { moved = λ k h. absurd (omega arith); before = λ k h. refl; behind = λ k h. refl }
-
-pub shifting-step : {xs ys : List ℕ} {lo to n k : ℕ} → Shifting xs lo to n k ys → k < n → to ≤ lo → to + n ≤ length xs →
-    Shifting xs lo to n (k + 1) (set ys (to + k) (get_or ys (lo + k) 0))
-shifting-step {xs} {ys} {lo} {to} {n} {k} p h down into = record {
-  most = omega arith;
-  lengths = length-set ys (to + k) (get_or ys (lo + k) 0) ∙ p.lengths;
-  so_far = record {
-    moved = λ j u. ⊎_elim
-        (λ v. get_or-set_other ys (to + k) (to + j) _ 0 (λ e. omega arith) ∙ p.so_far.moved j v)
-        (λ v. let e : j ≡ k = omega arith in
-        rw e (get_or-set_same ys (to + k) (get_or ys (lo + k) 0) 0 (omega (arith, p.lengths))
-        ∙ p.so_far.behind (lo + k) (omega arith)))
-        (lt-or-le j k);
-    before = λ j u. get_or-set_other ys (to + k) j _ 0 (λ e. omega arith) ∙ p.so_far.before j u;
-    behind = λ j u. get_or-set_other ys (to + k) j _ 0 (λ e. omega arith) ∙ p.so_far.behind j (omega arith);
-  };
-}
-
-pub shifted-all : {xs ys : List ℕ} {lo to n k : ℕ} → Shifting xs lo to n k ys → n ≤ k → Shifted xs lo to n ys
-shifted-all {n = n} {k} p h = let e : k ≡ n = omega (arith, p.most) in rw e at p.so_far
-
-pub shifted-same : (xs : List ℕ) (lo to n : ℕ) → lo ≡ to → Shifted xs lo to n xs
-shifted-same xs lo to n e = record { moved = λ k h. rw e; before = λ k h. refl; behind = λ k h. refl }
-
-pub shifted_up : {xs ys : List ℕ} {lo to n : ℕ} → lo < to → Moved xs lo (lo + n) (to - lo) ys → Shifted xs lo to n ys
-shifted_up {xs} {ys} {lo} {to} {n} h p = record {
-  moved = λ k u. let e : to + k ≡ lo + k + (to - lo) = omega arith in
-      rw e (p.moved (lo + k) (omega arith) (omega arith));
-  before = λ k u. p.before k (omega arith);
-  behind = λ k u. p.behind k (omega arith);
-}
 
 module _ {xs ys : List ℕ} {lo to n : ℕ} (p : Shifted xs lo to n ys) where
   -- what stands at a new place

@@ -13,10 +13,8 @@ fn move_down(a: &mut [u32], lo: usize, to: usize, n: usize)
     requires to_le_lo { to ≤ lo }
     ensures { Shifted a.old lo to n a.new }
 {
-    let mut k = 0;
-    while k < n {
+    for k in 0..n {
         a[to + k] = a[lo + k];
-        k += 1;
     }
 }
 
@@ -25,14 +23,11 @@ fn relocate(a: &mut [u32], lo: usize, to: usize, n: usize)
     requires { Shiftable a.old lo to n }
     ensures { Shifted a.old lo to n a.new }
 {
-    if lo == to {
-        return;
-    }
     if to < lo {
         move_down(a, lo, to, n);
-        return;
+    } else if lo < to {
+        move_up(a, lo, lo + n, to - lo);
     }
-    move_up(a, lo, lo + n, to - lo);
 }
 
 // The ends of a set's runs, where its members stand from base on.
@@ -42,14 +37,14 @@ fn place(s: CutSet, base: usize, limit: usize) -> CutSet
 {
     let used = base + (s.used - s.base);
     CutSet {
-        base: base,
+        base,
         long: base + (s.long - s.base),
         mid: base + (s.mid - s.base),
         done: base + (s.done - s.base),
         fresh: used,
-        used: used,
+        used,
         top: limit,
-        limit: limit,
+        limit,
     }
 }
 
