@@ -2,16 +2,16 @@
 --     put_three, put-nine     lines of so many words
 --     put_refused          the line of a refusal
 --     put-parts            the text of a table
---     classes-put-more, classes-put-all     the lines of the first classes with one more, and of all
+--     classes-put-more     the lines of the first classes with one more
 -- Assumes nothing.
-use Prim.Native.Nat.{ℕ, suc, ◌+◌, ◌≤◌, ◌<◌}
+use Prim.Native.Nat.{ℕ, suc, ◌+◌, ◌<◌}
 use mathlib.Core.Path.{◌≡◌, sym, ap, ◌∙◌}
 use mathlib.Core.List.{List, [], ◌∷◌, ◌++◌, append_assoc, append-nil}
 use native.Mathlib.Omega.{arith}
 use native.Mathlib.Nat.{add-zero}
 use native.Mathlib.Numerals.{add-one}
 use lib.ListN.{length, get_or, take}
-use lib.Seq.{take-suc, take_all, length-take-le}
+use lib.Seq.{take-suc, length-take-le}
 use Rattle.script.specs.Refusals.{number_of, place_of}
 use Rattle.script.specs.declared.refusal.Refusal.{Refusal}
 use Rattle.table.specs.Summing.{summary_of_rows}
@@ -87,7 +87,3 @@ pub classes-put-more :
     → Put (class_line k (get_or ns k 0)) t₁ k₁ t₂ k₂
     → Put (class_lines 0 (take (k + 1) ns)) t₀ k₀ t₂ k₂
 classes-put-more ns k h p q = put_same (class-lines-more ns k h) (put_then p q)
-
-pub classes-put-all : (ns : List ℕ) (k : ℕ) {t t' : List ℕ} {at at' : ℕ} → length ns ≤ k
-    → Put (class_lines 0 (take k ns)) t at t' at' → Put (class_lines 0 ns) t at t' at'
-classes-put-all ns k h p = put_same (ap (class_lines 0) (take_all k ns h)) p

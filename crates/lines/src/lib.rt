@@ -63,8 +63,7 @@ fn put_summary(text: &mut [u8], at: usize, count: usize, summary: Summary) -> us
     let matches = put_entry(text, at, b"matches ", count as u64, b' ');
     let pieces = put_entry(text, matches, b"pieces ", summary.pieces as u64, b' ');
     let distinct = put_entry(text, pieces, b"distinct ", summary.distinct as u64, b' ');
-    let covers = summary.covers;
-    put_covers(text, distinct, covers)
+    put_covers(text, distinct, summary.covers)
 }
 
 // The line of a class, if it has pieces.
@@ -85,10 +84,8 @@ fn put_classes(text: &mut [u8], at: usize, counts: &[usize]) -> usize
     ensures { Put (class_lines 0 counts.now) text.old at text.new result }
 {
     let mut next = at;
-    let mut class: usize = 0;
-    while class < counts.len() {
-        next = put_class(text, next, class, counts[class]);
-        class += 1;
+    for (class, count) in counts.iter().enumerate() {
+        next = put_class(text, next, class, *count);
     }
     next
 }
@@ -109,6 +106,5 @@ pub fn put_table(
     let lengths = put_lengths(text, p, q);
     let head = put_summary(text, lengths, count, summary);
     let rows = put_rows(text, head, table);
-    let classes = summary.classes;
-    put_classes(text, rows, &classes[..])
+    put_classes(text, rows, &summary.classes)
 }

@@ -1,5 +1,4 @@
--- `put_classes` meets its contract. The loop has put the lines of the first classes; the measure is how many are left.
--- Assumes nothing.
+-- `put_classes` meets its contract: the loop has put the lines of the first classes. Assumes nothing.
 use native.Mathlib.Omega.{arith}
 use lib.ListN.{take}
 use lib.Seq.{length-take-le}
@@ -19,8 +18,8 @@ pub put_class-next-requires : goal.put_class-next-requires
 put_class-next-requires c =
     let counts = c.args.counts.now in
     let k = c.loop-class.class in
-    omega (arith, class-lines-short 0 (take k counts), length-take-le k counts c.loop-class.invariant.0)
+    omega (arith, class-lines-short 0 (take k counts), length-take-le k counts (omega arith))
 
 pub loop-class-preserved : goal.loop-class-preserved
 loop-class-preserved c =
-    (omega arith, search (rules, classes-put-more))
+    search (rules, classes-put-more)
