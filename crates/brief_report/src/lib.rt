@@ -9,10 +9,8 @@ ghost use Rattle.brief_report.specs.Few.{few_rows};
 
 use printing::{print_refusal, print_table};
 use refine::refine;
-use refining::answers::Refined;
 use reporting::Brief;
 use rows::ROW_WIDTH;
-use script::Verdict;
 
 // The rows of the small table.
 const FEW_ROWS: usize = 64;
@@ -40,14 +38,8 @@ fn report_few(script: &[u8], p: u32, q: u32, count: usize, text: &mut [u8]) -> B
     let mut table = few_table();
     let mut work = few_work();
     match refine(script, &mut table[..], &mut work[..]) {
-        Refined::Refused(_) => Brief::Larger { p, q, count },
-        Refined::Rows(n) => Brief::Answered(print_table(
-            p,
-            q,
-            count,
-            &table[..ROW_WIDTH * n],
-            text,
-        )),
+        Err(_) => Brief::Larger { p, q, count },
+        Ok(n) => Brief::Answered(print_table(p, q, count, &table[..ROW_WIDTH * n], text)),
     }
 }
 
@@ -55,14 +47,8 @@ fn report_few(script: &[u8], p: u32, q: u32, count: usize, text: &mut [u8]) -> B
 pub fn report_brief(script: &[u8], text: &mut [u8]) -> Brief
     ensures { Briefly script.now text.old text.new result }
 {
-    let verdict = reader::read(script);
-    match verdict {
-        Verdict::Refused(refusal) => Brief::Answered(print_refusal(refusal, text)),
-        Verdict::Admitted {
-            p,
-            q,
-            count,
-            marks: _,
-        } => report_few(script, p, q, count, text),
+    match reader::read(script) {
+        Err(refusal) => Brief::Answered(print_refusal(refusal, text)),
+        Ok(read) => report_few(script, read.p, read.q, read.count, text),
     }
 }

@@ -8,9 +8,10 @@ use mathlib.Core.List.{List}
 use native.Mathlib.Omega.{arith}
 use lib.ListN.{length, drop, take, length-append}
 use lib.Seq.{take-append_seam}
+use Rattle.std.specs.Prelude.{Result, Ok}
 use Rattle.io.specs.Counts.{IsPrefixLen}
 use Rattle.reporting.specs.Reporting.{report_of, Briefly}
-use Rattle.reporting.specs.declared.Reported.{Reported}
+use Rattle.reporting.specs.declared.TextTooShort.{TextTooShort}
 use Rattle.reporting.specs.declared.Brief.{Brief}
 use Rattle.reporting.proofs.Fits.{printed-stands}
 
@@ -18,8 +19,8 @@ pub no_text : {P : Type 0} → 0 < 0 → P
 no_text none = absurd (omega arith)
 
 pub brief-text :
-    (script text text' : List ℕ) {answer : Brief} {reply : Reported} {n : ℕ} → answer ≡ Brief.Answered reply
-    → reply ≡ Reported.Printed n
+    (script text text' : List ℕ) {answer : Brief} {reply : Result ℕ TextTooShort} {n : ℕ} → answer ≡ Brief.Answered reply
+    → reply ≡ Ok n
     → Briefly script text text' answer
     → IsPrefixLen n text' × (0 < n → take n text' ≡ report_of script)
 brief-text script text text' e printed tried =

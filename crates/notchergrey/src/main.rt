@@ -10,11 +10,11 @@ ghost use Rattle.streams.specs.Counting.{Went};
 
 use brief_report::report_brief;
 use report::LONGEST_TEXT;
-use reporting::{Brief, Reported};
+use reporting::Brief;
 use script::limits::LONGEST_SCRIPT;
 use std::env::{Env, FillError};
 use std::io::{Error, Write};
-use streams::{Moved, Output, read_input, write_text};
+use streams::{Broken, read_input, write_text};
 
 // A longer script has more matches than a small table has rows.
 const SHORT_SCRIPT: usize = 842;
@@ -29,8 +29,8 @@ fn make_text(script: &[u8], text: &mut [u8]) -> usize
     ensures text_after { take result text.new ≡ report_of script.now }
 {
     match report::report(script, text) {
-        Reported::Printed(length) => length,
-        Reported::TextTooShort(_) => 0,
+        Ok(length) => length,
+        Err(_) => 0,
     }
 }
 
@@ -40,19 +40,12 @@ fn make_brief(script: &[u8], text: &mut [u8]) -> usize
     ensures text_after { 0 < result → take result text.new ≡ report_of script.now }
 {
     match report_brief(script, text) {
-        Brief::Larger {
-            p: _,
-            q: _,
-            count: _,
-        } => 0,
-        Brief::Answered(reply) => match reply {
-            Reported::Printed(length) => length,
-            Reported::TextTooShort(_) => 0,
-        },
+        Brief::Answered(Ok(length)) => length,
+        _ => 0,
     }
 }
 
-fn print_large<W: Write>(output: &mut W, script: &[u8]) -> Output
+fn print_large<W: Write>(output: &mut W, script: &[u8]) -> Result<usize, Broken>
     ensures { Went (length (report_of script.now)) result }
 {
     let mut text = [0; LONGEST_TEXT];
@@ -61,7 +54,7 @@ fn print_large<W: Write>(output: &mut W, script: &[u8]) -> Output
 }
 
 // A short text is made in a small buffer: zeros for every text would be most of what a short script costs.
-fn print_short<W: Write>(output: &mut W, script: &[u8]) -> Output
+fn print_short<W: Write>(output: &mut W, script: &[u8]) -> Result<usize, Broken>
     ensures { Went (length (report_of script.now)) result }
 {
     let mut text = [0; SHORT_TEXT];
@@ -90,20 +83,16 @@ fn fail(rt: &(impl Eprint + Alloc), what: &str, error: &Error) {
 }
 
 // Says it if the text could not be written whole.
-fn tell(rt: &(impl Eprint + Alloc), went: Output) {
-    match went {
-        Output::Whole(_) => {}
-        Output::Broken(_, error) => fail(rt, "standard output", &error),
+fn tell(rt: &(impl Eprint + Alloc), went: Result<usize, Broken>) {
+    if let Err(broken) = went {
+        fail(rt, "standard output", &broken.error);
     }
 }
 
 // Whether the program was given an argument, be it text or not.
 fn has_argument(rt: &impl Env) -> bool {
     let mut start = [0; 1];
-    match rt.arg(1, &mut start) {
-        Err(FillError::NotPresent) => false,
-        _ => true,
-    }
+    !matches!(rt.arg(1, &mut start), Err(FillError::NotPresent))
 }
 
 fn main(rt: HostRuntime) {
@@ -115,7 +104,7 @@ fn main(rt: HostRuntime) {
     let mut input = rt.stdin();
     let mut output = rt.stdout();
     match read_input(&mut input, &mut bytes) {
-        Moved::Bytes(count) => {
+        Ok(count) => {
             // Called here too, the large text keeps a stack of its own, which a short script never touches.
             if SHORT_SCRIPT < count {
                 tell(&rt, print_large(&mut output, &bytes[..count]));
@@ -123,6 +112,6 @@ fn main(rt: HostRuntime) {
                 tell(&rt, print_short(&mut output, &bytes[..count]));
             }
         }
-        Moved::Failed(error) => fail(&rt, "standard input", &error),
+        Err(error) => fail(&rt, "standard input", &error),
     }
 }

@@ -7,33 +7,39 @@ ghost use Rattle.reporting.specs.Lines.{refusal_text, table_text};
 ghost use Rattle.reporting.specs.Reporting.{lent_rows, reporting_of_text};
 
 use lines::{put_refusal, put_table};
-use reporting::Reported;
+use reporting::TextTooShort;
 use script::Refusal;
 use summary::sum_up;
 
 // Measures the line by putting it into an empty buffer, and puts it into the text if there is room.
-pub fn print_refusal(refusal: Refusal, text: &mut [u8]) -> Reported
+pub fn print_refusal(refusal: Refusal, text: &mut [u8]) -> Result<usize, TextTooShort>
     ensures { reporting_of_text (refusal_text refusal) text.old ≡ record { reply = result; text = text.new } }
 {
     let mut nothing = [0u8; 0];
-    let line = put_refusal(&mut nothing[..], refusal);
-    if text.len() < line {
-        return Reported::TextTooShort(line);
+    let needed = put_refusal(&mut nothing, refusal);
+    if text.len() < needed {
+        return Err(TextTooShort { needed });
     }
-    Reported::Printed(put_refusal(text, refusal))
+    Ok(put_refusal(text, refusal))
 }
 
 // The same with a table, whose rows are summed up once.
-pub fn print_table(p: u32, q: u32, count: usize, table: &[u32], text: &mut [u8]) -> Reported
+pub fn print_table(
+    p: u32,
+    q: u32,
+    count: usize,
+    table: &[u32],
+    text: &mut [u8],
+) -> Result<usize, TextTooShort>
     requires { length (rows_of table.now) ≤ lent_rows }
     ensures { reporting_of_text (table_text p q count (rows_of table.now)) text.old
         ≡ record { reply = result; text = text.new } }
 {
     let summary = sum_up(table);
     let mut nothing = [0u8; 0];
-    let needed = put_table(&mut nothing[..], p, q, count, table, summary);
+    let needed = put_table(&mut nothing, p, q, count, table, summary);
     if text.len() < needed {
-        return Reported::TextTooShort(needed);
+        return Err(TextTooShort { needed });
     }
-    Reported::Printed(put_table(text, p, q, count, table, summary))
+    Ok(put_table(text, p, q, count, table, summary))
 }

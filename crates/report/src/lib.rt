@@ -8,8 +8,7 @@ ghost use Rattle.reporting.specs.Reporting.{lent_table, lent_work, reporting_of,
 use brief_report::report_brief;
 use printing::{print_refusal, print_table};
 use refine::refine_long;
-use refining::answers::Refined;
-use reporting::{Brief, Reported};
+use reporting::{Brief, TextTooShort};
 use rows::ROW_WIDTH;
 
 // The rows of the table that the program lends.
@@ -30,20 +29,26 @@ fn lent_work() -> [u32; 4 * ROWS]
 }
 
 // An admitted script: its table, or the refusal of refining.
-fn report_admitted(script: &[u8], p: u32, q: u32, count: usize, text: &mut [u8]) -> Reported
+fn report_admitted(
+    script: &[u8],
+    p: u32,
+    q: u32,
+    count: usize,
+    text: &mut [u8],
+) -> Result<usize, TextTooShort>
     requires { ReadAs script.now p q count }
     ensures { reporting_of script.now text.old ≡ record { reply = result; text = text.new } }
 {
     let mut table = lent_table();
     let mut work = lent_work();
     match refine_long(script, &mut table[..], &mut work[..]) {
-        Refined::Refused(refusal) => print_refusal(refusal, text),
-        Refined::Rows(n) => print_table(p, q, count, &table[..ROW_WIDTH * n], text),
+        Err(refusal) => print_refusal(refusal, text),
+        Ok(n) => print_table(p, q, count, &table[..ROW_WIDTH * n], text),
     }
 }
 
 // Makes the text that the program prints for a script.
-pub fn report(script: &[u8], text: &mut [u8]) -> Reported
+pub fn report(script: &[u8], text: &mut [u8]) -> Result<usize, TextTooShort>
     ensures reply { result ≡ (reporting_of script.now text.old).reply }
     ensures text { text.new ≡ (reporting_of script.now text.old).text }
     ensures line_two { LineTwoPrinted script.now result text.new }

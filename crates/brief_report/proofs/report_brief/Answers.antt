@@ -3,6 +3,6 @@ use borrow.Author.Rules.{rules}
 use Rattle.brief_report.proofs.Trying.{report-refused}
 use Rattle.brief_report.proofs.report_brief.Goals as goal
 
-pub returns-in-Refused : goal.returns-in-Refused
-returns-in-Refused c =
+pub returns-in-Err : goal.returns-in-Err
+returns-in-Err c =
     search (rules, report-refused)
