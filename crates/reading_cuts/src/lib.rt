@@ -58,8 +58,7 @@ pub fn lowest_found(a: &[u32], s: CutSet) -> u32
     requires { SomeFound a.now s }
     ensures { Lowest a.now s result }
 {
-    let first = s.done;
-    a[first]
+    a[s.done]
 }
 
 // The highest newly found member.
@@ -67,8 +66,7 @@ pub fn highest_found(a: &[u32], s: CutSet) -> u32
     requires { SomeFound a.now s }
     ensures { Highest a.now s result }
 {
-    let end = s.used;
-    a[end - 1]
+    a[s.used - 1]
 }
 
 // The places of all members of a joined set.
