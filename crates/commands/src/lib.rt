@@ -87,7 +87,7 @@ pub fn is_reversed(code: u8) -> bool
 pub fn bit(reversed: bool) -> u32
     ensures { result ≡ bit_of reversed }
 {
-    if reversed { 1 } else { 0 }
+    u32::from(reversed)
 }
 
 // The command at the start of a remainder.
