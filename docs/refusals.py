@@ -25,7 +25,7 @@ LISTS = [
     (DEFINITION, "place_of", r"^place_of .*\Z", r"^place_of \(?(?P<word>\w+)[^=]* ="),
     ("crates/script/src/refusal.rt", "enum", r"^pub enum Refusal \{.*?^\}", r"^ +(?P<word>[A-Z]\w*).*,$"),
     (CODE, "number_of", r"^pub fn number_of.*?^\}", r"Refusal::(?P<word>\w+)[^=]* => (?P<number>\d+),$"),
-    (CODE, "place_of", r"^pub fn place_of.*?^\}", r"Refusal::(?P<word>\w+)[^=]* =>"),
+    (CODE, "place_of", r"^pub fn place_of.*?^\}", r"Refusal::(?P<word>\w+)(?:\(at\))?(?: => |$)"),
     (HEADER, "enum", r"^enum notchergrey_refusal \{.*?^\};", r"^ +NOTCHERGREY_(?P<word>\w+) = (?P<number>\d+)"),
     ("bindings/rust/src/word.rs", "words", r"^words! \{.*?^\}", r"^ +(?P<word>\w+) = (?P<number>\d+), "),
     ("bindings/rust/src/word.rs", "names", r"^words! \{.*?^\}", r'^ +\w+ = (?P<number>\d+), "(?P<word>[^"]+)":$'),

@@ -1,7 +1,7 @@
 // How the program reads its input and writes its text: by reads and writes that may move a part, be interrupted, or fail.
 #![tactic(auto)]
 
-ghost use Rattle.std.specs.Prelude.{true, ◌≡◌, ◌<◌, ◌≤◌, length, drop};
+ghost use Rattle.std.specs.Prelude.{true, ◌≡◌, ◌+◌, ◌<◌, ◌≤◌, length, take, drop};
 ghost use Rattle.reporting.specs.Reporting.{input_room, report_of};
 ghost use Rattle.streams.specs.Counting.{count_of, Went};
 
@@ -35,6 +35,15 @@ fn again(tries: u32, error: &Error) -> bool
     }
 }
 
+// One read, to behind the first `done` bytes of the buffer: what came before is kept.
+fn read_more<R: Read>(input: &mut R, bytes: &mut [u8], done: usize) -> Result<usize, Error>
+    requires { done ≤ length bytes.old }
+    ensures bytes_unchanged { take done bytes.new ≡ take done bytes.old }
+    ensures result_in_bounds { done + count_of result ≤ length bytes.old }
+{
+    input.read(&mut bytes[done..])
+}
+
 // Reads until the buffer is full or the input ends. What came before a read that fails is not answered, since it would
 // be taken for a shorter script.
 pub fn read_input<R: Read>(input: &mut R, bytes: &mut [u8]) -> Result<usize, Error>
@@ -45,7 +54,7 @@ pub fn read_input<R: Read>(input: &mut R, bytes: &mut [u8]) -> Result<usize, Err
     let mut tries = TRIES;
     // Not a `for`: a read moves any part of what is asked for.
     while done < bytes.len() {
-        match input.read(&mut bytes[done..]) {
+        match read_more(input, bytes, done) {
             Ok(0) => return Ok(done),
             Ok(more) => done += more,
             Err(error) if again(tries, &error) => tries -= 1,
