@@ -1,5 +1,4 @@
 -- Carrying into one set of a shelf, where that stands.
---     group-ready         a set outside of the shelf can be carried from, into a set of the shelf
 --     tried               what one try did, from what carrying and writing into the book did
 -- Assumes nothing.
 use Prim.Native.Nat.{ℕ, ◌+◌, ◌≤◌, ◌<◌}
@@ -11,22 +10,11 @@ use lib.ListN.{length}
 use Rattle.cut_set.specs.Store.{Found, found_in, Stored}
 use Rattle.cut_set.specs.declared.CutSet.{CutSet}
 use Rattle.refining.specs.Columns.{Columns, count_of}
-use Rattle.carrying_match.specs.OneMatch.{Apart, Ready}
 use Rattle.carrying_cuts.specs.Worker.{Images, hits_over}
 use Rattle.shelf.specs.Shelf.{set_at, Shelf, Saved}
 use Rattle.shelf.proofs.Shelving.{good-is, base_is, limit_is}
 use Rattle.shelf.proofs.Filling.{put}
 use Rattle.carrying_group.specs.Group.{Clear, Carried}
-
--- the set number j of a shelf was loaded, and is to be carried into
-pub group-ready : {xs b : List ℕ} {n lo hi j : ℕ} {from to : CutSet} → to ≡ set_at b j → Shelf xs b n lo hi →
-    Clear xs from lo hi → j < n → Ready xs from to
-group-ready {j = j} e s clear l = record {
-  from_good = clear.good;
-  to_good = good-is e (s.good j l);
-  apart = ⊎_elim (λ h. Apart.before (omega (arith, h, s.from j l, base_is e)))
-      (λ h. Apart.behind (omega (arith, h, s.to j l, limit_is e))) clear.apart;
-}
 
 -- the set number j was loaded as s, and saved as t
 module _ {s t : CutSet} {n lo hi j : ℕ} {xs b ys b' : List ℕ} (e : s ≡ set_at b j)

@@ -2,13 +2,13 @@
 --     Clear               the set that is carried from stands outside of the shelf's places
 --     Grouping            what carrying does, by its answer
 -- Assumes nothing.
-use Rattle.std.specs.Prelude.{ℕ, ◌+◌, ◌-◌, ◌≤◌, ◌<◌, ◌≡◌, ◌⊎◌, List}
+use Rattle.std.specs.Prelude.{ℕ, ◌+◌, ◌-◌, ◌≤◌, ◌<◌, ◌≡◌, ◌⊎◌, List, Result, Ok, Err}
 use Rattle.cut_set.specs.Store.{Good, Found, NothingAdded, found_in}
 use Rattle.cut_set.specs.declared.CutSet.{CutSet}
 use Rattle.refining.specs.Columns.{Columns, count_of}
 use Rattle.carrying_cuts.specs.Worker.{Images, hits_over}
 use Rattle.shelf.specs.Shelf.{GrownShelf, Jammed, Shelved}
-use Rattle.carrying_group.specs.declared.Hits.{Hits}
+use Rattle.carrying_group.specs.declared.TooMany.{TooMany}
 
 -- a set that is gathered, and stands outside of the places [lo, hi)
 pub record Clear (xs : List ℕ) (from : CutSet) (lo hi : ℕ) : Type 0 where
@@ -24,10 +24,10 @@ pub record Carried (c : Columns) (from : CutSet) (n lo hi j : ℕ) (xs b : List 
   pub few : hits' ≤ most
 
 abbrev pub Grouping :
-    Columns → CutSet → ℕ → ℕ → ℕ → ℕ → List ℕ → List ℕ → ℕ → ℕ → List ℕ → List ℕ → Hits → Type 0
-Grouping c from n lo hi j xs b hits most ys b' (Hits.Counted hits') =
+    Columns → CutSet → ℕ → ℕ → ℕ → ℕ → List ℕ → List ℕ → ℕ → ℕ → List ℕ → List ℕ → Result ℕ TooMany → Type 0
+Grouping c from n lo hi j xs b hits most ys b' (Ok hits') =
     Carried c from n lo hi j xs b hits most ys b' hits'
-Grouping c from n lo hi j xs b hits most ys b' Hits.TooMany =
+Grouping c from n lo hi j xs b hits most ys b' (Err none) =
     (most < hits + hits_over c (count_of c) (found_in xs from))
     ⊎ Jammed
     (λ p. Shelved xs b n p ⊎ ((p.track ≡ j) × Images c (count_of c) (Found xs from) p.position))

@@ -11,6 +11,7 @@ use Prim.Native.Nat.{ℕ, zero, suc, ◌+◌, ◌-◌, ◌≤◌, ◌<◌}
 use mathlib.Core.Path.{◌≡◌, refl, sym, ap, subst, ◌∙◌}
 use mathlib.Core.Logic.{◌↔◌, ◌⊎◌, inl, inr, ⊎_elim}
 use mathlib.Core.List.{List, []}
+use Rattle.std.specs.declared.result.Result.TheVariants.{Err}
 use native.Mathlib.Omega.{arith}
 use native.Mathlib.Decide.{dec_lt, ℕ_discrete}
 use lib.ListN.{length}
@@ -29,7 +30,7 @@ use Rattle.shelf.specs.Shelf.{set_at, Outside, Shelf, Shelved}
 use Rattle.shelf.proofs.Shelving.{shelf-none, shelf-then, shelf-as, jammed-as}
 use Rattle.shelf.proofs.Members.{grown-member}
 use Rattle.carrying_group.specs.Group.{Carried, Grouping}
-use Rattle.carrying_group.specs.declared.Hits.{Hits}
+use Rattle.carrying_group.specs.declared.TooMany.{TooMany}
 use Rattle.tracks.specs.Tracks.{Lane, LaneImage, lane_hits}
 use Rattle.tracks.specs.Groups.{start_at, track_at, tracks_of, Groups, lane_by, part_of, Takes, TakesNot}
 use Rattle.tracks.proofs.Grouped.{start-count, group-track, grouped-fit, part_count, part-image, image-part, part-hits}
@@ -292,7 +293,8 @@ module _ {c : Columns} {is gs fb : List ℕ} {n fa ta sets lo hi : ℕ} {xs b : 
             (hits-mono the_lane news stop (count_of c - stop))
 
         pub going-not :
-            Grouping group from_set sets lo hi (track_at gs ta g) ys b' total most ys b' Hits.TooMany
+            {none : TooMany}
+            → Grouping group from_set sets lo hi (track_at gs ta g) ys b' total most ys b' (Err none)
             → TakesNot the_lane (count_of c) fb sets lo hi xs b hits most
         going-not (inl more) = inl (omega (arith, w.takes.counted, added, all))
         going-not (inr j) = inr (jammed-as shown j)

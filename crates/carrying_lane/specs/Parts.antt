@@ -6,14 +6,14 @@
 --     EndsKept            the ends of all matches are members of the sets that the lane takes to
 --     Laning              what taking does, by its answer
 -- Assumes nothing.
-use Rattle.std.specs.Prelude.{ℕ, suc, ◌*◌, ◌≤◌, ◌<◌, ◌≡◌, cond, List, length, ltb}
+use Rattle.std.specs.Prelude.{ℕ, suc, ◌*◌, ◌≤◌, ◌<◌, ◌≡◌, cond, List, length, ltb, Result, Ok, Err}
 use Rattle.refining.specs.Columns.{count_of, to_at, to_right_at}
 use Rattle.arrangement.specs.Index.{index_room}
 use Rattle.carrying_match.specs.OneMatch.{EndsIn}
 use Rattle.turning.specs.Turning.{Usable}
 use Rattle.shelf.specs.Shelf.{set_at}
 use Rattle.carrying_group.specs.Group.{Clear}
-use Rattle.carrying_group.specs.declared.Hits.{Hits}
+use Rattle.carrying_group.specs.declared.TooMany.{TooMany}
 use Rattle.tracks.specs.Tracks.{Lane}
 use Rattle.tracks.specs.Groups.{start_at, part, Takes, TakesNot}
 
@@ -43,8 +43,8 @@ EndsKept l xs b =
     (k : ℕ) → k < count_of l.columns → EndsIn xs (set_at b (l.to k)) (to_at l.columns k) (to_right_at l.columns k)
 
 abbrev pub Laning :
-    Lane → List ℕ → ℕ → ℕ → ℕ → List ℕ → List ℕ → ℕ → ℕ → List ℕ → List ℕ → Hits → Type 0
-Laning l fb n lo hi xs b hits most ys b' (Hits.Counted hits') =
+    Lane → List ℕ → ℕ → ℕ → ℕ → List ℕ → List ℕ → ℕ → ℕ → List ℕ → List ℕ → Result ℕ TooMany → Type 0
+Laning l fb n lo hi xs b hits most ys b' (Ok hits') =
     Takes l (count_of l.columns) fb n lo hi xs b hits most ys b' hits'
-Laning l fb n lo hi xs b hits most ys b' Hits.TooMany =
+Laning l fb n lo hi xs b hits most ys b' (Err none) =
     TakesNot l (count_of l.columns) fb n lo hi xs b hits most

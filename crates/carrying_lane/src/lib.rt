@@ -3,7 +3,7 @@
 #![tactic(auto)]
 
 ghost use Rattle.std.specs.Prelude.{◌≡◌, true, suc, ◌+◌, ◌*◌, ◌≤◌, ◌<◌, length};
-ghost use Rattle.refining.specs.Columns.{columns_of, Fit};
+ghost use Rattle.match_columns.specs.Held.{columns_in};
 ghost use Rattle.carrying_cuts.specs.Worker.{EndsKnown};
 ghost use Rattle.shelf.specs.Shelf.{set_at, Shelf};
 ghost use Rattle.carrying_group.specs.Group.{Clear, Grouping};
@@ -11,9 +11,10 @@ ghost use Rattle.tracks.specs.Groups.{start_at, track_at, Groups, lane_by, part_
 ghost use Rattle.carrying_lane.specs.Parts.{OneOfTwo, ClearBook, place_in, UsableParts, EndsKept, Laning};
 ghost use Rattle.carrying_lane.specs.Range.{GroupAt, Ready, Ranged};
 
-use carrying_group::{Hits, carry_group};
+use carrying_group::{TooMany, carry_group};
 use cut_set::CutSet;
 use indexing::index_room;
+use match_columns::MatchColumns;
 use reading_cuts::none_found;
 use shelf::load;
 
@@ -52,11 +53,7 @@ fn group_at(groups: &[usize], g: usize, from_at: usize, to_at: usize) -> Group
 
 // Takes the newly found cuts of one set over the matches of a group, whose index stands in the places [low, high).
 fn carry_range(
-    lefts: &[u32],
-    rights: &[u32],
-    other_lefts: &[u32],
-    other_rights: &[u32],
-    reversed: &[bool],
+    matches: &MatchColumns<'_>,
     index: &[u32],
     work: &mut [u32],
     book: &mut [usize],
@@ -70,8 +67,8 @@ fn carry_range(
     hits: usize,
     most: usize,
     ended: bool,
-) -> Hits
-    requires ranged { Ranged (columns_of lefts.now rights.now other_lefts.now other_rights.now reversed.now) index.now
+) -> Result<usize, TooMany>
+    requires ranged { Ranged (columns_in matches.now) index.now
         group low high }
     requires shelf { Shelf work.old book.old sets lo hi }
     requires clear { Clear work.old from lo hi }
@@ -80,23 +77,16 @@ fn carry_range(
     requires ends_known { ended ≡ true
         → EndsKnown
         (part_of group.start group.end
-        (columns_of lefts.now rights.now other_lefts.now other_rights.now reversed.now))
+        (columns_in matches.now))
         work.old (set_at book.old group.to) }
     ensures { Grouping
         (part_of group.start group.end
-        (columns_of lefts.now rights.now other_lefts.now
-        other_rights.now reversed.now))
+        (columns_in matches.now))
         from sets lo hi group.to work.old book.old hits most work.new
         book.new result }
 {
-    let start = group.start;
-    let end = group.end;
     carry_group(
-        &lefts[start..end],
-        &rights[start..end],
-        &other_lefts[start..end],
-        &other_rights[start..end],
-        &reversed[start..end],
+        &matches.part(group.start, group.end),
         &index[low..high],
         work,
         book,
@@ -113,11 +103,7 @@ fn carry_range(
 
 // Takes the newly found cuts of one set over the matches of group g.
 fn carry_part(
-    lefts: &[u32],
-    rights: &[u32],
-    other_lefts: &[u32],
-    other_rights: &[u32],
-    reversed: &[bool],
+    matches: &MatchColumns<'_>,
     index: &[u32],
     groups: &[usize],
     from_book: &[usize],
@@ -133,20 +119,19 @@ fn carry_part(
     hits: usize,
     most: usize,
     ended: bool,
-) -> Hits
-    requires ready { Ready (columns_of lefts.now rights.now other_lefts.now other_rights.now reversed.now) index.now
+) -> Result<usize, TooMany>
+    requires ready { Ready (columns_in matches.now) index.now
         groups.now from_book.now count from_at to_at sets lo hi work.old book.old }
     requires g_lt_count { g < count }
     requires hits_le_most { hits ≤ most }
     requires ends_kept { ended ≡ true
         → EndsKept
-        (lane_by (columns_of lefts.now rights.now other_lefts.now other_rights.now reversed.now) groups.now
+        (lane_by (columns_in matches.now) groups.now
         count from_at to_at)
         work.old book.old }
     ensures { Grouping
         (part_of (start_at groups.now g) (start_at groups.now (suc g))
-        (columns_of lefts.now rights.now other_lefts.now
-        other_rights.now reversed.now))
+        (columns_in matches.now))
         (set_at from_book.now (track_at groups.now from_at g)) sets lo hi
         (track_at groups.now to_at g) work.old book.old hits most
         work.new book.new result }
@@ -154,40 +139,19 @@ fn carry_part(
     let group = group_at(groups, g, from_at, to_at);
     let from = load(from_book, group.from);
     if none_found(from) {
-        return Hits::Counted(hits);
+        return Ok(hits);
     }
     let low = index_place(index.len(), group.start);
     let high = index_place(index.len(), group.end);
     carry_range(
-        lefts,
-        rights,
-        other_lefts,
-        other_rights,
-        reversed,
-        index,
-        work,
-        book,
-        from,
-        group,
-        low,
-        high,
-        sets,
-        lo,
-        hi,
-        hits,
-        most,
-        ended,
+        matches, index, work, book, from, group, low, high, sets, lo, hi, hits, most, ended,
     )
 }
 
 // Takes the newly found cuts of the sets of `from_book` along the lane, into the sets of the shelf in the places
 // [lo, hi).
 pub fn carry_lane(
-    lefts: &[u32],
-    rights: &[u32],
-    other_lefts: &[u32],
-    other_rights: &[u32],
-    reversed: &[bool],
+    matches: &MatchColumns<'_>,
     index: &[u32],
     groups: &[usize],
     from_book: &[usize],
@@ -202,11 +166,10 @@ pub fn carry_lane(
     hits: usize,
     most: usize,
     ended: bool,
-) -> Hits
-    requires fit { Fit (columns_of lefts.now rights.now other_lefts.now other_rights.now reversed.now) }
-    requires reversed_len_bound { length reversed.now ≤ 4294967296 }
-    requires usable_parts { UsableParts index.now groups.now count lefts.now rights.now }
-    requires groups { Groups groups.now count (length reversed.now) sets }
+) -> Result<usize, TooMany>
+    requires reversed_len_bound { length matches.now.reversed.now ≤ 4294967296 }
+    requires usable_parts { UsableParts index.now groups.now count matches.now.lefts.now matches.now.rights.now }
+    requires groups { Groups groups.now count (length matches.now.reversed.now) sets }
     requires clear_book { ClearBook work.old from_book.now sets lo hi }
     requires shelf { Shelf work.old book.old sets lo hi }
     requires one_of_two { OneOfTwo from_at }
@@ -214,46 +177,22 @@ pub fn carry_lane(
     requires hits_le_most { hits ≤ most }
     requires ends_kept { ended ≡ true
         → EndsKept
-        (lane_by (columns_of lefts.now rights.now other_lefts.now other_rights.now reversed.now) groups.now
+        (lane_by (columns_in matches.now) groups.now
         count from_at to_at)
         work.old book.old }
     ensures { Laning
         (lane_by
-        (columns_of lefts.now rights.now other_lefts.now
-        other_rights.now reversed.now)
+        (columns_in matches.now)
         groups.now count from_at to_at)
         from_book.now sets lo hi work.old book.old hits most work.new
         book.new result }
 {
     let mut total = hits;
-    let mut g = 0;
-    while g < count {
-        match carry_part(
-            lefts,
-            rights,
-            other_lefts,
-            other_rights,
-            reversed,
-            index,
-            groups,
-            from_book,
-            work,
-            book,
-            count,
-            g,
-            from_at,
-            to_at,
-            sets,
-            lo,
-            hi,
-            total,
-            most,
-            ended,
-        ) {
-            Hits::Counted(h) => total = h,
-            Hits::TooMany => return Hits::TooMany,
-        }
-        g += 1;
+    for g in 0..count {
+        total = carry_part(
+            matches, index, groups, from_book, work, book, count, g, from_at, to_at, sets, lo, hi,
+            total, most, ended,
+        )?;
     }
-    Hits::Counted(total)
+    Ok(total)
 }

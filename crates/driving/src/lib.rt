@@ -3,31 +3,23 @@
 
 ghost use Rattle.std.specs.Prelude.{List};
 ghost use Rattle.refinement.specs.Match.{Place};
-ghost use Rattle.refining.specs.Columns.{columns_of};
+ghost use Rattle.match_columns.specs.Held.{columns_in};
 ghost use Rattle.tracks.specs.Engine.{books_of};
 ghost use Rattle.tracks.specs.Groups.{grouped};
 ghost use Rattle.stepping.specs.Steps.{Given};
 ghost use Rattle.driving.specs.Driving.{Driving, Driven, Closure};
 
+use carrying_group::TooMany;
+use match_columns::MatchColumns;
 use stepping::{Closing, a_step, b_step};
-
-// The sets hold all cuts, or every resolved refinement has more pieces than the capacity.
-#[derive(Drop)]
-pub enum Closed {
-    AllCuts,
-    TooMany,
-}
 
 // How many calls of the steps may stand on the stack at once.
 pub const BUDGET: u32 = 16;
 
-// Goes on with the step that is due until nothing new is left.
+// Goes on with the step that is due until nothing new is left. Then the sets hold all cuts; else every resolved refinement
+// has more pieces than the capacity.
 pub fn drive(
-    left_a: &[u32],
-    right_a: &[u32],
-    left_b: &[u32],
-    right_b: &[u32],
-    reversed: &[bool],
+    matches: &MatchColumns<'_>,
     straight: &[bool],
     index_a: &[u32],
     index_b: &[u32],
@@ -37,44 +29,36 @@ pub fn drive(
     book_b: &mut [usize],
     count: usize,
     sets: usize,
-    first: Closing,
+    first: Result<Closing, TooMany>,
     capacity: usize,
-) -> Closed
-    requires given { Given (columns_of left_a.now right_a.now left_b.now right_b.now reversed.now) straight.now
+) -> Result<(), TooMany>
+    requires given { Given (columns_in matches.now) straight.now
         index_a.now index_b.now groups.now count sets }
-    requires driven { Driven (columns_of left_a.now right_a.now left_b.now right_b.now reversed.now) groups.now
+    requires driven { Driven (columns_in matches.now) groups.now
         count sets capacity work.old book_a.old book_b.old first }
     ensures { (marks : List Place)
         → Driving
-        (columns_of left_a.now right_a.now left_b.now right_b.now
-        reversed.now)
+        (columns_in matches.now)
         groups.now count marks sets capacity work.old book_a.old
         book_b.old first
         → Closure
         (grouped
-        (columns_of left_a.now right_a.now left_b.now right_b.now
-        reversed.now)
+        (columns_in matches.now)
         groups.now count marks)
         sets capacity work.new (books_of book_a.new book_b.new) result }
 {
-    let mut closing = first;
+    let mut closing = first?;
     loop {
-        let now = closing;
-        match now {
-            Closing::Done => return Closed::AllCuts,
-            Closing::TooMany => return Closed::TooMany,
-            Closing::MoreA(c) => {
-                closing = a_step(
-                    left_a, right_a, left_b, right_b, reversed, straight, index_a, index_b, groups,
-                    work, book_a, book_b, count, sets, c, capacity, BUDGET,
-                );
-            }
-            Closing::MoreB(c) => {
-                closing = b_step(
-                    left_a, right_a, left_b, right_b, reversed, straight, index_a, index_b, groups,
-                    work, book_a, book_b, count, sets, c, capacity, BUDGET,
-                );
-            }
-        }
+        closing = match closing {
+            Closing::Done => return Ok(()),
+            Closing::MoreA(counts) => a_step(
+                matches, straight, index_a, index_b, groups, work, book_a, book_b, count, sets,
+                counts, capacity, BUDGET,
+            )?,
+            Closing::MoreB(counts) => b_step(
+                matches, straight, index_a, index_b, groups, work, book_a, book_b, count, sets,
+                counts, capacity, BUDGET,
+            )?,
+        };
     }
 }

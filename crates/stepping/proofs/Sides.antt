@@ -27,6 +27,9 @@ use Rattle.tracks.specs.Groups.{Groups, side_at, grouped}
 use Rattle.tracks.proofs.Stepping.{found-exceeds, jammed-too-many, taken-open, taken-less}
 use Rattle.tracks.proofs.Settled.{settled-all}
 use Rattle.shelving.specs.AllSets.{SomeFound}
+use Rattle.std.specs.declared.result.Result.{Result}
+use Rattle.std.specs.declared.result.Result.TheVariants.{Ok, Err}
+use Rattle.carrying_group.specs.declared.TooMany.{TooMany}
 use Rattle.carrying_lane.specs.Parts.{OneOfTwo, EndsKept}
 use Rattle.taking.specs.Taking.{lane_to, Halves, before, behind, Able, Stepped, BothNot, excess, jammed}
 use Rattle.stepping.specs.Steps.{AllCuts}
@@ -164,8 +167,8 @@ halves-within o = (o.shelf B).within
 -- a step that goes on with a step
 pub goes_on :
     (c : Columns) (gs : List ℕ) (g n cap : ℕ) (marks : List Place) (free free' : ℕ) (ys a b : List ℕ) → free < free'
-    → (answer : Closing) → Going c gs g marks n cap free ys a b answer → Going c gs g marks n cap free' ys a b answer
-goes_on c gs g n cap marks free free' ys a b l Closing.Done h = h
-goes_on c gs g n cap marks free free' ys a b l (Closing.MoreA k) h = (h.0, omega (arith, h.1))
-goes_on c gs g n cap marks free free' ys a b l (Closing.MoreB k) h = (h.0, omega (arith, h.1))
-goes_on c gs g n cap marks free free' ys a b l Closing.TooMany h = h
+    → (answer : Result Closing TooMany) → Going c gs g marks n cap free ys a b answer → Going c gs g marks n cap free' ys a b answer
+goes_on c gs g n cap marks free free' ys a b l (Ok Closing.Done) h = h
+goes_on c gs g n cap marks free free' ys a b l (Ok (Closing.MoreA k)) h = (h.0, omega (arith, h.1))
+goes_on c gs g n cap marks free free' ys a b l (Ok (Closing.MoreB k)) h = (h.0, omega (arith, h.1))
+goes_on c gs g n cap marks free free' ys a b l (Err none) h = h

@@ -4,7 +4,7 @@
 --     OpenWith, Opened    what holds between two steps, with these marks and with some
 --     AllCuts, Going, Goes     all is carried; what an answer of the two steps means, and what a step does
 -- Assumes nothing.
-use Rattle.std.specs.Prelude.{ℕ, ◌≤◌, ◌<◌, ◌≡◌, Bool, false, ◌↔◌, List, length, replicate}
+use Rattle.std.specs.Prelude.{ℕ, ◌≤◌, ◌<◌, ◌≡◌, Bool, false, ◌↔◌, List, length, replicate, Result, Ok, Err}
 use Rattle.refinement.specs.declared.Side.{Side}
 use Rattle.refinement.specs.declared.Side.TheVariants.{A, B}
 use Rattle.refinement.specs.Match.{Place, on_side}
@@ -15,6 +15,7 @@ use Rattle.shelf.specs.Shelf.{Shelf, Shelved}
 use Rattle.tracks.specs.Tracks.{Tracked, SideCut, given_in, Kind}
 use Rattle.tracks.specs.Engine.{books_of, Open, unused}
 use Rattle.tracks.specs.Groups.{Groups, grouped}
+use Rattle.carrying_group.specs.declared.TooMany.{TooMany}
 use Rattle.carrying_lane.specs.Parts.{UsableParts}
 use Rattle.stepping.specs.declared.Counts.{Counts}
 use Rattle.stepping.specs.declared.Closing.{Closing}
@@ -47,17 +48,17 @@ pub record AllCuts (t : Tracked) (n cap : ℕ) (ys : List ℕ) (books : Side →
   pub fits : length (least_of (given_in t)) ≤ cap
 
 -- after steps that began with `free` unused places: all is carried; or a step is due, with fewer of them
-abbrev pub Going : Columns → List ℕ → ℕ → List Place → ℕ → ℕ → ℕ → List ℕ → List ℕ → List ℕ → Closing → Type 0
-Going c gs g marks n cap free ys a b Closing.Done = AllCuts (grouped c gs g marks) n cap ys (books_of a b)
-Going c gs g marks n cap free ys a b (Closing.MoreA k) =
+abbrev pub Going : Columns → List ℕ → ℕ → List Place → ℕ → ℕ → ℕ → List ℕ → List ℕ → List ℕ → Result Closing TooMany → Type 0
+Going c gs g marks n cap free ys a b (Ok Closing.Done) = AllCuts (grouped c gs g marks) n cap ys (books_of a b)
+Going c gs g marks n cap free ys a b (Ok (Closing.MoreA k)) =
     OpenWith c gs g marks n cap ys a b k A × (unused (books_of a b) n cap < free)
-Going c gs g marks n cap free ys a b (Closing.MoreB k) =
+Going c gs g marks n cap free ys a b (Ok (Closing.MoreB k)) =
     OpenWith c gs g marks n cap ys a b k B × (unused (books_of a b) n cap < free)
-Going c gs g marks n cap free ys a b Closing.TooMany = EveryExceeds (given_in (grouped c gs g marks)) cap
+Going c gs g marks n cap free ys a b (Err none) = EveryExceeds (given_in (grouped c gs g marks)) cap
 
 -- a step of the side s, and those that follow it: whatever the marks are that hold before it
 abbrev pub Goes :
-    Columns → List ℕ → ℕ → ℕ → ℕ → List ℕ → List ℕ → List ℕ → Counts → Side → List ℕ → List ℕ → List ℕ → Closing → Type 0
+    Columns → List ℕ → ℕ → ℕ → ℕ → List ℕ → List ℕ → List ℕ → Counts → Side → List ℕ → List ℕ → List ℕ → Result Closing TooMany → Type 0
 Goes c gs g n cap xs a b counts s ys a' b' r =
     (marks : List Place) → OpenWith c gs g marks n cap xs a b counts s
     → Going c gs g marks n cap (unused (books_of a b) n cap) ys a' b' r

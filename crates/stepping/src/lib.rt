@@ -3,11 +3,13 @@
 #![tactic(auto)]
 
 ghost use Rattle.refinement.specs.declared.Side.{Side};
-ghost use Rattle.refining.specs.Columns.{columns_of};
+ghost use Rattle.match_columns.specs.Held.{columns_in};
 ghost use Rattle.stepping.specs.Steps.{Given, Opened, Goes};
 
+use carrying_group::TooMany;
+use match_columns::MatchColumns;
 use shelving::any_found;
-use taking::{Step, take_step};
+use taking::take_step;
 
 // The hits so far: pairs of a cut that was taken and a match that spans it, by the side that it was taken from.
 #[derive(Drop)]
@@ -18,23 +20,18 @@ pub struct Counts {
     pub along_b: usize,
 }
 
-// Nothing new is left; or the budget of calls is used up, and the step named is next; or no table lent has room.
+// Nothing new is left; or the budget of calls is used up, and the step named is next.
 #[derive(Drop)]
 pub enum Closing {
     Done,
     MoreA(Counts),
     MoreB(Counts),
-    TooMany,
 }
 
 // SCOPE, "Least cuts": the new cuts on A are carried to B by every match that spans them. The budget bounds the stack.
 #[cycle(a_step_b_step)]
 pub fn a_step(
-    left_a: &[u32],
-    right_a: &[u32],
-    left_b: &[u32],
-    right_b: &[u32],
-    reversed: &[bool],
+    matches: &MatchColumns<'_>,
     straight: &[bool],
     index_a: &[u32],
     index_b: &[u32],
@@ -47,23 +44,18 @@ pub fn a_step(
     counts: Counts,
     capacity: usize,
     budget: u32,
-) -> Closing
-    requires given { Given (columns_of left_a.now right_a.now left_b.now right_b.now reversed.now) straight.now
+) -> Result<Closing, TooMany>
+    requires given { Given (columns_in matches.now) straight.now
         index_a.now index_b.now groups.now count sets }
-    requires opened { Opened (columns_of left_a.now right_a.now left_b.now right_b.now reversed.now) groups.now
+    requires opened { Opened (columns_in matches.now) groups.now
         count sets capacity work.old book_a.old book_b.old counts Side.A }
     ensures { Goes
-        (columns_of left_a.now right_a.now left_b.now right_b.now
-        reversed.now)
+        (columns_in matches.now)
         groups.now count sets capacity work.old book_a.old book_b.old
         counts Side.A work.new book_a.new book_b.new result }
 {
-    match take_step(
-        left_a,
-        right_a,
-        left_b,
-        right_b,
-        reversed,
+    let taken = take_step(
+        matches,
         straight,
         index_a,
         index_b,
@@ -81,55 +73,42 @@ pub fn a_step(
         4 * capacity,
         counts.over_a,
         counts.along_a,
-        capacity + reversed.len(),
+        capacity + matches.reversed.len(),
         false,
-    ) {
-        Step::TooMany => Closing::TooMany,
-        Step::Taken { over, along } => {
-            let next = Counts {
-                over_a: over,
-                over_b: counts.over_b,
-                along_a: along,
-                along_b: counts.along_b,
-            };
-            if !any_found(book_b, sets) {
-                return Closing::Done;
-            }
-            if budget == 0 {
-                return Closing::MoreB(next);
-            }
-            b_step(
-                left_a,
-                right_a,
-                left_b,
-                right_b,
-                reversed,
-                straight,
-                index_a,
-                index_b,
-                groups,
-                work,
-                book_a,
-                book_b,
-                count,
-                sets,
-                next,
-                capacity,
-                budget - 1,
-            )
-        }
+    )?;
+    let next = Counts {
+        over_a: taken.over,
+        along_a: taken.along,
+        ..counts
+    };
+    if !any_found(book_b, sets) {
+        return Ok(Closing::Done);
     }
+    if budget == 0 {
+        return Ok(Closing::MoreB(next));
+    }
+    b_step(
+        matches,
+        straight,
+        index_a,
+        index_b,
+        groups,
+        work,
+        book_a,
+        book_b,
+        count,
+        sets,
+        next,
+        capacity,
+        budget - 1,
+    )
 }
 
 // The new cuts on B are carried to A in the same way, until neither side gains one. The ends on A are cuts from the
 // start.
 #[cycle(a_step_b_step)]
 pub fn b_step(
-    left_a: &[u32],
-    right_a: &[u32],
-    left_b: &[u32],
-    right_b: &[u32],
-    reversed: &[bool],
+    matches: &MatchColumns<'_>,
     straight: &[bool],
     index_a: &[u32],
     index_b: &[u32],
@@ -142,23 +121,18 @@ pub fn b_step(
     counts: Counts,
     capacity: usize,
     budget: u32,
-) -> Closing
-    requires given { Given (columns_of left_a.now right_a.now left_b.now right_b.now reversed.now) straight.now
+) -> Result<Closing, TooMany>
+    requires given { Given (columns_in matches.now) straight.now
         index_a.now index_b.now groups.now count sets }
-    requires opened { Opened (columns_of left_a.now right_a.now left_b.now right_b.now reversed.now) groups.now
+    requires opened { Opened (columns_in matches.now) groups.now
         count sets capacity work.old book_a.old book_b.old counts Side.B }
     ensures { Goes
-        (columns_of left_a.now right_a.now left_b.now right_b.now
-        reversed.now)
+        (columns_in matches.now)
         groups.now count sets capacity work.old book_a.old book_b.old
         counts Side.B work.new book_a.new book_b.new result }
 {
-    match take_step(
-        left_b,
-        right_b,
-        left_a,
-        right_a,
-        reversed,
+    let taken = take_step(
+        &matches.turned(),
         straight,
         index_b,
         index_a,
@@ -176,42 +150,33 @@ pub fn b_step(
         2 * capacity,
         counts.over_b,
         counts.along_b,
-        capacity + reversed.len(),
+        capacity + matches.reversed.len(),
         true,
-    ) {
-        Step::TooMany => Closing::TooMany,
-        Step::Taken { over, along } => {
-            let next = Counts {
-                over_a: counts.over_a,
-                over_b: over,
-                along_a: counts.along_a,
-                along_b: along,
-            };
-            if !any_found(book_a, sets) {
-                return Closing::Done;
-            }
-            if budget == 0 {
-                return Closing::MoreA(next);
-            }
-            a_step(
-                left_a,
-                right_a,
-                left_b,
-                right_b,
-                reversed,
-                straight,
-                index_a,
-                index_b,
-                groups,
-                work,
-                book_a,
-                book_b,
-                count,
-                sets,
-                next,
-                capacity,
-                budget - 1,
-            )
-        }
+    )?;
+    let next = Counts {
+        over_b: taken.over,
+        along_b: taken.along,
+        ..counts
+    };
+    if !any_found(book_a, sets) {
+        return Ok(Closing::Done);
     }
+    if budget == 0 {
+        return Ok(Closing::MoreA(next));
+    }
+    a_step(
+        matches,
+        straight,
+        index_a,
+        index_b,
+        groups,
+        work,
+        book_a,
+        book_b,
+        count,
+        sets,
+        next,
+        capacity,
+        budget - 1,
+    )
 }

@@ -1,7 +1,7 @@
 -- Taking cuts by both kinds of lanes, one after the other.
 --     both-taken           both had room
 --     over-not, along-not  the one or the other had none, or had too many hits
---     straight-as, straight-length, straight-fit     the column in which no match is reversed
+--     along-as             the columns that carry along the matches, as they are lent
 --     lanes-named          the lanes take from sets that are there
 -- Assumes nothing.
 use Prim.Native.Nat.{ℕ, zero, suc, ◌+◌, ◌≤◌, ◌<◌}
@@ -14,6 +14,8 @@ use lib.ListN.{length, replicate, length-replicate}
 use Rattle.refinement.specs.Match.{Place}
 use Rattle.cut_set.specs.Store.{Found, found_in}
 use Rattle.refining.specs.Columns.{Columns, columns_of, count_of, from_at, from_right_at, Fit}
+use Rattle.match_columns.specs.Held.{columns_in}
+use Rattle.match_columns.specs.declared.MatchColumns.{MatchColumns}
 use Rattle.carrying_match.specs.OneMatch.{hits_on}
 use Rattle.shelf.specs.Shelf.{set_at, Shelf, Shelved}
 use Rattle.shelf.proofs.Shelving.{shelf-then, shelf-as, jammed-as}
@@ -109,29 +111,23 @@ module _ (l : Kind → Lane) {m n lo hi : ℕ} {fb xs b : List ℕ} (o a most : 
             few over = t.few
             few along = u.few
 
--- a column in which no match is reversed, as it is lent and as it is told
-pub straight-as :
-    (P : List Bool → ℕ → Type 0) (w : List Bool) (k : ℕ) → w ≡ replicate k false → P w (length w)
-    → P (replicate k false) k
-straight-as P w k e p =
-    subst (P (replicate k false)) (length-replicate k false) (subst (λ (z : List Bool). P z (length z)) e p)
-
-module _ {c : Columns} (fit : Fit c) (w : List Bool) (e : w ≡ replicate (count_of c) false) where
-  pub straight-length : length w ≡ count_of c
-  straight-length = ap length e ∙ length-replicate (count_of c) false
-
-  -- carrying every position to itself
-  pub straight-fit : Fit (columns_of c.to_lefts c.to_rights c.to_lefts c.to_rights w)
-  straight-fit =
-      let n = straight-length in record {
-        from_length = fit.to_length ∙ sym n;
-        from_right_length = fit.to_right_length ∙ sym n;
-        to_length = fit.to_length ∙ sym n;
-        to_right_length = fit.to_right_length ∙ sym n;
-        lettered = λ k l. fit.lettered k (omega (arith, n));
-        from_right = λ k l. fit.to_right k (omega (arith, n));
-        to_right = λ k l. fit.to_right k (omega (arith, n));
-      }
+-- the columns that carry along the matches, as they are lent, where `w` tells that none is reversed
+pub along-as :
+    (P : Columns → ℕ → Type 0) (m p : MatchColumns) {w : List Bool} → w ≡ replicate (length m.reversed.now) false
+    → p.lefts.now ≡ m.other_lefts.now → p.rights.now ≡ m.other_rights.now → p.other_lefts.now ≡ m.other_lefts.now
+    → p.other_rights.now ≡ m.other_rights.now → p.reversed.now ≡ w → P (columns_in p) (length p.reversed.now)
+    → P
+    (columns_of m.other_lefts.now m.other_rights.now m.other_lefts.now m.other_rights.now
+    (replicate (length m.reversed.now) false))
+    (length m.reversed.now)
+along-as P m p straight f g t u r h =
+    let none = r ∙ straight in
+    subst (λ (k : ℕ).
+    P
+    (columns_of m.other_lefts.now m.other_rights.now m.other_lefts.now m.other_rights.now
+    (replicate (length m.reversed.now) false))
+    k) (ap length none ∙ length-replicate (length m.reversed.now) false)
+    (subst (λ (z : Columns). P z (length p.reversed.now)) (λ i. columns_of (f i) (g i) (t i) (u i) (none i)) h)
 
 -- the lanes of a step take from sets that are there
 pub lanes-named :

@@ -9,7 +9,7 @@
 --     Stepped             what a whole step does
 --     TakingBoth, Stepping     the same, by the answer
 -- Assumes nothing.
-use Rattle.std.specs.Prelude.{ℕ, ◌+◌, ◌-◌, ◌≤◌, ◌<◌, ◌≡◌, false, ◌↔◌, ◌⊎◌, List, replicate}
+use Rattle.std.specs.Prelude.{ℕ, ◌+◌, ◌-◌, ◌≤◌, ◌<◌, ◌≡◌, false, ◌↔◌, ◌⊎◌, List, replicate, Result, Ok, Err}
 use Rattle.cut_set.specs.Store.{Member, Found, NothingFound, NothingAdded, found_in}
 use Rattle.refining.specs.Columns.{Columns, columns_of, count_of}
 use Rattle.shelf.specs.Shelf.{set_at, Shelf, Shelved, Grown, GrownShelf, Jammed, filled}
@@ -17,7 +17,8 @@ use Rattle.tracks.specs.Tracks.{Kind, over, along, Lane, LaneImage, lane_hits}
 use Rattle.tracks.specs.Groups.{Groups, lane_by}
 use Rattle.shelving.specs.AllSets.{AllGathered}
 use Rattle.carrying_lane.specs.Parts.{OneOfTwo}
-use Rattle.taking.specs.declared.Step.{Step}
+use Rattle.carrying_group.specs.declared.TooMany.{TooMany}
+use Rattle.taking.specs.declared.Taken.{Taken}
 
 -- over the matches from the tracks fa to the tracks ta; and along them, on the side that is taken to
 abbrev pub lane_to : Kind → Columns → List ℕ → ℕ → ℕ → ℕ → Lane
@@ -77,15 +78,15 @@ pub record Stepped (l : Kind → Lane) (m n flo fhi lo hi : ℕ) (xs fb b : List
 
 -- by the answer of what takes by both lanes, and of a step
 abbrev pub TakingBoth :
-    (Kind → Lane) → ℕ → List ℕ → ℕ → ℕ → ℕ → List ℕ → List ℕ → ℕ → ℕ → ℕ → List ℕ → List ℕ → Step → Type 0
-TakingBoth l m fb n lo hi xs b o a most ys b' (Step.Taken o' a') =
-    Both l m fb n lo hi xs b (λ w. of_kind w o a) most ys b' (λ w. of_kind w o' a')
-TakingBoth l m fb n lo hi xs b o a most ys b' Step.TooMany =
+    (Kind → Lane) → ℕ → List ℕ → ℕ → ℕ → ℕ → List ℕ → List ℕ → ℕ → ℕ → ℕ → List ℕ → List ℕ → Result Taken TooMany → Type 0
+TakingBoth l m fb n lo hi xs b o a most ys b' (Ok taken) =
+    Both l m fb n lo hi xs b (λ w. of_kind w o a) most ys b' (λ w. of_kind w taken.over taken.along)
+TakingBoth l m fb n lo hi xs b o a most ys b' (Err none) =
     BothNot l m fb n lo hi xs b (λ w. of_kind w o a) most
 
 abbrev pub Stepping :
-    (Kind → Lane) → ℕ → ℕ → ℕ → ℕ → ℕ → ℕ → List ℕ → List ℕ → List ℕ → ℕ → ℕ → ℕ → List ℕ → List ℕ → List ℕ → Step → Type 0
-Stepping l m n flo fhi lo hi xs fb b o a most ys fb' b' (Step.Taken o' a') =
-    Stepped l m n flo fhi lo hi xs fb b (λ w. of_kind w o a) most ys fb' b' (λ w. of_kind w o' a')
-Stepping l m n flo fhi lo hi xs fb b o a most ys fb' b' Step.TooMany =
+    (Kind → Lane) → ℕ → ℕ → ℕ → ℕ → ℕ → ℕ → List ℕ → List ℕ → List ℕ → ℕ → ℕ → ℕ → List ℕ → List ℕ → List ℕ → Result Taken TooMany → Type 0
+Stepping l m n flo fhi lo hi xs fb b o a most ys fb' b' (Ok taken) =
+    Stepped l m n flo fhi lo hi xs fb b (λ w. of_kind w o a) most ys fb' b' (λ w. of_kind w taken.over taken.along)
+Stepping l m n flo fhi lo hi xs fb b o a most ys fb' b' (Err none) =
     BothNot l m fb n lo hi xs b (λ w. of_kind w o a) most

@@ -1,18 +1,18 @@
--- `carry_lane` meets its contract. The invariant: Going, the groups before g are done. The measure: the groups that are
--- left. Assumes nothing.
+-- `carry_lane` meets its contract: one group more (Going), or no room for one. Assumes nothing.
 use borrow.Author.Rules.{rules}
+use Rattle.std.proofs.lemmas.Result.{err_from_is_err_and}
 use Rattle.carrying_lane.proofs.Lanes.{made-ready, going_start, going-ready, going-ends, going_step, going-not, going_end}
 use Rattle.carrying_lane.proofs.carry_lane.Goals as goal
 
 pub loop-g-init : goal.loop-g-init
 loop-g-init c = going_start
-    (made-ready c.requires.fit c.requires.reversed_len_bound c.requires.usable_parts c.requires.groups
+    (made-ready c.args.matches.now.fit c.requires.reversed_len_bound c.requires.usable_parts c.requires.groups
     c.requires.clear_book c.requires.shelf c.requires.one_of_two c.requires.one_of_two_2)
     c.requires.hits_le_most
 
 pub carry_part-requires : goal.carry_part-requires
 carry_part-requires c =
-    let ready = (made-ready c.requires.fit c.requires.reversed_len_bound c.requires.usable_parts c.requires.groups
+    let ready = (made-ready c.args.matches.now.fit c.requires.reversed_len_bound c.requires.usable_parts c.requires.groups
     c.requires.clear_book c.requires.shelf c.requires.one_of_two c.requires.one_of_two_2) in record {
       ready = going-ready ready c.loop-g.invariant;
       g_lt_count = c.loop-g-test.true;
@@ -20,20 +20,22 @@ carry_part-requires c =
       ends_kept = λ e. going-ends ready c.loop-g.invariant (c.requires.ends_kept e);
     }
 
-pub returns-in-TooMany : goal.returns-in-TooMany
-returns-in-TooMany c = going-not
-    (made-ready c.requires.fit c.requires.reversed_len_bound c.requires.usable_parts c.requires.groups
+pub returns-in_err-total : goal.returns-in_err-total
+returns-in_err-total c =
+    let p = err_from_is_err_and c.from_residual.result c.from_residual.ensures.1 in
+    rw p.1 (going-not
+    (made-ready c.args.matches.now.fit c.requires.reversed_len_bound c.requires.usable_parts c.requires.groups
     c.requires.clear_book c.requires.shelf c.requires.one_of_two c.requires.one_of_two_2)
-    c.loop-g.invariant c.loop-g-test.true c.in-TooMany.ensures
+    c.loop-g.invariant c.loop-g-test.true c.in_err-total.ensures)
 
 pub loop-g-preserved : goal.loop-g-preserved
 loop-g-preserved c = going_step
-    (made-ready c.requires.fit c.requires.reversed_len_bound c.requires.usable_parts c.requires.groups
+    (made-ready c.args.matches.now.fit c.requires.reversed_len_bound c.requires.usable_parts c.requires.groups
     c.requires.clear_book c.requires.shelf c.requires.one_of_two c.requires.one_of_two_2)
-    c.loop-g.invariant c.loop-g-test.true (search rules) c.in-Counted.ensures
+    c.loop-g.invariant c.loop-g-test.true (search rules) c.in_ok-total.ensures
 
 pub returns : goal.returns
 returns c = going_end
-    (made-ready c.requires.fit c.requires.reversed_len_bound c.requires.usable_parts c.requires.groups
+    (made-ready c.args.matches.now.fit c.requires.reversed_len_bound c.requires.usable_parts c.requires.groups
     c.requires.clear_book c.requires.shelf c.requires.one_of_two c.requires.one_of_two_2)
     c.loop-g.invariant (search rules)
