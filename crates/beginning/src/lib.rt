@@ -2,7 +2,7 @@
 #![tactic(auto)]
 
 ghost use Rattle.std.specs.Prelude.{◌≡◌, false, ◌*◌, ◌≤◌, length, replicate};
-ghost use Rattle.refining.specs.Columns.{columns_of};
+ghost use Rattle.match_columns.specs.Held.{columns_in};
 ghost use Rattle.shelving.specs.AllSets.{Layable, LaidOut};
 ghost use Rattle.tracks.specs.Tracks.{marks_of};
 ghost use Rattle.tracks.specs.Groups.{grouped};
@@ -10,7 +10,9 @@ ghost use Rattle.seeding.specs.Wanting.{Naming};
 ghost use Rattle.driving.specs.Driving.{Driving};
 ghost use Rattle.beginning.specs.Beginning.{Lent, Sowing};
 
+use carrying_group::TooMany;
 use driving::BUDGET;
+use match_columns::MatchColumns;
 use seeding::{plant, sow_groups, want};
 use shelving::{gather_sets, lay_out};
 use stepping::{Closing, Counts, a_step};
@@ -69,11 +71,7 @@ fn lay_side(
 // The first cuts: the ends on A, and the marks on either side. The cuts of A have the first half of 4 * capacity places
 // of the work buffer; those of B have the second half.
 fn sow_all(
-    left_a: &[u32],
-    right_a: &[u32],
-    left_b: &[u32],
-    right_b: &[u32],
-    reversed: &[bool],
+    matches: &MatchColumns<'_>,
     groups: &[usize],
     mark_tracks: &[u8],
     mark_positions: &[u32],
@@ -84,27 +82,35 @@ fn sow_all(
     sets: usize,
     capacity: usize,
 ) -> bool
-    requires lent { Lent (columns_of left_a.now right_a.now left_b.now right_b.now reversed.now) groups.now
+    requires lent { Lent (columns_in matches.now) groups.now
         mark_tracks.now mark_positions.now count sets }
     requires laid_out { LaidOut sets 0 (2 * capacity) work.old book_a.old }
     requires laid_out_2 { LaidOut sets (2 * capacity) (4 * capacity) work.old book_b.old }
     ensures { Sowing
         (grouped
-        (columns_of left_a.now right_a.now left_b.now right_b.now
-        reversed.now)
+        (columns_in matches.now)
         groups.now count (marks_of mark_tracks.now mark_positions.now))
         sets capacity work.new book_a.new book_b.new result }
 {
     let half = 2 * capacity;
     let whole = 4 * capacity;
     if !sow_groups(
-        left_a, right_a, groups, work, book_a, count, 1, sets, 0, half,
+        matches.lefts,
+        matches.rights,
+        groups,
+        work,
+        book_a,
+        count,
+        1,
+        sets,
+        0,
+        half,
     ) {
         return false;
     }
     if !plant(
-        left_a,
-        right_a,
+        matches.lefts,
+        matches.rights,
         groups,
         mark_tracks,
         mark_positions,
@@ -119,8 +125,8 @@ fn sow_all(
         return false;
     }
     if !plant(
-        left_b,
-        right_b,
+        matches.other_lefts,
+        matches.other_rights,
         groups,
         mark_tracks,
         mark_positions,
@@ -141,11 +147,7 @@ fn sow_all(
 
 // Begins: the first cuts are sown, and the first steps go without an index.
 pub fn begin(
-    left_a: &[u32],
-    right_a: &[u32],
-    left_b: &[u32],
-    right_b: &[u32],
-    reversed: &[bool],
+    matches: &MatchColumns<'_>,
     straight: &[bool],
     groups: &[usize],
     mark_tracks: &[u8],
@@ -156,18 +158,17 @@ pub fn begin(
     count: usize,
     sets: usize,
     capacity: usize,
-) -> Closing
-    requires lent { Lent (columns_of left_a.now right_a.now left_b.now right_b.now reversed.now) groups.now
+) -> Result<Closing, TooMany>
+    requires lent { Lent (columns_in matches.now) groups.now
         mark_tracks.now mark_positions.now count sets }
-    requires reversed_len_bound { length reversed.now ≤ 4294967296 }
-    requires straight_value { straight.now ≡ replicate (length reversed.now) false }
+    requires reversed_len_bound { length matches.now.reversed.now ≤ 4294967296 }
+    requires straight_value { straight.now ≡ replicate (length matches.now.reversed.now) false }
     requires sets_bound { sets ≤ 16 }
     requires book_a_len { length book_a.old ≡ 8 * sets }
     requires book_b_len { length book_b.old ≡ 8 * sets }
     requires capacity_in_bounds { 4 * capacity ≤ length work.old }
     ensures { Driving
-        (columns_of left_a.now right_a.now left_b.now right_b.now
-        reversed.now)
+        (columns_in matches.now)
         groups.now count (marks_of mark_tracks.now mark_positions.now) sets capacity
         work.new book_a.new book_b.new result }
 {
@@ -183,11 +184,7 @@ pub fn begin(
         4 * capacity,
     );
     if !sow_all(
-        left_a,
-        right_a,
-        left_b,
-        right_b,
-        reversed,
+        matches,
         groups,
         mark_tracks,
         mark_positions,
@@ -198,7 +195,7 @@ pub fn begin(
         sets,
         capacity,
     ) {
-        return Closing::TooMany;
+        return Err(TooMany);
     }
     let none = Counts {
         over_a: 0,
@@ -207,14 +204,10 @@ pub fn begin(
         along_b: 0,
     };
     a_step(
-        left_a,
-        right_a,
-        left_b,
-        right_b,
-        reversed,
+        matches,
         straight,
-        &left_a[..0],
-        &left_a[..0],
+        &[],
+        &[],
         groups,
         work,
         book_a,

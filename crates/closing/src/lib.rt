@@ -2,7 +2,7 @@
 #![tactic(auto)]
 
 ghost use Rattle.std.specs.Prelude.{◌≡◌, true, false, ◌*◌, ◌≤◌, length, replicate};
-ghost use Rattle.refining.specs.Columns.{columns_of, Fit};
+ghost use Rattle.match_columns.specs.Held.{columns_in};
 ghost use Rattle.tracks.specs.Tracks.{marks_of};
 ghost use Rattle.tracks.specs.Engine.{books_of};
 ghost use Rattle.tracks.specs.Groups.{Groups, grouped};
@@ -10,9 +10,11 @@ ghost use Rattle.driving.specs.Driving.{Driving, Closure};
 ghost use Rattle.beginning.specs.Beginning.{Lent};
 
 use beginning::begin;
-use driving::{Closed, drive};
+use carrying_group::TooMany;
+use driving::drive;
 use indexing::index_room;
 use indexing_groups::index_groups;
+use match_columns::MatchColumns;
 use stepping::Closing;
 
 // So few matches are looked through without an index.
@@ -22,22 +24,12 @@ const FEW_MATCHES: usize = 32;
 fn indexable(matches: usize, room: usize, places_a: usize, places_b: usize) -> bool
     ensures { result ≡ true → (room ≤ places_a) × (room ≤ places_b) }
 {
-    if matches <= FEW_MATCHES {
-        return false;
-    }
-    if places_a < room {
-        return false;
-    }
-    room <= places_b
+    FEW_MATCHES < matches && room <= places_a && room <= places_b
 }
 
 // Goes on after the first turns: with an index of the matches of each group, if there are many and the index has room.
 fn go_on(
-    left_a: &[u32],
-    right_a: &[u32],
-    left_b: &[u32],
-    right_b: &[u32],
-    reversed: &[bool],
+    matches: &MatchColumns<'_>,
     straight: &[bool],
     groups: &[usize],
     mark_tracks: &[u8],
@@ -51,57 +43,65 @@ fn go_on(
     sets: usize,
     first: Closing,
     capacity: usize,
-) -> Closed
-    requires lent { Lent (columns_of left_a.now right_a.now left_b.now right_b.now reversed.now) groups.now
+) -> Result<(), TooMany>
+    requires lent { Lent (columns_in matches.now) groups.now
         mark_tracks.now mark_positions.now count sets }
-    requires reversed_len_bound { length reversed.now ≤ 4294967296 }
-    requires straight_value { straight.now ≡ replicate (length reversed.now) false }
-    requires driving { Driving (columns_of left_a.now right_a.now left_b.now right_b.now reversed.now) groups.now
+    requires reversed_len_bound { length matches.now.reversed.now ≤ 4294967296 }
+    requires straight_value { straight.now ≡ replicate (length matches.now.reversed.now) false }
+    requires driving { Driving (columns_in matches.now) groups.now
         count (marks_of mark_tracks.now mark_positions.now) sets capacity work.old book_a.old
-        book_b.old first }
+        book_b.old (Ok first) }
     ensures { Closure
         (grouped
-        (columns_of left_a.now right_a.now left_b.now right_b.now
-        reversed.now)
+        (columns_in matches.now)
         groups.now count (marks_of mark_tracks.now mark_positions.now))
         sets capacity work.new (books_of book_a.new book_b.new) result }
 {
-    let room = index_room(left_a.len());
-    if indexable(left_a.len(), room, index_a.len(), index_b.len()) {
-        index_groups(index_a, left_a, right_a, groups, count);
-        index_groups(index_b, left_b, right_b, groups, count);
+    let all = matches.lefts.len();
+    let room = index_room(all);
+    if indexable(all, room, index_a.len(), index_b.len()) {
+        index_groups(index_a, matches.lefts, matches.rights, groups, count);
+        index_groups(
+            index_b,
+            matches.other_lefts,
+            matches.other_rights,
+            groups,
+            count,
+        );
         return drive(
-            left_a, right_a, left_b, right_b, reversed, straight, index_a, index_b, groups, work,
-            book_a, book_b, count, sets, first, capacity,
+            matches,
+            straight,
+            index_a,
+            index_b,
+            groups,
+            work,
+            book_a,
+            book_b,
+            count,
+            sets,
+            Ok(first),
+            capacity,
         );
     }
     drive(
-        left_a,
-        right_a,
-        left_b,
-        right_b,
-        reversed,
+        matches,
         straight,
-        &left_a[..0],
-        &left_a[..0],
+        &[],
+        &[],
         groups,
         work,
         book_a,
         book_b,
         count,
         sets,
-        first,
+        Ok(first),
         capacity,
     )
 }
 
 // All cuts, in the sets of the two shelves. Most scripts are done after the first turns.
 pub fn close(
-    left_a: &[u32],
-    right_a: &[u32],
-    left_b: &[u32],
-    right_b: &[u32],
-    reversed: &[bool],
+    matches: &MatchColumns<'_>,
     straight: &[bool],
     groups: &[usize],
     mark_tracks: &[u8],
@@ -114,11 +114,10 @@ pub fn close(
     count: usize,
     sets: usize,
     capacity: usize,
-) -> Closed
-    requires fit { Fit (columns_of left_a.now right_a.now left_b.now right_b.now reversed.now) }
-    requires reversed_len_bound { length reversed.now ≤ 4294967296 }
-    requires straight_value { straight.now ≡ replicate (length reversed.now) false }
-    requires groups { Groups groups.now count (length reversed.now) sets }
+) -> Result<(), TooMany>
+    requires reversed_len_bound { length matches.now.reversed.now ≤ 4294967296 }
+    requires straight_value { straight.now ≡ replicate (length matches.now.reversed.now) false }
+    requires groups { Groups groups.now count (length matches.now.reversed.now) sets }
     requires mark_tracks_len { length mark_tracks.now ≡ length mark_positions.now }
     requires sets_bound { sets ≤ 16 }
     requires book_a_len { length book_a.old ≡ 8 * sets }
@@ -126,17 +125,12 @@ pub fn close(
     requires capacity_in_bounds { 4 * capacity ≤ length work.old }
     ensures { Closure
         (grouped
-        (columns_of left_a.now right_a.now left_b.now right_b.now
-        reversed.now)
+        (columns_in matches.now)
         groups.now count (marks_of mark_tracks.now mark_positions.now))
         sets capacity work.new (books_of book_a.new book_b.new) result }
 {
-    let first = begin(
-        left_a,
-        right_a,
-        left_b,
-        right_b,
-        reversed,
+    match begin(
+        matches,
         straight,
         groups,
         mark_tracks,
@@ -147,16 +141,10 @@ pub fn close(
         count,
         sets,
         capacity,
-    );
-    match first {
-        Closing::Done => Closed::AllCuts,
-        Closing::TooMany => Closed::TooMany,
-        _ => go_on(
-            left_a,
-            right_a,
-            left_b,
-            right_b,
-            reversed,
+    )? {
+        Closing::Done => Ok(()),
+        first => go_on(
+            matches,
             straight,
             groups,
             mark_tracks,

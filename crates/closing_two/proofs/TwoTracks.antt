@@ -9,6 +9,8 @@ use mathlib.Core.Path.{◌≡◌, refl, sym, ap, subst, ◌∙◌}
 use mathlib.Core.Logic.{◌↔◌}
 use mathlib.Core.Bool.{Bool, true, false}
 use mathlib.Core.List.{List, [], map}
+use Rattle.std.specs.declared.result.Result.{Result}
+use Rattle.std.specs.declared.result.Result.TheVariants.{Ok, Err}
 use native.Mathlib.Omega.{arith}
 use lib.ListN.{length}
 use lib.Dec.{ltb}
@@ -29,9 +31,9 @@ use Rattle.tracks.specs.Tracks.{match_in, matches_in, given_in, SideCut}
 use Rattle.tracks.specs.Groups.{track_at, tracks_of, Groups, grouped}
 use Rattle.tracks.specs.Engine.{books_of}
 use Rattle.tracks.proofs.Indexed as tracked
+use Rattle.carrying_group.specs.declared.TooMany.{TooMany}
 use Rattle.stepping.specs.Steps.{AllCuts}
 use Rattle.driving.specs.Driving.{Closure}
-use Rattle.driving.specs.declared.Closed.{Closed}
 use Rattle.closing_two.specs.FirstEdition.{at, CutOn, two_groups, two, AllCutsOfA}
 
 none_below : (k : ℕ) → ltb k 0 ≡ false
@@ -130,13 +132,13 @@ module _ (c : Columns) (marks : List Place) where
   }
 
   -- what the closure ensures of the one group, as it is lent
-  module _ (cap : ℕ) (ys a b : List ℕ) {gs : List ℕ} (one : gs ≡ two_groups (count_of c)) {answer : Closed}
+  module _ (cap : ℕ) (ys a b : List ℕ) {gs : List ℕ} (one : gs ≡ two_groups (count_of c)) {answer : Result (Unit {0}) TooMany}
       (closed : Closure (grouped c gs 1 marks) 2 cap ys (books_of a b) answer) where
-    lent-closed : {told : Closed} → answer ≡ told → Closure (two c marks) 2 cap ys (books_of a b) told
+    lent-closed : {told : Result (Unit {0}) TooMany} → answer ≡ told → Closure (two c marks) 2 cap ys (books_of a b) told
     lent-closed e = rw (one, e) at closed
 
-    pub lent-crowded : answer ≡ Closed.TooMany → EveryExceeds (held_in c marks) cap
+    pub lent-crowded : {none : TooMany} → answer ≡ Err none → EveryExceeds (held_in c marks) cap
     lent-crowded e = subst (λ (g : Given). EveryExceeds g cap) same-given (lent-closed e)
 
-    pub lent-cuts : {s : CutSet} → answer ≡ Closed.AllCuts → s ≡ set_at a 0 → AllCutsOfA (held_in c marks) cap ys s
+    pub lent-cuts : {s : CutSet} {done : Unit {0}} → answer ≡ Ok done → s ≡ set_at a 0 → AllCutsOfA (held_in c marks) cap ys s
     lent-cuts e is = rw is (two-cuts (lent-closed e))

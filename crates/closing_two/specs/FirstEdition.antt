@@ -6,7 +6,7 @@
 --     AllCutsOfA          the set holds exactly the cuts of A, and the least table has room
 --     Closure             what the closure does, by its answer
 -- Assumes nothing.
-use Rattle.std.specs.Prelude.{ℕ, ◌≤◌, ◌↔◌, List, [], ◌∷◌, length}
+use Rattle.std.specs.Prelude.{ℕ, ◌≤◌, ◌↔◌, List, [], ◌∷◌, length, Result, Ok, Err}
 use Rattle.refinement.specs.declared.Side.{Side}
 use Rattle.refinement.specs.declared.Side.TheVariants.{A, B}
 use Rattle.refinement.specs.Match.{Place}
@@ -18,7 +18,7 @@ use Rattle.refining.specs.Refining.{Given, least_of}
 use Rattle.refining.specs.Demands.{EveryExceeds}
 use Rattle.tracks.specs.Tracks.{Tracked}
 use Rattle.tracks.specs.Groups.{grouped}
-use Rattle.closing_two.specs.declared.ClosedTwo.{ClosedTwo}
+use Rattle.carrying_group.specs.declared.TooMany.{TooMany}
 
 abbrev pub at : Side → ℕ → Place
 at A h = record { track = 0; position = h }
@@ -39,6 +39,6 @@ pub record AllCutsOfA (g : Given) (cap : ℕ) (ys : List ℕ) (s : CutSet) : Typ
   pub cuts : (x : ℕ) → Member ys s x ↔ CutOn g A x
   pub fits : length (least_of g) ≤ cap
 
-abbrev pub Closure : Given → ℕ → List ℕ → ClosedTwo → Type 0
-Closure g cap ys (ClosedTwo.CutsOfA s) = AllCutsOfA g cap ys s
-Closure g cap ys ClosedTwo.TooMany = EveryExceeds g cap
+abbrev pub Closure : Given → ℕ → List ℕ → Result CutSet TooMany → Type 0
+Closure g cap ys (Ok s) = AllCutsOfA g cap ys s
+Closure g cap ys (Err none) = EveryExceeds g cap

@@ -3,30 +3,20 @@
 #![tactic(auto)]
 
 ghost use Rattle.std.specs.Prelude.{◌≡◌, false, ◌*◌, ◌≤◌, length, replicate};
-ghost use Rattle.refining.specs.Columns.{columns_of, Fit};
+ghost use Rattle.match_columns.specs.Held.{columns_in};
 ghost use Rattle.refining.specs.Refining.{held_in};
 ghost use Rattle.tracks.specs.Tracks.{marks_of};
 ghost use Rattle.closing_two.specs.FirstEdition.{two_groups, Closure};
 
+use carrying_group::TooMany;
 use closing::close;
 use cut_set::CutSet;
-use driving::Closed;
+use match_columns::MatchColumns;
 use shelf::load;
 
-// The cuts of A, or that every resolved refinement has more pieces than the capacity.
-#[derive(Drop)]
-pub enum ClosedTwo {
-    CutsOfA(CutSet),
-    TooMany,
-}
-
-// The same with what it needs lent: the one group, and books of two sets a side.
+// The cuts of A with what the closure needs lent: the one group, and books of two sets a side.
 fn close_lent(
-    left_a: &[u32],
-    right_a: &[u32],
-    left_b: &[u32],
-    right_b: &[u32],
-    reversed: &[bool],
+    matches: &MatchColumns<'_>,
     straight: &[bool],
     groups: &[usize],
     mark_sides: &[u8],
@@ -37,28 +27,22 @@ fn close_lent(
     book_a: &mut [usize],
     book_b: &mut [usize],
     capacity: usize,
-) -> ClosedTwo
-    requires fit { Fit (columns_of left_a.now right_a.now left_b.now right_b.now reversed.now) }
+) -> Result<CutSet, TooMany>
     requires capacity_in_bounds { 4 * capacity ≤ length work.old }
-    requires reversed_len_bound { length reversed.now ≤ 4294967296 }
-    requires straight_value { straight.now ≡ replicate (length reversed.now) false }
-    requires groups_value { groups.now ≡ two_groups (length reversed.now) }
+    requires reversed_len_bound { length matches.now.reversed.now ≤ 4294967296 }
+    requires straight_value { straight.now ≡ replicate (length matches.now.reversed.now) false }
+    requires groups_value { groups.now ≡ two_groups (length matches.now.reversed.now) }
     requires mark_sides_len { length mark_sides.now ≡ length mark_positions.now }
     requires book_a_len { length book_a.old ≡ 16 }
     requires book_b_len { length book_b.old ≡ 16 }
     ensures { Closure
         (held_in
-        (columns_of left_a.now right_a.now left_b.now right_b.now
-        reversed.now)
+        (columns_in matches.now)
         (marks_of mark_sides.now mark_positions.now))
         capacity work.new result }
 {
-    match close(
-        left_a,
-        right_a,
-        left_b,
-        right_b,
-        reversed,
+    close(
+        matches,
         straight,
         groups,
         mark_sides,
@@ -71,19 +55,14 @@ fn close_lent(
         1,
         2,
         capacity,
-    ) {
-        Closed::TooMany => ClosedTwo::TooMany,
-        Closed::AllCuts => ClosedTwo::CutsOfA(load(book_a, 0)),
-    }
+    )?;
+    Ok(load(book_a, 0))
 }
 
-// The cuts of A, in the work buffer. The marks that some match spans are among the cuts.
+// The cuts of A, in the work buffer; or every resolved refinement has more pieces than the capacity. The marks that some
+// match spans are among the cuts.
 pub fn close_two(
-    left_a: &[u32],
-    right_a: &[u32],
-    left_b: &[u32],
-    right_b: &[u32],
-    reversed: &[bool],
+    matches: &MatchColumns<'_>,
     straight: &[bool],
     mark_sides: &[u8],
     mark_positions: &[u32],
@@ -91,28 +70,22 @@ pub fn close_two(
     index_b: &mut [u32],
     work: &mut [u32],
     capacity: usize,
-) -> ClosedTwo
-    requires fit { Fit (columns_of left_a.now right_a.now left_b.now right_b.now reversed.now) }
+) -> Result<CutSet, TooMany>
     requires capacity_in_bounds { 4 * capacity ≤ length work.old }
-    requires reversed_len_bound { length reversed.now ≤ 4294967296 }
-    requires straight_value { straight.now ≡ replicate (length reversed.now) false }
+    requires reversed_len_bound { length matches.now.reversed.now ≤ 4294967296 }
+    requires straight_value { straight.now ≡ replicate (length matches.now.reversed.now) false }
     requires mark_sides_len { length mark_sides.now ≡ length mark_positions.now }
     ensures { Closure
         (held_in
-        (columns_of left_a.now right_a.now left_b.now right_b.now
-        reversed.now)
+        (columns_in matches.now)
         (marks_of mark_sides.now mark_positions.now))
         capacity work.new result }
 {
-    let groups = [0, 0, 1, reversed.len()];
+    let groups = [0, 0, 1, matches.reversed.len()];
     let mut book_a = [0usize; 16];
     let mut book_b = [0usize; 16];
     close_lent(
-        left_a,
-        right_a,
-        left_b,
-        right_b,
-        reversed,
+        matches,
         straight,
         &groups,
         mark_sides,

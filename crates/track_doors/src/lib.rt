@@ -10,7 +10,7 @@ ghost use Rattle.tracks.specs.Groups.{Groups, grouped};
 ghost use Rattle.track_doors.specs.Doors.{ClosedBy};
 
 use closing::close;
-use driving::Closed;
+use match_columns::MatchColumns;
 
 // Whether all cuts have room. Then they are in the sets that the two books tell.
 #[unsafe(no_mangle)]
@@ -49,12 +49,15 @@ pub extern "C" fn close_tracks(
         groups.now count (marks_of mark_tracks.now mark_positions.now))
         sets capacity work.new (books_of book_a.new book_b.new) result }
 {
-    match close(
-        left_a,
-        right_a,
-        left_b,
-        right_b,
+    let matches = MatchColumns {
+        lefts: left_a,
+        rights: right_a,
+        other_lefts: left_b,
+        other_rights: right_b,
         reversed,
+    };
+    close(
+        &matches,
         straight,
         groups,
         mark_tracks,
@@ -67,8 +70,6 @@ pub extern "C" fn close_tracks(
         count,
         sets,
         capacity,
-    ) {
-        Closed::AllCuts => true,
-        Closed::TooMany => false,
-    }
+    )
+    .is_ok()
 }

@@ -1,6 +1,6 @@
 -- `begin` meets its contract: the first cuts are sown, and the first step begins with them. Assumes nothing.
 use mathlib.Core.Path.{sym}
-use Rattle.refining.specs.Columns.{columns_of}
+use Rattle.match_columns.specs.Held.{columns_in}
 use Rattle.tracks.specs.Tracks.{marks_of}
 use Rattle.driving.proofs.Drives.{going-driving}
 use Rattle.beginning.proofs.Beginning.{sown-open, no-hits}
@@ -18,6 +18,6 @@ returns c =
     let begun = sown-open _ _ _ _ _ _ _ c.if-not-sow_all.false c.sow_all.ensures in
     let marks = marks_of a.mark_tracks.now a.mark_positions.now in
     going-driving
-    (columns_of a.left_a.now a.right_a.now a.left_b.now a.right_b.now a.reversed.now) a.groups.now
+    (columns_in a.matches.now) a.groups.now
     a.count a.sets a.capacity _ _ _ _ marks c.a_step.result
     (c.a_step.ensures marks (rw (sym no-hits) begun))
