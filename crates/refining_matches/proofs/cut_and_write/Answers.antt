@@ -3,8 +3,8 @@
 use Rattle.refining_matches.proofs.Tabling.{cuts-writable, rows-tabled}
 use Rattle.refining_matches.proofs.cut_and_write.Goals as goal
 
-pub write_rows-requires-clause-writable : goal.write_rows-requires-clause-writable
-write_rows-requires-clause-writable c =
+pub write_rows-requires : goal.write_rows-requires
+write_rows-requires c =
     cuts-writable c.args.matches.now.fit _ c.args.table.now c.in-Ok.is c.join-cuts.ensures c.all_places-run.ensures
     c.close_two.ensures c.requires.reversed_len_bound
 
