@@ -64,10 +64,6 @@ module _ {X Y : Type 0} {xs read : List X} {count : ℕ} (same : read ≡ xs) (c
 -- the columns of an admitted script, by the reader's stated result
 module _ (script : List ℕ) {told : Result Admitted Refusal} {a : Admitted} (e : told ≡ verdict_of (read_script script))
     (v : told ≡ Ok a) where
-  count marks : ℕ
-  count = a.count
-  marks = a.marks
-
   held : Holds script a.p a.q a.count a.marks
   held = holds-admitted script e v
 
@@ -80,77 +76,77 @@ module _ (script : List ℕ) {told : Result Admitted Refusal} {a : Admitted} (e 
   module _ {X : Type 0} (field : ScriptMatch → X) (before : List X) {after : List X}
       (is : after ≡ column_read script field before)
       (room : length (matches_read (read_script script)) ≤ length before) where
-    begins : take count after ≡ map field held.matches
+    begins : take a.count after ≡ map field held.matches
     begins = column-begins matches-read held.counted field before is room
 
-    pub reaches : count ≤ length after
+    pub reaches : a.count ≤ length after
     reaches = column-reaches matches-read held.counted field before is room
 
-    pub prefix-length : count ≡ length (take count after)
+    pub prefix-length : a.count ≡ length (take a.count after)
     prefix-length = column-prefix matches-read held.counted field before is room
 
   module _ {z x z' x' : List ℕ} (roomy : RoomyMarks script z x) (columns : MarksRead script z x z' x') where
-    pub side-reaches : marks ≤ length z'
+    pub side-reaches : a.marks ≤ length z'
     side-reaches =
         column-reaches marks-read held.counted_marks (λ k. k.side) z columns.side roomy.side
 
-    pub position-reaches : marks ≤ length x'
+    pub position-reaches : a.marks ≤ length x'
     position-reaches =
         column-reaches marks-read held.counted_marks (λ k. k.position) x columns.position roomy.position
 
-    pub side-prefix : marks ≡ length (take marks z')
-    side-prefix = omega (arith, side-reaches, length-take marks z')
+    pub side-prefix : a.marks ≡ length (take a.marks z')
+    side-prefix = omega (arith, side-reaches, length-take a.marks z')
 
-    pub position-prefix : marks ≡ length (take marks x')
-    position-prefix = omega (arith, position-reaches, length-take marks x')
+    pub position-prefix : a.marks ≡ length (take a.marks x')
+    position-prefix = omega (arith, position-reaches, length-take a.marks x')
 
-    marks_begin : marks_of (take marks z') (take marks x') ≡ map mark_place held.points
+    marks_begin : marks_of (take a.marks z') (take a.marks x') ≡ map mark_place held.points
     marks_begin =
         marks_held held.points
         (column-begins marks-read held.counted_marks (λ k. k.side) z columns.side roomy.side)
         (column-begins marks-read held.counted_marks (λ k. k.position) x columns.position roomy.position)
 
   -- a column with room for the matches has room for as many numbers as there are
-  room-reaches : {n : ℕ} → length (matches_read (read_script script)) ≤ n → count ≤ n
+  room-reaches : {n : ℕ} → length (matches_read (read_script script)) ≤ n → a.count ≤ n
   room-reaches room = omega (arith, rw held.read at room, held.counted)
 
-  straight-reaches : {w : List Bool} → Straight script w → count ≤ length w
+  straight-reaches : {w : List Bool} → Straight script w → a.count ≤ length w
   straight-reaches s = room-reaches s.room
 
-  pub straight-prefix : {w : List Bool} → Straight script w → count ≡ length (take count w)
-  straight-prefix {w} s = omega (arith, straight-reaches s, length-take count w)
+  pub straight-prefix : {w : List Bool} → Straight script w → a.count ≡ length (take a.count w)
+  straight-prefix {w} s = omega (arith, straight-reaches s, length-take a.count w)
 
-  straight-begins : {w : List Bool} → Straight script w → take count w ≡ replicate count false
+  straight-begins : {w : List Bool} → Straight script w → take a.count w ≡ replicate a.count false
   straight-begins {w} s =
-      ap (take count) s.none ∙ take-replicate count (length w) (straight-reaches s)
+      ap (take a.count) s.none ∙ take-replicate a.count (length w) (straight-reaches s)
 
   module _ {f g t u f' t' u' : List ℕ} {r r' : List Bool} (roomy : Roomy script f g t u r)
       (columns : ColumnsRead script f t u r f' t' u' r') where
-    left-a-begins : take count f' ≡ map (λ m. m.left_a) held.matches
+    left-a-begins : take a.count f' ≡ map (λ m. m.left_a) held.matches
     left-a-begins = begins (λ m. m.left_a) f columns.left_a roomy.left_a
 
-    left-b-begins : take count t' ≡ map (λ m. m.left_b) held.matches
+    left-b-begins : take a.count t' ≡ map (λ m. m.left_b) held.matches
     left-b-begins = begins (λ m. m.left_b) t columns.left_b roomy.left_b
 
     -- the lengths stand in the column of the right ends on B, as many as there are left ends on A
-    on_a : length (take count f') ≡ count
+    on_a : length (take a.count f') ≡ a.count
     on_a = sym (prefix-length (λ m. m.left_a) f columns.left_a roomy.left_a)
 
-    letters-begin : take (length (take count f')) u' ≡ map (λ m. m.length) held.matches
+    letters-begin : take (length (take a.count f')) u' ≡ map (λ m. m.length) held.matches
     letters-begin =
         ap (λ (n : ℕ). take n u') on_a ∙ begins (λ m. m.length) u columns.letters roomy.right_b
 
-    reversed-begins : take count r' ≡ map (λ m. m.reversed) held.matches
+    reversed-begins : take a.count r' ≡ map (λ m. m.reversed) held.matches
     reversed-begins = begins (λ m. m.reversed) r columns.reversed roomy.reversed
 
     -- what the matches are read into fits, and there is room for the right ends
     pub columns-fit :
         {w : List Bool} {z x z' x' : List ℕ} → Straight script w → RoomyMarks script z x → MarksRead script z x z' x'
-        → FitRead (take count f') (take count t') (take (length (take count f')) u') (take count r')
-        × ((length (take count r') < 4294967296)
-        × ((take count w ≡ replicate (length (take count r')) false)
-        × ((length (take marks z') ≡ length (take marks x'))
-        × ((length (take count f') ≤ length g) × (length (take count f') ≤ length u')))))
+        → FitRead (take a.count f') (take a.count t') (take (length (take a.count f')) u') (take a.count r')
+        × ((length (take a.count r') < 4294967296)
+        × ((take a.count w ≡ replicate (length (take a.count r')) false)
+        × ((length (take a.marks z') ≡ length (take a.marks x'))
+        × ((length (take a.count f') ≤ length g) × (length (take a.count f') ≤ length u')))))
     columns-fit straight spots points =
         let ways = prefix-length (λ m. m.reversed) r columns.reversed roomy.reversed in
         let letters = reaches (λ m. m.length) u columns.letters roomy.right_b in (
@@ -170,8 +166,8 @@ module _ (script : List ℕ) {told : Result Admitted Refusal} {a : Admitted} (e 
     pub read-refined : {z x z' x' : List ℕ} → RoomyMarks script z x → MarksRead script z x z' x'
         → (table work : List ℕ) {reply : Result ℕ Refusal} {table' work' : List ℕ}
         → MatchesRefined
-        (held_in (columns_read (take count f') (take count t') (take (length (take count f')) u') (take count r'))
-        (marks_of (take marks z') (take marks x'))) table work reply table' work'
+        (held_in (columns_read (take a.count f') (take a.count t') (take (length (take a.count f')) u') (take a.count r'))
+        (marks_of (take a.marks z') (take a.marks x'))) table work reply table' work'
         → ScriptRefined script table work reply table' work'
     read-refined spots points table work refined =
         refined
@@ -191,9 +187,8 @@ pub refining-met :
 refining-met {script} {table} {work} e = refining-contract script table work (sym e)
 
 pub read-refused :
-    (script table work : List ℕ) {told : Result Admitted Refusal} {f : Refusal} {reply : Result ℕ Refusal} → told ≡ verdict_of (read_script script)
-    → told ≡ Err f
-    → reply ≡ Err f
+    (script table work : List ℕ) {told : Result Admitted Refusal} {f : Refusal} {reply : Result ℕ Refusal}
+    → told ≡ verdict_of (read_script script) → told ≡ Err f → reply ≡ Err f
     → ScriptRefined script table work reply table work
 read-refused script table work e v is =
     rw is (sym (refining-refused script table work (reading-refused script e v)))
