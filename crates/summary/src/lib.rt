@@ -1,7 +1,7 @@
 // The summary of a table: pieces, distinct pieces, the letters covered on A and on B, and classes.
 #![tactic(auto)]
 
-ghost use Rattle.std.specs.Prelude.{◌≡◌, [], ◌∷◌, ℕ, ◌<◌, eqb};
+ghost use Rattle.std.specs.Prelude.{◌≡◌, [], ◌∷◌, ℕ, ◌<◌, eqb, false, MatchOption};
 ghost use Rattle.refinement.specs.declared.Side.{Side};
 ghost use Rattle.rows.specs.Rows.{rows_of};
 ghost use Rattle.table.specs.Distinct.{DistinctPieces};
@@ -14,34 +14,26 @@ use refinement::Side;
 use rows::{row_at, row_count};
 use table::{CLASSES, Summary};
 
-// The class of a length; CLASSES where it fits none.
-fn class_of(length: u32) -> usize
-    ensures { (c : ℕ) → c < class_count → length_in_class c length ≡ eqb c result }
+// The class of a length, if it fits one.
+fn class_of(length: u32) -> Option<usize>
+    ensures { MatchOption result ((c : ℕ) → c < class_count → length_in_class c length ≡ false)
+        (λ j. (j < class_count) × ((c : ℕ) → c < class_count → length_in_class c length ≡ eqb c j)) }
 {
     if length == 0 {
-        return CLASSES;
+        return None;
     }
-    let c = (31 - u32::leading_zeros(length)) as usize;
-    if c < CLASSES {
-        return c;
-    }
-    CLASSES
+    let class = length.ilog2() as usize;
+    (class < CLASSES).then_some(class)
 }
 
 fn count_classes(table: &[u32]) -> [usize; CLASSES]
     ensures { result ≡ classes_of (rows_of table.now) }
 {
-    let rows = row_count(table);
     let mut classes = [0usize; CLASSES];
-    let mut k: usize = 0;
-    while k < rows {
-        let row = row_at(table, k);
-        let c = class_of(row.length);
-        k += 1;
-        if CLASSES <= c {
-            continue;
+    for k in 0..row_count(table) {
+        if let Some(class) = class_of(row_at(table, k).length) {
+            classes[class] += 1;
         }
-        classes[c] += 1;
     }
     classes
 }
