@@ -1,7 +1,5 @@
 -- Windows counted one after the other.
---     held-nested        what is gathered can be sorted and summed up
---     front-room, held-room     the first numbers have room where all have
---     window-counted     and the sum is the letters covered in the window
+--     window-counted     the sum of what is gathered is the letters covered in the window
 --     begun-none, begun_first     before any window, and behind the first
 --     counted_next       the letters before the end of a window
 --     counted-fits       their sum fits
@@ -11,9 +9,7 @@ use Prim.Native.Nat.{ℕ, ◌+◌, ◌^◌, ◌≤◌, ◌<◌}
 use mathlib.Core.Path.{◌≡◌, refl, sym, ◌∙◌}
 use mathlib.Core.List.{List}
 use native.Mathlib.Omega.{arith}
-use native.Mathlib.Nat.{le_trans, min-le_right}
-use lib.ListN.{length, get_or, take, length-take}
-use lib.Seq.{length-take-le}
+use lib.ListN.{get_or, take}
 use Rattle.refinement.specs.declared.Side.{Side}
 use Rattle.rows.specs.Rows.{rows_of}
 use Rattle.rows.specs.declared.Row.{Row}
@@ -22,26 +18,12 @@ use Rattle.table.specs.Tally.{is_covered, tally}
 use Rattle.table.proofs.Tally.{tally-between, tally-empty, tally-at-most}
 use Rattle.table.proofs.Covers.{cover-tally}
 use Rattle.table.proofs.Laws.{table-ends}
-use Rattle.stretches.specs.Stores.{under, Nested, Held, Summed}
+use Rattle.stretches.specs.Stores.{under, Summed}
 use Rattle.row_stretches.specs.Passes.{end, Gathered}
 use Rattle.covered_letters.specs.Windows.{Counted, Begun}
 use Rattle.stretches.specs.declared.Store.{Store}
 use Rattle.stretches.proofs.Adding.{stored-before}
 use Rattle.covered_letters.specs.declared.Window.{Window}
-
-pub held-nested : {from : ℕ} {lows highs : List ℕ} {store : Store} → Held from lows highs store
-    → Nested (take store.used lows) (take store.used highs)
-held-nested {lows = lows} {highs = highs} {store = store} held =
-    let low = length-take-le store.used lows held.room in
-    let high = length-take-le store.used highs (omega (arith, held.room, held.as_many)) in
-    record { as_many = omega arith; nested = held.stored.nested }
-
-pub front-room : (n : ℕ) (xs : List ℕ) {m : ℕ} → length xs ≤ m → length (take n xs) ≤ m
-front-room n xs room = rw (length-take n xs) (le_trans (min-le_right n (length xs)) room)
-
-pub held-room : {from m : ℕ} {lows highs : List ℕ} {store : Store} → Held from lows highs store → length lows ≤ m
-    → length (take store.used lows) ≤ m
-held-room {lows = lows} {store = store} held room = front-room store.used lows room
 
 pub window-counted : {s : Side} {rs : List Row} {from letters : ℕ} {lows highs : List ℕ} {store : Store}
     → Gathered s rs from lows highs store → Summed (take store.used lows) (take store.used highs) letters

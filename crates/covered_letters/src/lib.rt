@@ -4,7 +4,7 @@
 // each match, and takes one pass.
 #![tactic(auto)]
 
-ghost use Rattle.std.specs.Prelude.{◌+◌, ◌≤◌, ◌<◌, ◌≡◌, length};
+ghost use Rattle.std.specs.Prelude.{◌≤◌, ◌<◌, ◌≡◌, length};
 ghost use Rattle.rows.specs.Rows.{rows_of};
 ghost use Rattle.table.specs.Covering.{cover_of};
 ghost use Rattle.stretches.specs.Stores.{Rooms};
@@ -15,7 +15,7 @@ use refinement::Side;
 use row_stretches::{gather, stretch_at};
 use rows::row_count;
 use sorted_numbers::sort;
-use stretches::{count_sorted, lesser};
+use stretches::count_sorted;
 
 // No stretch ends there or behind.
 const END: u64 = 0x2_0000_0000;
@@ -46,15 +46,14 @@ fn count_window(
     to: u64,
     lows: &mut [u64],
     highs: &mut [u64],
-    spare: &mut [u64],
 ) -> Window
-    requires rooms { Rooms lows.old highs.old spare.old }
+    requires rooms { Rooms lows.old highs.old }
     requires from_lt_to { (from < to) × (to ≤ end) }
     ensures { Counted side (rows_of table.now) from result }
 {
-    let store = gather(table, side, from, to, lows, highs, spare);
+    let store = gather(table, side, from, to, lows, highs);
     let used = store.used;
-    let letters = count_sorted(&mut lows[..used], &mut highs[..used], spare);
+    let letters = count_sorted(&mut lows[..used], &mut highs[..used]);
     Window {
         letters,
         to: store.to,
@@ -63,32 +62,27 @@ fn count_window(
 
 // The left ends of every step-th row, those from `from` on; says how many.
 fn sample(table: &[u32], side: Side, from: u64, step: usize, lows: &mut [u64]) -> usize
-    requires { (0 < step) × (step ≤ length (rows_of table.now) + 1) }
+    requires { 0 < step }
     ensures { result ≤ length lows.old }
 {
-    let rows = row_count(table);
-    let mut used: usize = 0;
-    let mut k: usize = 0;
-    while k < rows {
+    let mut used = 0;
+    for k in (0..row_count(table)).step_by(step) {
         let next = stretch_at(table, k, side);
-        k += step;
-        if next.low < from {
-            continue;
+        if from <= next.low {
+            if used == lows.len() {
+                break;
+            }
+            lows[used] = next.low;
+            used += 1;
         }
-        if used == lows.len() {
-            return used;
-        }
-        lows[used] = next.low;
-        used += 1;
     }
     used
 }
 
 // Where a window from `from` on may end, so that there is likely to be room for the stretches that begin in it. The
 // first window tries for all: what refining made has room there.
-fn likely_end(table: &[u32], side: Side, from: u64, lows: &mut [u64], spare: &mut [u64]) -> u64
-    requires lows_in_bounds { length lows.old ≤ length spare.old }
-    requires from_lt_end { from < end }
+fn likely_end(table: &[u32], side: Side, from: u64, lows: &mut [u64]) -> u64
+    requires { from < end }
     ensures { (from < result) × (result ≤ end) }
 {
     if from == 0 {
@@ -96,15 +90,13 @@ fn likely_end(table: &[u32], side: Side, from: u64, lows: &mut [u64], spare: &mu
     }
     let step = row_count(table) / SAMPLES + 1;
     let used = sample(table, side, from, step, lows);
-    sort(&mut lows[..used], spare);
+    sort(&mut lows[..used]);
     let at = EXPECTED / step + 1;
-    if used <= at {
-        return END;
+    if used <= at || lows[at] <= from {
+        END
+    } else {
+        lows[at].min(END)
     }
-    if lows[at] <= from {
-        return END;
-    }
-    lesser(lows[at], END)
 }
 
 fn count_with_few(table: &[u32], side: Side) -> Window
@@ -112,16 +104,7 @@ fn count_with_few(table: &[u32], side: Side) -> Window
 {
     let mut lows = [0u64; FEW];
     let mut highs = [0u64; FEW];
-    let mut spare = [0u64; FEW];
-    count_window(
-        table,
-        side,
-        0,
-        END,
-        &mut lows[..],
-        &mut highs[..],
-        &mut spare[..],
-    )
+    count_window(table, side, 0, END, &mut lows, &mut highs)
 }
 
 fn count_with_many(table: &[u32], side: Side, from: u64) -> Window
@@ -130,17 +113,8 @@ fn count_with_many(table: &[u32], side: Side, from: u64) -> Window
 {
     let mut lows = [0u64; MANY];
     let mut highs = [0u64; MANY];
-    let mut spare = [0u64; MANY];
-    let to = likely_end(table, side, from, &mut lows[..], &mut spare[..]);
-    count_window(
-        table,
-        side,
-        from,
-        to,
-        &mut lows[..],
-        &mut highs[..],
-        &mut spare[..],
-    )
+    let to = likely_end(table, side, from, &mut lows);
+    count_window(table, side, from, to, &mut lows, &mut highs)
 }
 
 // The letters counted before, and those of the windows behind.
@@ -150,6 +124,7 @@ fn count_on(table: &[u32], side: Side, counted: Window) -> u64
 {
     let mut letters = counted.letters;
     let mut from = counted.to;
+    // Not a `for`: the next window begins where this one was cut.
     while from < END {
         let next = count_with_many(table, side, from);
         letters += next.letters;

@@ -1,8 +1,7 @@
 -- The stretches of rows, gathered in a window of letters. Only the count of letters promises anything by it.
 --     end                            no stretch ends there or behind
 --     StretchOf s r x                x is the stretch that the row r has on the side s
---     store_of p, run_of p             what a pass has stored, and its run of touching stretches
---     under_pass lows highs p h       the letter behind h is under either
+--     under_pass lows highs p h       the letter behind h is under what a pass has stored, or under its run
 --     Running from lows highs p      both are in order, for a window from `from` on
 --     TakenIn, Passed                both after one more stretch, and after those of all rows
 --     Gathered                       what is stored after all rows
@@ -24,32 +23,25 @@ pub record StretchOf (s : Side) (r : Row) (x : Stretch) : Type 0 where
   pub left : x.low ≡ left_of s r
   pub right : x.high ≡ right_of s r
 
--- the store of a pass, and its run
-abbrev pub store_of : Pass → Store
-store_of p = record { used = p.used; to = p.to }
-
-abbrev pub run_of : Pass → Stretch
-run_of p = record { low = p.low; high = p.high }
-
 -- the letters under both
 abbrev pub under_pass : List ℕ → List ℕ → Pass → ℕ → Bool
-under_pass lows highs p h = within p.low p.high h || under_store lows highs (store_of p) h
+under_pass lows highs p h = within p.run.low p.run.high h || under_store lows highs p.store h
 
 pub record Running (from : ℕ) (lows highs : List ℕ) (p : Pass) : Type 0 where
-  pub held : Held from lows highs (store_of p)
-  pub order : p.low ≤ p.high
+  pub held : Held from lows highs p.store
+  pub order : p.run.low ≤ p.run.high
 
 pub record TakenIn (from : ℕ) (x : Stretch) (L H : List ℕ) (before : Pass) (lows highs : List ℕ) (p : Pass)
     : Type 0 where
   pub running : Running from lows highs p
-  pub shorter : p.to ≤ before.to
-  pub more : (h : ℕ) → from ≤ h → h < p.to
+  pub shorter : p.store.to ≤ before.store.to
+  pub more : (h : ℕ) → from ≤ h → h < p.store.to
       → under_pass lows highs p h ≡ (under_pass L H before h || within x.low x.high h)
 
 pub record Passed (s : Side) (rs : List Row) (from : ℕ) (lows highs : List ℕ) (p : Pass) : Type 0 where
   pub running : Running from lows highs p
-  pub shorter : p.to ≤ end
-  pub all : (h : ℕ) → from ≤ h → h < p.to → under_pass lows highs p h ≡ is_covered s rs h
+  pub shorter : p.store.to ≤ end
+  pub all : (h : ℕ) → from ≤ h → h < p.store.to → under_pass lows highs p h ≡ is_covered s rs h
 
 pub record Gathered (s : Side) (rs : List Row) (from : ℕ) (lows highs : List ℕ) (store : Store) : Type 0 where
   pub held : Held from lows highs store

@@ -10,15 +10,13 @@ ghost use Rattle.row_stretches.specs.Passes.{end, StretchOf, Running, TakenIn, P
 
 use refinement::{Side, on_side};
 use rows::{row_at, row_count};
-use stretches::{Store, Stretch, greater, lesser, put};
+use stretches::{Store, Stretch, put};
 
 // A pass over the rows: the store, and the run of touching stretches that is not stored yet.
 #[derive(Clone, Copy)]
 pub struct Pass {
-    pub used: usize,
-    pub to: u64,
-    pub low: u64,
-    pub high: u64,
+    pub store: Store,
+    pub run: Stretch,
 }
 
 // The stretch of row k.
@@ -42,47 +40,27 @@ fn touch(a: Stretch, b: Stretch) -> bool
 }
 
 // Takes one more stretch in: one that touches the run makes it longer, and another begins the next run.
-fn take_in(
-    lows: &mut [u64],
-    highs: &mut [u64],
-    spare: &mut [u64],
-    pass: Pass,
-    from: u64,
-    next: Stretch,
-) -> Pass
-    requires rooms { Rooms lows.old highs.old spare.old }
+fn take_in(lows: &mut [u64], highs: &mut [u64], pass: Pass, from: u64, next: Stretch) -> Pass
+    requires rooms { Rooms lows.old highs.old }
     requires running { Running from lows.old highs.old pass }
     requires low_le_high { next.low ≤ next.high }
     ensures { TakenIn from next lows.old highs.old pass lows.new highs.new result }
 {
-    if next.high <= from {
-        return pass;
-    }
-    if pass.to <= next.low {
-        return pass;
-    }
-    let run = Stretch {
-        low: pass.low,
-        high: pass.high,
-    };
-    if touch(run, next) {
-        return Pass {
-            used: pass.used,
-            to: pass.to,
-            low: lesser(run.low, next.low),
-            high: greater(run.high, next.high),
+    let Pass { store, run } = pass;
+    if next.high <= from || store.to <= next.low {
+        pass
+    } else if touch(run, next) {
+        let longer = Stretch {
+            low: run.low.min(next.low),
+            high: run.high.max(next.high),
         };
-    }
-    let store = Store {
-        used: pass.used,
-        to: pass.to,
-    };
-    let more = put(lows, highs, spare, store, from, run);
-    Pass {
-        used: more.used,
-        to: more.to,
-        low: next.low,
-        high: next.high,
+        Pass { store, run: longer }
+    } else {
+        let more = put(lows, highs, store, from, run);
+        Pass {
+            store: more,
+            run: next,
+        }
     }
 }
 
@@ -94,24 +72,21 @@ fn pass_over(
     to: u64,
     lows: &mut [u64],
     highs: &mut [u64],
-    spare: &mut [u64],
 ) -> Pass
-    requires rooms { Rooms lows.old highs.old spare.old }
+    requires rooms { Rooms lows.old highs.old }
     requires from_lt_to { (from < to) × (to ≤ end) }
     ensures { Passed side (rows_of table.now) from lows.new highs.new result }
 {
-    let rows = row_count(table);
     let mut pass = Pass {
-        used: 0,
-        to,
-        low: from,
-        high: from,
+        store: Store { used: 0, to },
+        run: Stretch {
+            low: from,
+            high: from,
+        },
     };
-    let mut k: usize = 0;
-    while k < rows {
+    for k in 0..row_count(table) {
         let next = stretch_at(table, k, side);
-        pass = take_in(lows, highs, spare, pass, from, next);
-        k += 1;
+        pass = take_in(lows, highs, pass, from, next);
     }
     pass
 }
@@ -124,20 +99,11 @@ pub fn gather(
     to: u64,
     lows: &mut [u64],
     highs: &mut [u64],
-    spare: &mut [u64],
 ) -> Store
-    requires rooms { Rooms lows.old highs.old spare.old }
+    requires rooms { Rooms lows.old highs.old }
     requires from_lt_to { (from < to) × (to ≤ end) }
     ensures { Gathered side (rows_of table.now) from lows.new highs.new result }
 {
-    let pass = pass_over(table, side, from, to, lows, highs, spare);
-    let store = Store {
-        used: pass.used,
-        to: pass.to,
-    };
-    let last = Stretch {
-        low: pass.low,
-        high: pass.high,
-    };
-    put(lows, highs, spare, store, from, last)
+    let last = pass_over(table, side, from, to, lows, highs);
+    put(lows, highs, last.store, from, last.run)
 }

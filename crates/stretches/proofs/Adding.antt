@@ -2,8 +2,6 @@
 --     stored-none, under_none       a store of nothing
 --     stored-before                 nothing is under it before its window
 --     added_none, added-one         no letter of it lies in the window; some do
---     full-stored                   what full arrays hold
---     roomier-held, added-roomier   the same after room was made
 -- Assumes nothing.
 use Prim.Native.Nat.{ℕ, ◌+◌, ◌≤◌, ◌<◌, min, max}
 use mathlib.Core.Bool.{false}
@@ -14,11 +12,10 @@ use native.Mathlib.Decide.{dec_lt, dec_le}
 use native.Mathlib.Nat.{le-max_left, le-max_right, max-le, min-le_left, min-le_right, le-min}
 use borrow.Author.Tests.{lt-leb, le-leb, le-ltb}
 use lib.ListN.{length, set, length-set}
-use lib.Seq.{take_all}
 use Rattle.table.specs.Tally.{within}
 use Rattle.table.proofs.Tally.{within-true, within-before, within-behind}
 use Rattle.sorted_numbers.specs.Ranks.{rank}
-use Rattle.stretches.specs.Stores.{under, Stored, Held, Roomier, Added}
+use Rattle.stretches.specs.Stores.{under, Stored, Held, Added}
 use Rattle.stretches.specs.declared.Stretch.{Stretch}
 use Rattle.stretches.specs.declared.Store.{Store}
 use Rattle.stretches.proofs.Under.{rank-last, under_more}
@@ -111,27 +108,3 @@ module _ {from : ℕ} {lows highs : List ℕ} {store : Store} (held : Held from 
             rw (front, back)
             (under_more _ _ a b h (omega arith) (held.stored.nested h) ∙ rw (clip h l l'));
       }
-
--- ---- after room was made
-
-pub full-stored : {from : ℕ} {lows highs : List ℕ} {store : Store} → Held from lows highs store
-    → length lows ≤ store.used → Stored from store.to lows highs
-full-stored {lows = lows} {highs = highs} {store = store} held full =
-    rw (take_all store.used lows full, take_all store.used highs (omega (arith, held.as_many))) at held.stored
-
-pub roomier-held : {from to : ℕ} {L H lows highs : List ℕ} {store : Store} → length lows ≡ length L
-    → length highs ≡ length L → Roomier from to L H lows highs store → Held from lows highs store
-roomier-held room room' r =
-    record { room = omega (arith, r.room); as_many = omega arith; onward = r.onward; stored = r.stored }
-
-pub added-roomier : {from : ℕ} {x : Stretch} {L H lows highs lows' highs' : List ℕ} {before store store' : Store}
-    → length H ≡ length L → length L ≤ before.used → Roomier from before.to L H lows highs store
-    → Added from x lows highs store lows' highs' store' → Added from x L H before lows' highs' store'
-added-roomier {L = L} {H = H} {before = before} as_many full r a =
-    record {
-      held = a.held;
-      shorter = omega (arith, a.shorter, r.shorter);
-      more = λ h l l'.
-          rw (take_all before.used L full, take_all before.used H (omega arith))
-          (a.more h l l' ∙ rw (r.same h (omega (arith, a.shorter))));
-    }

@@ -1,8 +1,8 @@
 -- Letters summed up from stretch to stretch, of left ends and right ends that rise.
 --     Summing                       the letters under the first k stretches; `reach` is where the last of them ends
 --     summing-starts                before the first
---     summing-order, summing-fits   what of one more lies behind `reach` can be worked out
---     summing-more                  and is added
+--     summing-more                  what of one more lies behind `reach` is added
+--     summing-fits                  and the sum fits
 --     summing-all                   behind the last
 --     sorted-summed                 sorted or not, the stretches have the same letters
 -- Assumes nothing.
@@ -103,9 +103,6 @@ module _ {L H : List ℕ} (p : Paired L H) {letters reach k : ℕ} (s : Summing 
 
     -- the further of the left end and `reach`, as it was worked out
     module _ {low : ℕ} (further : low ≡ max (get_or L k 0) reach) where
-      pub summing-order : low ≤ get_or H k 0
-      summing-order = rw further order
-
       pub summing-more : Summing L H (letters + (get_or H k 0 - low)) (get_or H k 0) (k + 1)
       summing-more = rw further more
 

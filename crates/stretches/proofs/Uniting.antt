@@ -1,15 +1,13 @@
 -- Stretches that touch made one, from the first to the last, of left ends and right ends that rise.
 --     Uniting                        what is written of the first k stretches, and that the others are as they were
---     uniting-starts                 with the first stretch alone
 --     uniting-joined                 after one that touches the last: that one ends where this one does
 --     uniting-apart                  after one that does not: it is written behind
---     uniting-all                    behind the last
 --     under_next                     what is under the first k + 1 stretches
 --     all_apart                      each stretch that is written ends before every later one begins
 -- Assumes nothing.
 use Prim.Native.Nat.{ℕ, zero, suc, ◌+◌, ◌-◌, ◌≤◌, ◌<◌}
 use mathlib.Core.Bool.{Bool, cond}
-use mathlib.Core.Path.{◌≡◌, refl, sym, ap, ◌∙◌}
+use mathlib.Core.Path.{◌≡◌, sym, ap, ◌∙◌}
 use mathlib.Core.List.{List, [], ◌∷◌, ◌++◌}
 use native.Mathlib.Omega.{arith}
 use native.Mathlib.Decide.{dec_lt, ℕ_discrete}
@@ -17,9 +15,9 @@ use native.Mathlib.Numerals.{add-one}
 use borrow.Author.Tests.{lt-ltb, le-ltb}
 use lib.ListN.{length, get_or, take, set, length-set}
 use lib.Dec.{ltb}
-use lib.Seq.{length-take-le, take_all, take-suc, take-suc-set, get_or-take, get_or-set_same, get_or-set_other}
+use lib.Seq.{length-take-le, take-suc, take-suc-set, get_or-take, get_or-set_same, get_or-set_other}
 use Rattle.sorted_numbers.specs.Ranks.{rank}
-use Rattle.stretches.specs.Stores.{under, Paired, Apart, United}
+use Rattle.stretches.specs.Stores.{under, Paired, Apart}
 use Rattle.stretches.proofs.Under.{rank-last, under_last}
 
 pub record Uniting (L H lows highs : List ℕ) (used k : ℕ) : Type 0 where
@@ -56,23 +54,6 @@ module _ {L H : List ℕ} (p : Paired L H) where
       (λ i l. let t : i < k = omega arith in rw (get_or-take k L i 0 t) (p.low_rises.order i k t inside))
       (λ i l. let t : i < k = omega arith in
       rw (get_or-take k H i 0 t) (p.high_rises.order i k t (omega (arith, p.as_many)))))
-
-  pub uniting-starts : 0 < length L → Uniting L H L H 1 1
-  uniting-starts inside =
-      record {
-        some = omega arith;
-        fewer = omega arith;
-        within = inside;
-        low_room = refl;
-        high_room = refl;
-        low_rest = λ i l. refl;
-        high_rest = λ i l. refl;
-        low_last = omega arith;
-        high_last = refl;
-        apart = record { gap = λ i l. absurd (omega arith); forward = λ i l. p.forward i (omega arith) };
-        ranks = λ h. omega arith;
-        same = λ h. refl;
-      }
 
 -- ---- what is written so far
 
@@ -286,15 +267,3 @@ module _ {L H : List ℕ} (p : Paired L H) {lows highs : List ℕ} {used k : ℕ
           rw (get_or-take used lows i 0 t) (lows-until u w (omega (arith, low-here, low-order)) i t))
           (λ i l. let t : i < used = omega arith in rw (get_or-take used highs i 0 t) (highs-until u v high-order i t))
           ∙ rw (u.same h, low-here, high-here) (sym (under_next p k h inside)))
-
-pub uniting-all : {L H lows highs : List ℕ} {used k : ℕ} → Paired L H → Uniting L H lows highs used k → length L ≤ k
-    → United L H lows highs used
-uniting-all {L} {H} {k = k} p u ended =
-    let all = take_all k L ended in
-    let all' = take_all k H (omega (arith, p.as_many)) in
-    record {
-      within = omega (arith, u.fewer, u.within);
-      apart = u.apart;
-      fewer = λ h. rw all at (u.ranks h);
-      same = λ h. rw (all, all') at (u.same h);
-    }

@@ -2,7 +2,7 @@
 --     under lows highs h             more of these left ends than of these right ends lie before the letter behind h
 --     Paired lows highs              both rise, and each right end is at its left end or behind
 --     Nested lows highs              as many right ends as left ends, up to no letter more
---     Rooms lows highs spare         room for five stretches at least, and as much to sort their ends
+--     Rooms lows highs               room for five stretches at least
 --     Stored from to lows highs      the ends of stretches in the window from `from` to `to`
 --     Held from lows highs store     the first ends of both lists are such, as many as the store has
 --     under_store lows highs store h  the letter behind h is under what the store has
@@ -32,10 +32,9 @@ pub record Nested (lows highs : List ℕ) : Type 0 where
   pub as_many : length highs ≡ length lows
   pub nested : (h : ℕ) → rank h highs ≤ rank h lows
 
-pub record Rooms (lows highs spare : List ℕ) : Type 0 where
+pub record Rooms (lows highs : List ℕ) : Type 0 where
   pub some : 5 ≤ length lows
   pub as_many : length highs ≡ length lows
-  pub room : length lows ≤ length spare
 
 pub record Stored (from to : ℕ) (lows highs : List ℕ) : Type 0 where
   pub nested : (h : ℕ) → rank h highs ≤ rank h lows

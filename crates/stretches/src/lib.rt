@@ -4,7 +4,7 @@
 // kept for is cut short.
 #![tactic(auto)]
 
-ghost use Rattle.std.specs.Prelude.{◌≤◌, ◌<◌, min, max, ◌≡◌, length};
+ghost use Rattle.std.specs.Prelude.{◌<◌, length};
 ghost use Rattle.stretches.specs.Stores.{Paired, Nested, Rooms, Stored, Held, United, Roomier, Added, Summed};
 
 use sorted_numbers::sort;
@@ -23,64 +23,44 @@ pub struct Store {
     pub to: u64,
 }
 
-pub fn lesser(a: u64, b: u64) -> u64
-    ensures { result ≡ min a b }
-{
-    if a < b {
-        return a;
-    }
-    b
-}
-
-pub fn greater(a: u64, b: u64) -> u64
-    ensures { result ≡ max a b }
-{
-    if a < b {
-        return b;
-    }
-    a
-}
-
 // Makes one of stretches that touch, of left ends and right ends that rise; says how many are left, at the front.
 fn unite(lows: &mut [u64], highs: &mut [u64]) -> usize
     requires paired { Paired lows.old highs.old }
     requires lows_nonzero { 0 < length lows.old }
     ensures { United lows.old highs.old lows.new highs.new result }
 {
-    let count = lows.len();
-    let mut used: usize = 1;
-    let mut k: usize = 1;
-    while k < count {
+    let mut used = 1;
+    for k in 1..lows.len() {
         let low = lows[k];
         let high = highs[k];
-        k += 1;
         if low <= highs[used - 1] {
             highs[used - 1] = high;
-            continue;
+        } else {
+            lows[used] = low;
+            highs[used] = high;
+            used += 1;
         }
-        lows[used] = low;
-        highs[used] = high;
-        used += 1;
     }
     used
 }
 
 // Makes room in full arrays: unites what touches and, where more than four fifths are left, cuts the window.
-fn make_room(lows: &mut [u64], highs: &mut [u64], spare: &mut [u64], from: u64, to: u64) -> Store
-    requires rooms { Rooms lows.old highs.old spare.old }
+fn make_room(lows: &mut [u64], highs: &mut [u64], from: u64, to: u64) -> Store
+    requires rooms { Rooms lows.old highs.old }
     requires from_lt_to { (from < to) × Stored from to lows.old highs.old }
     ensures { Roomier from to lows.old highs.old lows.new highs.new result }
 {
-    sort(lows, spare);
-    sort(highs, spare);
+    sort(lows);
+    sort(highs);
     let kept = unite(lows, highs);
     let most = lows.len() - lows.len() / 5;
     if kept <= most {
-        return Store { used: kept, to };
-    }
-    Store {
-        used: most,
-        to: lesser(to, lows[most]),
+        Store { used: kept, to }
+    } else {
+        Store {
+            used: most,
+            to: to.min(lows[most]),
+        }
     }
 }
 
@@ -90,37 +70,29 @@ fn add(lows: &mut [u64], highs: &mut [u64], store: Store, from: u64, stretch: St
     requires used_in_bounds { store.used < length lows.old }
     ensures { Added from stretch lows.old highs.old store lows.new highs.new result }
 {
-    let used = store.used;
-    let low = greater(stretch.low, from);
-    let high = lesser(stretch.high, store.to);
+    let low = stretch.low.max(from);
+    let high = stretch.high.min(store.to);
     if high <= low {
         return store;
     }
-    lows[used] = low;
-    highs[used] = high;
+    lows[store.used] = low;
+    highs[store.used] = high;
     Store {
-        used: used + 1,
-        to: store.to,
+        used: store.used + 1,
+        ..store
     }
 }
 
 // The same, where the arrays may be full.
-pub fn put(
-    lows: &mut [u64],
-    highs: &mut [u64],
-    spare: &mut [u64],
-    store: Store,
-    from: u64,
-    stretch: Stretch,
-) -> Store
-    requires rooms { Rooms lows.old highs.old spare.old }
+pub fn put(lows: &mut [u64], highs: &mut [u64], store: Store, from: u64, stretch: Stretch) -> Store
+    requires rooms { Rooms lows.old highs.old }
     requires held { Held from lows.old highs.old store }
     ensures { Added from stretch lows.old highs.old store lows.new highs.new result }
 {
     if store.used < lows.len() {
         return add(lows, highs, store, from, stretch);
     }
-    let roomier = make_room(lows, highs, spare, from, store.to);
+    let roomier = make_room(lows, highs, from, store.to);
     add(lows, highs, roomier, from, stretch)
 }
 
@@ -129,25 +101,21 @@ fn count(lows: &[u64], highs: &[u64]) -> u64
     requires { Paired lows.now highs.now }
     ensures { Summed lows.now highs.now result }
 {
-    let mut letters: u64 = 0;
-    let mut reach: u64 = 0;
-    let mut k: usize = 0;
-    while k < lows.len() {
-        let high = highs[k];
-        letters += high - greater(lows[k], reach);
-        reach = high;
-        k += 1;
+    let mut letters = 0;
+    let mut reach = 0;
+    for k in 0..lows.len() {
+        letters += highs[k] - lows[k].max(reach);
+        reach = highs[k];
     }
     letters
 }
 
 // The letters under stretches in any order.
-pub fn count_sorted(lows: &mut [u64], highs: &mut [u64], spare: &mut [u64]) -> u64
-    requires nested { Nested lows.old highs.old }
-    requires lows_in_bounds { length lows.old ≤ length spare.old }
+pub fn count_sorted(lows: &mut [u64], highs: &mut [u64]) -> u64
+    requires { Nested lows.old highs.old }
     ensures { Summed lows.old highs.old result }
 {
-    sort(lows, spare);
-    sort(highs, spare);
+    sort(lows);
+    sort(highs);
     count(lows, highs)
 }

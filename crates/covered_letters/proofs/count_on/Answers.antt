@@ -1,5 +1,4 @@
--- `count_on` meets its contract. The loop has counted the letters before `from`; the measure is how far the end is, and
--- each window moves on. Assumes nothing.
+-- The letters of the next window are those behind. Assumes nothing.
 use native.Mathlib.Omega.{arith}
 use Rattle.covered_letters.proofs.Counting.{counted-fits, cover-counted}
 use Rattle.covered_letters.proofs.count_on.Goals as goal

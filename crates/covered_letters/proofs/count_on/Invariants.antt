@@ -1,5 +1,4 @@
--- `count_on` meets its contract. The loop has counted the letters before `from`; the measure is how far the end is, and
--- each window moves on. Assumes nothing.
+-- The letters before `from` are counted; the measure is how far the end is. Assumes nothing.
 use Prim.Native.Nat.{◌-◌, ◌≤◌}
 use mathlib.Core.Path.{◌≡◌}
 use Rattle.rows.specs.Rows.{rows_of}

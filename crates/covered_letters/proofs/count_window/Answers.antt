@@ -1,4 +1,5 @@
--- `count_window` meets its contract: what is gathered is summed up. Assumes nothing.
+-- What is gathered is summed up.
+-- Assumes nothing.
 use Rattle.covered_letters.proofs.Counting.{window-counted}
 use Rattle.covered_letters.proofs.count_window.Goals as goal
 

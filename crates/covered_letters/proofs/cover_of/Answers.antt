@@ -1,4 +1,4 @@
--- `cover_of` meets its contract: a short table is one window, unless its end is not reached. Assumes nothing.
+-- A short table is one window, unless its end is not reached. Assumes nothing.
 use native.Mathlib.Omega.{arith}
 use Rattle.covered_letters.proofs.Counting.{begun-none, begun_first, cover-counted}
 use Rattle.covered_letters.proofs.cover_of.Goals as goal

@@ -1,4 +1,5 @@
--- `count` meets its contract. The loop keeps `Summing`; the measure is how many stretches are left. Assumes nothing.
+-- Each stretch adds what of it lies behind the one before it.
+-- Assumes nothing.
 use native.Mathlib.Omega.{arith}
 use Rattle.stretches.proofs.Summing.{summing-starts, summing-fits}
 use Rattle.stretches.proofs.Summing.{summing-more, summing-all}
@@ -10,12 +11,12 @@ loop-k-init c =
 
 pub overflow_add-letters : goal.overflow_add-letters
 overflow_add-letters c =
-    let fits = summing-fits c.requires c.loop-k.invariant (omega arith) c.greater.ensures in
-    record { fits = omega (arith, fits, c.shared_slice_known-in-loop-k-1.given c.loop-k.k) }
+    let fits = summing-fits c.requires c.loop-k.invariant (omega arith) c.max.ensures in
+    record { fits = omega (arith, fits, c.type_inv.highs c.loop-k.k) }
 
 pub loop-k-preserved : goal.loop-k-preserved
 loop-k-preserved c =
-    summing-more c.requires c.loop-k.invariant (omega arith) c.greater.ensures
+    summing-more c.requires c.loop-k.invariant (omega arith) c.max.ensures
 
 pub returns : goal.returns
 returns c =

@@ -1,4 +1,5 @@
--- `count_sorted` meets its contract: sorted, the stretches have the same letters. Assumes nothing.
+-- Sorted, the stretches have the same letters.
+-- Assumes nothing.
 use borrow.Author.Rules.{rules}
 use Rattle.stretches.proofs.Room.{sorted-pairs}
 use Rattle.stretches.proofs.Summing.{sorted-summed}
@@ -6,7 +7,7 @@ use Rattle.stretches.proofs.count_sorted.Goals as goal
 
 pub count-requires : goal.count-requires
 count-requires c =
-    sorted-pairs c.requires.nested c.sort.ensures c.sort-2.ensures (search rules) (search rules)
+    sorted-pairs c.requires c.sort.ensures c.sort-2.ensures (search rules) (search rules)
 
 pub returns : goal.returns
 returns c =

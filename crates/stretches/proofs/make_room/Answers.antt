@@ -1,5 +1,5 @@
--- `make_room` meets its contract: the ends are sorted, the stretches united, and where too many are left the window is
--- cut. Assumes nothing.
+-- The ends are sorted, the stretches united, and where too many are left the window is cut.
+-- Assumes nothing.
 use borrow.Author.Rules.{rules}
 use native.Mathlib.Omega.{arith}
 use Rattle.stretches.proofs.Room.{stored-nested, sorted-pairs, sorted-stored, sorted-roomier}
@@ -18,11 +18,11 @@ returns-then-kept-most c =
     (room-enough stored c.unite-kept.ensures (search rules) (search rules)
     (omega (arith, c.requires.rooms.some, c.sort.auto.numbers, c.unite-kept.auto.lows)) c.requires.from_lt_to.0)
 
-pub returns : goal.returns
-returns c =
+pub returns-else-kept-most : goal.returns-else-kept-most
+returns-else-kept-most c =
     let stored = sorted-stored c.requires.from_lt_to.1 c.sort.ensures c.sort-2.ensures in
     sorted-roomier c.requires.from_lt_to.1 c.sort.ensures c.sort-2.ensures (search rules)
-    (rw c.lesser.ensures
+    (rw c.min.ensures
     (room_cut stored c.unite-kept.ensures (search rules) (search rules) _
     (omega (arith, c.requires.rooms.some, c.sort.auto.numbers, c.unite-kept.auto.lows)) (omega arith)
     (omega (arith, c.requires.rooms.some, c.sort.auto.numbers, c.unite-kept.auto.lows)) c.requires.from_lt_to.0))
