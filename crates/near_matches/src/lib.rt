@@ -19,10 +19,8 @@ fn any_near(lefts: &[u32], rights: &[u32], k: usize, lowest: u32, highest: u32) 
     ensures { result ≡ false → Passable lefts.now rights.now lowest highest k (k + 32) }
 {
     let mut any = false;
-    let mut at = k;
-    while at < k + 32 {
-        any = any | reaches(lefts[at], rights[at], lowest, highest);
-        at += 1;
+    for at in k..k + 32 {
+        any |= reaches(lefts[at], rights[at], lowest, highest);
     }
     any
 }
@@ -34,10 +32,8 @@ fn pass_many(lefts: &[u32], rights: &[u32], k: usize, lowest: u32, highest: u32)
     ensures { Passable lefts.now rights.now lowest highest k result }
 {
     let mut at = k;
-    while 32 <= lefts.len() - at {
-        if any_near(lefts, rights, at, lowest, highest) {
-            break;
-        }
+    // Not a `for`: it goes on by 32 matches.
+    while 32 <= lefts.len() - at && !any_near(lefts, rights, at, lowest, highest) {
         at += 32;
     }
     at
@@ -50,18 +46,14 @@ pub fn next_near(lefts: &[u32], rights: &[u32], k: usize, lowest: u32, highest: 
     requires k_in_bounds { k ≤ length lefts.now }
     ensures { Passable lefts.now rights.now lowest highest k result }
 {
-    if k == lefts.len() {
+    if k == lefts.len() || reaches(lefts[k], rights[k], lowest, highest) {
         return k;
     }
-    if reaches(lefts[k], rights[k], lowest, highest) {
-        return k;
-    }
-    let mut near = pass_many(lefts, rights, k, lowest, highest);
-    while near < lefts.len() {
+    let passed = pass_many(lefts, rights, k, lowest, highest);
+    for near in passed..lefts.len() {
         if reaches(lefts[near], rights[near], lowest, highest) {
-            break;
+            return near;
         }
-        near += 1;
     }
-    near
+    lefts.len()
 }

@@ -1,4 +1,4 @@
--- `pass_many` meets its contract. The loop keeps `Passable`; its measure is the matches that are left. Assumes nothing.
+-- The matches up to `at` are passed over; the measure is the matches that are left. Assumes nothing.
 use Prim.Native.Nat.{◌-◌}
 use lib.ListN as List
 use Rattle.near_matches.specs.Near.{Passable}
