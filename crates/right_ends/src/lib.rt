@@ -15,11 +15,9 @@ pub fn work_out(left_a: &[u32], left_b: &[u32], right_a: &mut [u32], right_b: &m
     ensures on_b { RightEnds left_b.now (take (length left_a.now) right_b.old)
         (take (length left_a.now) right_b.new) }
 {
-    let mut k = 0;
-    while k < left_a.len() {
+    for k in 0..left_a.len() {
         let length = right_b[k];
         right_a[k] = left_a[k] + length;
         right_b[k] = left_b[k] + length;
-        k += 1;
     }
 }
