@@ -8,9 +8,5 @@ ghost use Rattle.refining.specs.Refining.{zeroed};
 pub fn clear(work: &mut [u32])
     ensures { work.new ≡ zeroed work.old }
 {
-    let mut k = 0;
-    while k < work.len() {
-        work[k] = 0;
-        k += 1;
-    }
+    work.fill(0);
 }
