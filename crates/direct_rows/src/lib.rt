@@ -13,15 +13,12 @@ pub fn collect(table: &[u32], out: &mut [u32]) -> usize
     requires table_len_bound { length (rows_of table.now) < 2 ^ 32 }
     ensures { Collected (rows_of table.now) out.new result }
 {
-    let count = row_count(table);
-    let mut used: usize = 0;
-    let mut k: usize = 0;
-    while k < count {
+    let mut used = 0;
+    for k in 0..row_count(table) {
         if row_at(table, k).direction == 0 {
             out[used] = k as u32 + 1;
             used += 1;
         }
-        k += 1;
     }
     used
 }
@@ -31,9 +28,7 @@ pub fn place_all(order: &[u32], places: &mut [u32])
     requires { Placeable order.now places.old }
     ensures { Placed order.now places.new }
 {
-    let mut t: usize = 0;
-    while t < order.len() {
-        places[order[t] as usize - 1] = t as u32;
-        t += 1;
+    for (t, number) in order.iter().enumerate() {
+        places[*number as usize - 1] = t as u32;
     }
 }

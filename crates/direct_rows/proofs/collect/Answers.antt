@@ -1,4 +1,4 @@
--- `collect` meets its contract. The loop keeps `CollectedTo`; its measure is the rows left. Assumes nothing.
+-- A row that is direct is collected, and another passed over. Assumes nothing.
 use borrow.Author.Rules.{rules}
 use Rattle.std.proofs.Common.{arith}
 use Rattle.std.proofs.lemmas.Grind.{common_steps}
