@@ -10,7 +10,8 @@ pub fn write_chain(links: &[u32], first: u32, chain: &mut [u32]) -> usize
     ensures { Written links.now first chain.old chain.new result }
 {
     let mut number = first;
-    let mut used: usize = 0;
+    let mut used = 0;
+    // Not a `for`: the links say where it goes on, and where it ends.
     while number != 0 {
         chain[used] = number;
         used += 1;

@@ -1,4 +1,4 @@
--- `write_chain` meets its contract. The loop keeps `OnWay`; its measure is the room left. Assumes nothing.
+-- A number on the way has a link, and room in the chain. Assumes nothing.
 use borrow.Author.Rules.{rules}
 use Rattle.walking.proofs.Trail.{way-there, way-free, way-kept, way_on, way-ends}
 use Rattle.walking.proofs.write_chain.Goals as goal

@@ -1,4 +1,4 @@
--- `write_chain` meets its contract. The loop keeps `OnWay`; its measure is the room left. Assumes nothing.
+-- The chain is written up to `number`; the measure is the room left. Assumes nothing.
 use Prim.Native.Nat.{◌-◌}
 use lib.ListN.{length}
 use Rattle.walking.proofs.Trail.{OnWay}
