@@ -44,6 +44,7 @@ fn far(table: &[u32], price: u32, number: u32) -> u64
 }
 
 // The better one of two rows to go on with, by number; 0 is none. Of equal ones the lower number.
+#[tactic(auto, unfolding(crate::specs::Weighing::better_of))]
 pub fn better(table: &[u32], scores: &[u32], price: u32, j: u32, k: u32) -> u32
     requires scored { Scored (rows_of table.now) scores.now price }
     requires j_in_bounds { j ≤ length (rows_of table.now) }
@@ -61,10 +62,10 @@ pub fn better(table: &[u32], scores: &[u32], price: u32, j: u32, k: u32) -> u32
     let score_a = scores[j as usize - 1];
     let score_b = scores[k as usize - 1];
     if worse(score_a, far_a, score_b, far_b) {
-        return k;
+        k
+    } else if worse(score_b, far_b, score_a, far_a) {
+        j
+    } else {
+        j.min(k)
     }
-    if worse(score_b, far_b, score_a, far_a) {
-        return j;
-    }
-    if j < k { j } else { k }
 }
