@@ -40,26 +40,28 @@ fn link_to(table: &[u32], scores: &[u32], price: u32, number: u32, next: u32) ->
     ensures { Extended (rows_of table.now) scores.now price number next result }
 {
     let row = row_at(table, number as usize - 1);
+    let alone = Link {
+        next: 0,
+        score: row.length,
+    };
     if next == 0 {
-        return Link {
-            next: 0,
-            score: row.length,
-        };
+        return alone;
     }
     let other = row_at(table, next as usize - 1);
     let cost = link_cost(row, other, price);
     let score = scores[next as usize - 1];
     if gains(score, cost) {
-        let sum = row.length + (score - cost as u32);
-        return Link { next, score: sum };
-    }
-    Link {
-        next: 0,
-        score: row.length,
+        Link {
+            next,
+            score: row.length + (score - cost as u32),
+        }
+    } else {
+        alone
     }
 }
 
 // Of two rows the one with the higher score, of equal ones the lower number; 0 is none.
+#[tactic(auto, unfolding(crate::specs::Linking::foremost_of))]
 fn foremost(scores: &[u32], first: u32, number: u32) -> u32
     requires first_in_bounds { first ≤ length scores.now }
     requires le_number { (1 ≤ number) × (number ≤ length scores.now) }
@@ -71,12 +73,12 @@ fn foremost(scores: &[u32], first: u32, number: u32) -> u32
     let score = scores[first as usize - 1];
     let other = scores[number as usize - 1];
     if score < other {
-        return number;
+        number
+    } else if other < score {
+        first
+    } else {
+        number.min(first)
     }
-    if other < score {
-        return first;
-    }
-    if number < first { number } else { first }
 }
 
 // A row, its place by B, the row that it is linked to, 0 for none, and the score of the best chain from it.
@@ -184,11 +186,9 @@ pub fn link_all(
     requires linked { Linked price (rows_of table.now) count 0 work.old scores.old 0 }
     ensures { Linked price (rows_of table.now) count count work.new scores.new result }
 {
-    let mut first: u32 = 0;
-    let mut t: usize = 0;
-    while t < count {
+    let mut first = 0;
+    for t in 0..count {
         first = link_row(table, price, count, work, scores, t, first);
-        t += 1;
     }
     first
 }

@@ -1,6 +1,4 @@
--- `link_all` meets its contract. The invariant: the first t rows are linked. The measure is how many are left. Assumes
--- nothing.
-use Prim.Native.Nat.{◌-◌}
+-- The first t rows are linked. Assumes nothing.
 use mathlib.Core.Path.{◌≡◌}
 use lib.ListN.{length}
 use Rattle.rows.specs.Rows.{rows_of}
@@ -11,6 +9,3 @@ abbrev pub invariant-loop-t : goal.invariant-loop-t
 invariant-loop-t l =
     (length l.work ≡ length l.initial.work) × (length l.scores ≡ length l.initial.scores)
     × Linked l.price (rows_of l.table) l.count l.t l.work l.scores l.first
-
-abbrev pub decreases-loop-t : goal.decreases-loop-t
-decreases-loop-t l = l.count - l.t

@@ -1,5 +1,4 @@
--- `link_to` meets its contract: the link is made if the price is below the score, and then the sum fits. Assumes
--- nothing.
+-- The link is made if the price is below the score, and then the sum fits. Assumes nothing.
 use mathlib.Core.Path.{sym, ◌∙◌}
 use borrow.Author.Rules.{rules}
 use borrow.Author.Tests.{ltb-true, ltb-false}
@@ -15,7 +14,7 @@ returns-then-gains c =
     made-gained _ _ _ _ _ c.row_at-row.ensures c.row_at-other.ensures c.link_cost-cost.ensures.value (search rules)
     (ltb-true _ _ (sym c.gains.ensures ∙ c.if-gains.true))
 
-pub returns : goal.returns
-returns c =
+pub returns-else-gains : goal.returns-else-gains
+returns-else-gains c =
     made-lost _ _ _ _ _ c.row_at-row.ensures c.row_at-other.ensures c.link_cost-cost.ensures.value (search rules)
     (ltb-false _ _ (sym c.gains.ensures ∙ c.if-gains.false))

@@ -1,5 +1,4 @@
--- `put_link` meets its contract: the score and the link are written, and the part that is lent comes back with the
--- row entered. Assumes nothing.
+-- The score and the link are written, and the part that is lent comes back with the row entered. Assumes nothing.
 use Rattle.linking.proofs.Putting.{put}
 use Rattle.linking.proofs.put_link.Goals as goal
 
