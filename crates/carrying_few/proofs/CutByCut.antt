@@ -1,8 +1,7 @@
 -- Carrying newly found cuts one after the other, each over every match.
 --     CutsPassed          the invariant: the cuts at the places [done, at) are carried over all matches
---     cuts-start, cuts-step, cuts-end      where it begins, one cut more, and the end
+--     cuts-step, cuts-end      one cut more, and the end
 --     cuts-stop           no room for the images of one cut more, or for its hits
---     cuts-place, cuts-good    what reading and carrying the next cut needs
 -- Assumes nothing.
 use Prim.Native.Nat.{ℕ, zero, suc, ◌+◌, ◌≤◌, ◌<◌}
 use native.Mathlib.Omega.{arith}
@@ -13,16 +12,15 @@ use lib.ListN.{length, get_or}
 use lib.Seq.{slice, slice-cons, slice_empty}
 use Rattle.runs.specs.Runs.{In}
 use Rattle.runs.proofs.Membership.{in-wide, in_parts}
-use Rattle.cut_set.specs.Store.{Good, Found, found_in, found_end, Stored, Cramped}
+use Rattle.cut_set.specs.Store.{Found, found_in, found_end, Stored, Cramped}
 use Rattle.cut_set.specs.declared.CutSet.{CutSet}
-use Rattle.cut_set.proofs.Laws.{done-used, stored-none, stored_same, stored-then, cramped-wide, cramped-then}
-use Rattle.reading_cuts.specs.Reading.{FoundPlace}
+use Rattle.cut_set.proofs.Laws.{stored_same, stored-then, cramped-wide, cramped-then}
 use Rattle.refining.specs.Columns.{Columns, count_of}
 use Rattle.carrying_match.specs.OneMatch.{Ready, Carrying}
 use Rattle.std.specs.Prelude.{Err}
 use Rattle.carrying_match.specs.declared.Stop.{Stop}
 use Rattle.cut_set.proofs.Gathering.{base_done, used-limit, used-within}
-use Rattle.carrying_match.proofs.Storing.{same-apart, ready-then}
+use Rattle.carrying_match.proofs.Storing.{same-apart}
 use Rattle.carrying_cuts.specs.Worker.{Images, hits_over, Working}
 
 pub record CutsPassed (columns : Columns) (xs : List ℕ) (from to : CutSet) (hits most end : ℕ) (ys : List ℕ)
@@ -61,34 +59,8 @@ images-of h m = record {
 }
 
 module _ {columns : Columns} {xs : List ℕ} {from to : CutSet} {hits most end : ℕ} (r : Ready xs from to) where
-  pub cuts-start :
-      {at : ℕ} → end ≡ found_end from → at ≡ from.done → hits ≤ most
-      → CutsPassed columns xs from to hits most end xs to hits at
-  cuts-start {at} e f h = record {
-    ends = e;
-    start = omega arith;
-    until = omega (arith, done-used r.from_good);
-    lengths = refl;
-    stored = stored-none r.to_good (λ y m. absurd (omega (arith, m.carried.from, m.carried.below)));
-    counted = rw f;
-    few = h;
-  }
-
   module _ {ys : List ℕ} {set : CutSet} {count at : ℕ}
       (p : CutsPassed columns xs from to hits most end ys set count at) where
-    ready : Ready ys from set
-    ready = ready-then r p.stored p.lengths
-
-    pub cuts-good : Good ys set
-    cuts-good = ready.to_good
-
-    pub cuts-place : at < end → FoundPlace ys from at
-    cuts-place h = record {
-      from = p.start;
-      below = omega (arith, p.ends);
-      within = used-within ready.from_good;
-    }
-
     module _ {cut : ℕ} (more : at < end) (here : cut ≡ get_or ys at 0) where
       h : at < from.used
       h = omega (arith, p.ends)

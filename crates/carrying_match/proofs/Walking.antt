@@ -1,6 +1,5 @@
 -- Carrying the newly found cuts that one match spans, place by place from the first that is at least its left end.
 --     Walked              the invariant: the cuts at [lo, at) are carried
---     walk_start                  where it begins
 --     walk-over, walk-break       the run is at its end, or its next cut is not spanned
 --     AtCut, at_cut               the next cut is spanned
 --     walk_step, walk-known       it is carried; and the image of an end of the match is known
@@ -8,7 +7,7 @@
 -- Assumes nothing.
 use Prim.Native.Nat.{ℕ, suc, ◌+◌, ◌-◌, ◌≤◌, ◌<◌}
 use native.Mathlib.Omega.{arith}
-use mathlib.Core.Path.{◌≡◌, refl, sym, ap, subst, ◌∙◌}
+use mathlib.Core.Path.{◌≡◌, sym, ap, subst, ◌∙◌}
 use mathlib.Core.Bool.{Bool, true, false, true≢false}
 use mathlib.Core.List.{List}
 use mathlib.Core.Logic.{◌↔◌, ◌⊎◌, inl, inr, ⊎_elim}
@@ -50,20 +49,6 @@ module _ {i g k l : ℕ} {b : Bool} {xs : List ℕ} where
       {lo hi low high y : ℕ} → low ≤ lo → hi ≤ high → ImageBy i g k l b (In xs lo hi) y
       → ImageBy i g k l b (In xs low high) y
   image-wide p q m = record { x = m.x; carried = in-wide p q m.carried; spans = m.spans; is = m.is }
-
-pub walk_start :
-    {i g k l : ℕ} {b : Bool} {xs : List ℕ} {from to : CutSet} {lo end hits most : ℕ} → Ready xs from to
-    → end ≡ found_end from → Bound xs from.done from.used i lo → hits ≤ most
-    → Walked i g k l b xs from to hits most lo end xs to hits lo
-walk_start r f e h = record {
-  ends = f;
-  start = omega arith;
-  until = e.to;
-  lengths = refl;
-  stored = stored-none r.to_good (λ y m. absurd (omega (arith, m.carried.from, m.carried.below)));
-  counted = refl;
-  few = h;
-}
 
 module _ {i g k l : ℕ} {b : Bool} {xs : List ℕ} {from to : CutSet} {hits most lo end : ℕ} {ys : List ℕ}
     {t : CutSet} {count at : ℕ} (r : Ready xs from to) (up : FoundRun xs from)

@@ -1,6 +1,6 @@
 -- Counting the hits of some of the matches.
 --     Spent               the invariant: what of the room is gone are hits of the first k matches
---     spend-start, spend-step     where it begins, and the hits of one match more
+--     spend-step          the hits of one match more
 --     spend-over          one match with more hits than are free
 -- Assumes nothing.
 use Prim.Native.Nat.{ℕ, suc, ◌+◌, ◌-◌, ◌≤◌, ◌<◌}
@@ -16,9 +16,6 @@ use Rattle.counting_hits.specs.Counting.{MoreHits}
 
 pub record Spent (f g ns : List ℕ) (room free k : ℕ) : Type 0 where
   pub counted : (t u : List ℕ) (ways : List Bool) → room ≤ free + hits_over (columns_of f g t u ways) k ns
-
-pub spend-start : {f g ns : List ℕ} {room : ℕ} → Spent f g ns room room 0
-spend-start = record { counted = λ t u ways. omega arith }
 
 module _ {f g ns : List ℕ} {room free k hits : ℕ} (s : Spent f g ns room free k)
     (few : hits ≤ hits_on (get_or f k 0) (get_or g k 0) ns) where
