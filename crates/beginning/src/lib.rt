@@ -82,14 +82,10 @@ fn sow_all(
     sets: usize,
     capacity: usize,
 ) -> bool
-    requires lent { Lent (columns_in matches.now) groups.now
-        mark_tracks.now mark_positions.now count sets }
+    requires lent { Lent (columns_in matches.now) groups.now mark_tracks.now mark_positions.now count sets }
     requires laid_out { LaidOut sets 0 (2 * capacity) work.old book_a.old }
     requires laid_out_2 { LaidOut sets (2 * capacity) (4 * capacity) work.old book_b.old }
-    ensures { Sowing
-        (grouped
-        (columns_in matches.now)
-        groups.now count (marks_of mark_tracks.now mark_positions.now))
+    ensures { Sowing (grouped (columns_in matches.now) groups.now count (marks_of mark_tracks.now mark_positions.now))
         sets capacity work.new book_a.new book_b.new result }
 {
     let half = 2 * capacity;
@@ -159,18 +155,15 @@ pub fn begin(
     sets: usize,
     capacity: usize,
 ) -> Result<Closing, TooMany>
-    requires lent { Lent (columns_in matches.now) groups.now
-        mark_tracks.now mark_positions.now count sets }
+    requires lent { Lent (columns_in matches.now) groups.now mark_tracks.now mark_positions.now count sets }
     requires reversed_len_bound { length matches.now.reversed.now ≤ 4294967296 }
     requires straight_value { straight.now ≡ replicate (length matches.now.reversed.now) false }
     requires sets_bound { sets ≤ 16 }
     requires book_a_len { length book_a.old ≡ 8 * sets }
     requires book_b_len { length book_b.old ≡ 8 * sets }
     requires capacity_in_bounds { 4 * capacity ≤ length work.old }
-    ensures { Driving
-        (columns_in matches.now)
-        groups.now count (marks_of mark_tracks.now mark_positions.now) sets capacity
-        work.new book_a.new book_b.new result }
+    ensures { Driving (columns_in matches.now) groups.now count (marks_of mark_tracks.now mark_positions.now) sets
+        capacity work.new book_a.new book_b.new result }
 {
     lay_side(groups, work, book_a, count, 1, sets, 0, 2 * capacity);
     lay_side(

@@ -48,12 +48,8 @@ fn try_group(
     requires clear { Clear work.old from lo hi }
     requires j_lt_sets { j < sets }
     requires hits_le_most { hits ≤ most }
-    requires ends_known { ended ≡ true
-        → EndsKnown (columns_in matches.now) work.old
-        (set_at book.old j) }
-    ensures { Trying
-        (columns_in matches.now)
-        from sets lo hi j work.old book.old hits most work.new book.new result }
+    requires ends_known { ended ≡ true → EndsKnown (columns_in matches.now) work.old (set_at book.old j) }
+    ensures { Trying (columns_in matches.now) from sets lo hi j work.old book.old hits most work.new book.new result }
 {
     match carry_new(matches, index, work, from, load(book, j), hits, most, ended) {
         Ok(Held { hits: count, to }) => {
@@ -88,12 +84,8 @@ pub fn carry_group(
     requires clear { Clear work.old from lo hi }
     requires j_lt_sets { j < sets }
     requires hits_le_most { hits ≤ most }
-    requires ends_known { ended ≡ true
-        → EndsKnown (columns_in matches.now) work.old
-        (set_at book.old j) }
-    ensures { Grouping
-        (columns_in matches.now)
-        from sets lo hi j work.old book.old hits most work.new book.new result }
+    requires ends_known { ended ≡ true → EndsKnown (columns_in matches.now) work.old (set_at book.old j) }
+    ensures { Grouping (columns_in matches.now) from sets lo hi j work.old book.old hits most work.new book.new result }
 {
     loop {
         match try_group(

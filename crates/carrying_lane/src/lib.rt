@@ -68,22 +68,15 @@ fn carry_range(
     most: usize,
     ended: bool,
 ) -> Result<usize, TooMany>
-    requires ranged { Ranged (columns_in matches.now) index.now
-        group low high }
+    requires ranged { Ranged (columns_in matches.now) index.now group low high }
     requires shelf { Shelf work.old book.old sets lo hi }
     requires clear { Clear work.old from lo hi }
     requires to_lt_sets { group.to < sets }
     requires hits_le_most { hits ≤ most }
-    requires ends_known { ended ≡ true
-        → EndsKnown
-        (part_of group.start group.end
-        (columns_in matches.now))
-        work.old (set_at book.old group.to) }
-    ensures { Grouping
-        (part_of group.start group.end
-        (columns_in matches.now))
-        from sets lo hi group.to work.old book.old hits most work.new
-        book.new result }
+    requires ends_known { ended ≡ true → EndsKnown (part_of group.start group.end (columns_in matches.now)) work.old
+        (set_at book.old group.to) }
+    ensures { Grouping (part_of group.start group.end (columns_in matches.now)) from sets lo hi group.to work.old
+        book.old hits most work.new book.new result }
 {
     carry_group(
         &matches.part(group.start, group.end),
@@ -120,21 +113,15 @@ fn carry_part(
     most: usize,
     ended: bool,
 ) -> Result<usize, TooMany>
-    requires ready { Ready (columns_in matches.now) index.now
-        groups.now from_book.now count from_at to_at sets lo hi work.old book.old }
+    requires ready { Ready (columns_in matches.now) index.now groups.now from_book.now count from_at to_at sets lo hi
+        work.old book.old }
     requires g_lt_count { g < count }
     requires hits_le_most { hits ≤ most }
-    requires ends_kept { ended ≡ true
-        → EndsKept
-        (lane_by (columns_in matches.now) groups.now
-        count from_at to_at)
+    requires ends_kept { ended ≡ true → EndsKept (lane_by (columns_in matches.now) groups.now count from_at to_at)
         work.old book.old }
-    ensures { Grouping
-        (part_of (start_at groups.now g) (start_at groups.now (suc g))
-        (columns_in matches.now))
-        (set_at from_book.now (track_at groups.now from_at g)) sets lo hi
-        (track_at groups.now to_at g) work.old book.old hits most
-        work.new book.new result }
+    ensures { Grouping (part_of (start_at groups.now g) (start_at groups.now (suc g)) (columns_in matches.now))
+        (set_at from_book.now (track_at groups.now from_at g)) sets lo hi (track_at groups.now to_at g) work.old
+        book.old hits most work.new book.new result }
 {
     let group = group_at(groups, g, from_at, to_at);
     let from = load(from_book, group.from);
@@ -175,17 +162,10 @@ pub fn carry_lane(
     requires one_of_two { OneOfTwo from_at }
     requires one_of_two_2 { OneOfTwo to_at }
     requires hits_le_most { hits ≤ most }
-    requires ends_kept { ended ≡ true
-        → EndsKept
-        (lane_by (columns_in matches.now) groups.now
-        count from_at to_at)
+    requires ends_kept { ended ≡ true → EndsKept (lane_by (columns_in matches.now) groups.now count from_at to_at)
         work.old book.old }
-    ensures { Laning
-        (lane_by
-        (columns_in matches.now)
-        groups.now count from_at to_at)
-        from_book.now sets lo hi work.old book.old hits most work.new
-        book.new result }
+    ensures { Laning (lane_by (columns_in matches.now) groups.now count from_at to_at) from_book.now sets lo hi
+        work.old book.old hits most work.new book.new result }
 {
     let mut total = hits;
     for g in 0..count {

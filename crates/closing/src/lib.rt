@@ -44,18 +44,13 @@ fn go_on(
     first: Closing,
     capacity: usize,
 ) -> Result<(), TooMany>
-    requires lent { Lent (columns_in matches.now) groups.now
-        mark_tracks.now mark_positions.now count sets }
+    requires lent { Lent (columns_in matches.now) groups.now mark_tracks.now mark_positions.now count sets }
     requires reversed_len_bound { length matches.now.reversed.now ≤ 4294967296 }
     requires straight_value { straight.now ≡ replicate (length matches.now.reversed.now) false }
-    requires driving { Driving (columns_in matches.now) groups.now
-        count (marks_of mark_tracks.now mark_positions.now) sets capacity work.old book_a.old
-        book_b.old (Ok first) }
-    ensures { Closure
-        (grouped
-        (columns_in matches.now)
-        groups.now count (marks_of mark_tracks.now mark_positions.now))
-        sets capacity work.new (books_of book_a.new book_b.new) result }
+    requires driving { Driving (columns_in matches.now) groups.now count (marks_of mark_tracks.now mark_positions.now)
+        sets capacity work.old book_a.old book_b.old (Ok first) }
+    ensures { Closure (grouped (columns_in matches.now) groups.now count (marks_of mark_tracks.now
+        mark_positions.now)) sets capacity work.new (books_of book_a.new book_b.new) result }
 {
     let all = matches.lefts.len();
     let room = index_room(all);
@@ -123,11 +118,8 @@ pub fn close(
     requires book_a_len { length book_a.old ≡ 8 * sets }
     requires book_b_len { length book_b.old ≡ 8 * sets }
     requires capacity_in_bounds { 4 * capacity ≤ length work.old }
-    ensures { Closure
-        (grouped
-        (columns_in matches.now)
-        groups.now count (marks_of mark_tracks.now mark_positions.now))
-        sets capacity work.new (books_of book_a.new book_b.new) result }
+    ensures { Closure (grouped (columns_in matches.now) groups.now count (marks_of mark_tracks.now
+        mark_positions.now)) sets capacity work.new (books_of book_a.new book_b.new) result }
 {
     match begin(
         matches,

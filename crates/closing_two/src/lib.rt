@@ -35,11 +35,8 @@ fn close_lent(
     requires mark_sides_len { length mark_sides.now ≡ length mark_positions.now }
     requires book_a_len { length book_a.old ≡ 16 }
     requires book_b_len { length book_b.old ≡ 16 }
-    ensures { Closure
-        (held_in
-        (columns_in matches.now)
-        (marks_of mark_sides.now mark_positions.now))
-        capacity work.new result }
+    ensures { Closure (held_in (columns_in matches.now) (marks_of mark_sides.now mark_positions.now)) capacity
+        work.new result }
 {
     close(
         matches,
@@ -75,11 +72,8 @@ pub fn close_two(
     requires reversed_len_bound { length matches.now.reversed.now ≤ 4294967296 }
     requires straight_value { straight.now ≡ replicate (length matches.now.reversed.now) false }
     requires mark_sides_len { length mark_sides.now ≡ length mark_positions.now }
-    ensures { Closure
-        (held_in
-        (columns_in matches.now)
-        (marks_of mark_sides.now mark_positions.now))
-        capacity work.new result }
+    ensures { Closure (held_in (columns_in matches.now) (marks_of mark_sides.now mark_positions.now)) capacity
+        work.new result }
 {
     let groups = [0, 0, 1, matches.reversed.len()];
     let mut book_a = [0usize; 16];

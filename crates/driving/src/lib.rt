@@ -32,20 +32,12 @@ pub fn drive(
     first: Result<Closing, TooMany>,
     capacity: usize,
 ) -> Result<(), TooMany>
-    requires given { Given (columns_in matches.now) straight.now
-        index_a.now index_b.now groups.now count sets }
-    requires driven { Driven (columns_in matches.now) groups.now
-        count sets capacity work.old book_a.old book_b.old first }
-    ensures { (marks : List Place)
-        → Driving
-        (columns_in matches.now)
-        groups.now count marks sets capacity work.old book_a.old
-        book_b.old first
-        → Closure
-        (grouped
-        (columns_in matches.now)
-        groups.now count marks)
-        sets capacity work.new (books_of book_a.new book_b.new) result }
+    requires given { Given (columns_in matches.now) straight.now index_a.now index_b.now groups.now count sets }
+    requires driven { Driven (columns_in matches.now) groups.now count sets capacity work.old book_a.old book_b.old
+        first }
+    ensures { (marks : List Place) → Driving (columns_in matches.now) groups.now count marks sets capacity work.old
+        book_a.old book_b.old first → Closure (grouped (columns_in matches.now) groups.now count marks) sets capacity
+        work.new (books_of book_a.new book_b.new) result }
 {
     let mut closing = first?;
     loop {

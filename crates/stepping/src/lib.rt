@@ -45,14 +45,11 @@ pub fn a_step(
     capacity: usize,
     budget: u32,
 ) -> Result<Closing, TooMany>
-    requires given { Given (columns_in matches.now) straight.now
-        index_a.now index_b.now groups.now count sets }
-    requires opened { Opened (columns_in matches.now) groups.now
-        count sets capacity work.old book_a.old book_b.old counts Side.A }
-    ensures { Goes
-        (columns_in matches.now)
-        groups.now count sets capacity work.old book_a.old book_b.old
-        counts Side.A work.new book_a.new book_b.new result }
+    requires given { Given (columns_in matches.now) straight.now index_a.now index_b.now groups.now count sets }
+    requires opened { Opened (columns_in matches.now) groups.now count sets capacity work.old book_a.old book_b.old
+        counts Side.A }
+    ensures { Goes (columns_in matches.now) groups.now count sets capacity work.old book_a.old book_b.old counts
+        Side.A work.new book_a.new book_b.new result }
 {
     let taken = take_step(
         matches,
@@ -122,14 +119,11 @@ pub fn b_step(
     capacity: usize,
     budget: u32,
 ) -> Result<Closing, TooMany>
-    requires given { Given (columns_in matches.now) straight.now
-        index_a.now index_b.now groups.now count sets }
-    requires opened { Opened (columns_in matches.now) groups.now
-        count sets capacity work.old book_a.old book_b.old counts Side.B }
-    ensures { Goes
-        (columns_in matches.now)
-        groups.now count sets capacity work.old book_a.old book_b.old
-        counts Side.B work.new book_a.new book_b.new result }
+    requires given { Given (columns_in matches.now) straight.now index_a.now index_b.now groups.now count sets }
+    requires opened { Opened (columns_in matches.now) groups.now count sets capacity work.old book_a.old book_b.old
+        counts Side.B }
+    ensures { Goes (columns_in matches.now) groups.now count sets capacity work.old book_a.old book_b.old counts
+        Side.B work.new book_a.new book_b.new result }
 {
     let taken = take_step(
         &matches.turned(),

@@ -51,19 +51,10 @@ fn take_both(
         matches.now.other_rights.now }
     requires able { Able groups.now count (length matches.now.reversed.now) sets from_at to_at from_lo from_hi lo hi work.old
         from_book.now book.old over along most }
-    requires ends_kept { ended ≡ true
-        → EndsKept
-        (lane_by
-        (columns_in matches.now) groups.now count
-        from_at to_at)
+    requires ends_kept { ended ≡ true → EndsKept (lane_by (columns_in matches.now) groups.now count from_at to_at)
         work.old book.old }
-    ensures { TakingBoth
-        (λ w.
-        lane_to w
-        (columns_in matches.now)
-        groups.now count from_at to_at)
-        (length matches.now.reversed.now) from_book.now sets lo hi work.old
-        book.old over along most work.new book.new result }
+    ensures { TakingBoth (λ w. lane_to w (columns_in matches.now) groups.now count from_at to_at) (length
+        matches.now.reversed.now) from_book.now sets lo hi work.old book.old over along most work.new book.new result }
 {
     let over = carry_lane(
         matches, index, groups, from_book, work, book, count, from_at, to_at, sets, lo, hi, over,
@@ -119,20 +110,11 @@ pub fn take_step(
         matches.now.other_rights.now }
     requires able { Able groups.now count (length matches.now.reversed.now) sets from_at to_at from_lo from_hi lo hi work.old
         from_book.old book.old over along most }
-    requires ends_kept { ended ≡ true
-        → EndsKept
-        (lane_by
-        (columns_in matches.now) groups.now count
-        from_at to_at)
+    requires ends_kept { ended ≡ true → EndsKept (lane_by (columns_in matches.now) groups.now count from_at to_at)
         work.old book.old }
-    ensures { Stepping
-        (λ w.
-        lane_to w
-        (columns_in matches.now)
-        groups.now count from_at to_at)
-        (length matches.now.reversed.now) sets from_lo from_hi lo hi work.old
-        from_book.old book.old over along most work.new from_book.new
-        book.new result }
+    ensures { Stepping (λ w. lane_to w (columns_in matches.now) groups.now count from_at to_at) (length
+        matches.now.reversed.now) sets from_lo from_hi lo hi work.old from_book.old book.old over along most work.new
+        from_book.new book.new result }
 {
     let taken = take_both(
         matches,
