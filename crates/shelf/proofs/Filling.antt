@@ -1,5 +1,4 @@
 -- Numbers of a kind come to one set of a shelf again and again, while sets slide.
---     book-room                   the book has eight numbers of each set
 --     put, put_full               one try, from what storing and writing into the book did
 --     crammed-as                  numbers of the same kind
 --     Going                       so far: numbers of the kind have come to the set number j, and nothing else has
@@ -25,9 +24,6 @@ use Rattle.shelf.specs.Filling.{Reached, Crammed}
 use Rattle.shelf.proofs.Shelving.{stored-grown, shelf-none, shelf-then, shelf-as, shelf-wide, base_is, limit_is}
 use Rattle.shelf.proofs.Shelving.{set_grown, filled-most, filled-grown, filled_more, jammed, jammed-as}
 use Rattle.shelf.proofs.Members.{grown-member}
-
-pub book-room : {xs b : List ℕ} {n lo hi j : ℕ} → Shelf xs b n lo hi → j < n → 8 * j + 8 ≤ length b
-book-room s l = omega (arith, s.book)
 
 -- what is known of a set holds of one that is the same
 member_is : {xs : List ℕ} {s t : CutSet} {y : ℕ} → s ≡ t → Member xs t y → Member xs s y

@@ -1,5 +1,4 @@
 -- Writing a set into the book.
---     four-put            four stores in a row
 --     saved               eight numbers written in two goes are a set
 -- Assumes nothing.
 use Prim.Native.Nat.{ℕ, ◌+◌, ◌*◌, ◌≤◌, ◌<◌}
@@ -21,31 +20,6 @@ record Put (xs : List ℕ) (at a : ℕ) (ys : List ℕ) : Type 0 where
 
 put : (xs : List ℕ) (at a : ℕ) → at < length xs → Put xs at a (set xs at a)
 put xs at a w = record { here = get_or-set_same xs at a 0 w; others = λ k n. get_or-set_other xs at k a 0 n }
-
-four : {xs ys zs us vs : List ℕ} {at a b c d : ℕ} → Put xs at a ys → Put ys (at + 1) b zs → Put zs (at + 2) c us →
-    Put us (at + 3) d vs → FourPut xs at a b c d vs
-four {zs = zs} {vs = vs} {at} p q r s = record {
-  first = later at (omega arith) ∙ q.others at (λ e. omega arith) ∙ p.here;
-  second = later (at + 1) (omega arith) ∙ q.here;
-  third = s.others (at + 2) (λ e. omega arith) ∙ r.here;
-  fourth = s.here;
-  others = λ k o. s.others k (out k 3 o (omega arith)) ∙ r.others k (out k 2 o (omega arith))
-      ∙ q.others k (out k 1 o (omega arith)) ∙ p.others k (λ e. out k 0 o (omega arith) (omega arith));
-}
-  where
-    later : (k : ℕ) → k < at + 2 → get_or vs k 0 ≡ get_or zs k 0
-    later k l = s.others k (λ e. omega arith) ∙ r.others k (λ e. omega arith)
-
-    out : (k i : ℕ) → (k < at) ⊎ (at + 4 ≤ k) → i < 4 → k ≢ at + i
-    out k i o l e = ⊎_elim (λ h. omega arith) (λ h. omega arith) o
-
-pub four-put : (xs : List ℕ) (at a b c d : ℕ) → at + 4 ≤ length xs →
-    FourPut xs at a b c d (set (set (set (set xs at a) (at + 1) b) (at + 2) c) (at + 3) d)
-four-put xs at a b c d w = four
-    (put xs at a (omega arith))
-    (put (set xs at a) (at + 1) b (simp length-set (omega arith)))
-    (put (set (set xs at a) (at + 1) b) (at + 2) c (simp length-set (omega arith)))
-    (put (set (set (set xs at a) (at + 1) b) (at + 2) c) (at + 3) d (simp length-set (omega arith)))
 
 -- the same place, told otherwise
 at_place : (xs : List ℕ) (i k : ℕ) {v : ℕ} → i ≡ k → get_or xs i 0 ≡ v → get_or xs k 0 ≡ v
