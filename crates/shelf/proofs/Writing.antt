@@ -6,8 +6,8 @@ use native.Mathlib.Omega.{arith}
 use native.Mathlib.Decide.{dec_lt}
 use mathlib.Core.Path.{◌≡◌, ◌∙◌}
 use mathlib.Core.List.{List}
-use mathlib.Core.Logic.{◌⊎◌, inl, inr, ⊎_elim, ◌≢◌}
-use lib.ListN.{length, set, get_or, length-set}
+use mathlib.Core.Logic.{inl, inr, ◌≢◌}
+use lib.ListN.{length, set, get_or}
 use lib.Seq.{get_or-set_same, get_or-set_other}
 use Rattle.cut_set.specs.declared.CutSet.{CutSet}
 use Rattle.shelf.specs.Shelf.{Saved}
