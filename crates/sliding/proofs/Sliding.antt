@@ -1,14 +1,13 @@
 -- Sets of a shelf that slide.
---     slid-slidable       sets that have slid can slide again
---     set-good, movable   what is known of one set of a shelf
+--     set-good            what is known of one set of a shelf
 --     bared, moved_to     one set of a shelf is gathered, or moved
 --     Baring              the invariant of the loop that gathers: the sets before u are gathered and without notes
---     baring-start, baring-step, bared-all        where it begins, one set more, and all sets
+--     baring-step         one set more
 --     Packing             the invariant of the loop that packs: the sets before u stand at the front, and end at `at`
---     packing-start, packing-order, packing-between, packing-step, packed     the same; and that a set can be moved there
+--     packing-order, packing-between, packing-step    the same; and that a set can be moved there
 --     Spreading           the invariant of the loop that spreads: the sets from u on are spread, the others end before `end`
---     spreading-start, spreading-order, spreading-free, spreading-between, spreading-step, spread-out     the same
---     packed-spreadable, room-none, room-made     what is packed can be spread; what making room does, by its answer
+--     spreading-order, spreading-free, spreading-between, spreading-step      the same
+--     room-none, room-made    what making room does, by its answer
 -- Assumes nothing.
 use Prim.Native.Nat.{ℕ, ◌+◌, ◌-◌, ◌≤◌, ◌<◌}
 use native.Mathlib.Omega.{arith}
@@ -25,10 +24,10 @@ use Rattle.cut_set.specs.declared.CutSet.{CutSet}
 use Rattle.cut_set.proofs.Gathering.{base-fresh, used-limit}
 use Rattle.runs.specs.Runs.{Same}
 use Rattle.shelf.specs.Shelf.{set_at, Outside, Shelf, GrownShelf, Saved, MadeRoom, filled}
-use Rattle.shelf.proofs.Shelving.{shelf-none, shelf-then, shelf-as, gathered-grown, good-is, base_is, limit_is}
+use Rattle.shelf.proofs.Shelving.{shelf-then, shelf-as, gathered-grown, good-is, base_is, limit_is}
 use Rattle.shelf.proofs.Shelving.{set-moved, set_grown, filled_same}
-use Rattle.moving.specs.Moving.{Bare, Movable, MovedSet}
-use Rattle.sliding.specs.Sliding.{Slidable, Slid, Bared, Between, MovedTo, Packed, Leaving, Spreadable, Spread}
+use Rattle.moving.specs.Moving.{Bare, MovedSet}
+use Rattle.sliding.specs.Sliding.{Slidable, Slid, Bared, Between, MovedTo, Packed, Leaving, Spread}
 
 -- no number comes when sets slide, and none when they slide again
 grown-then : {n lo hi : ℕ} {xs b ys b' zs b'' : List ℕ} → GrownShelf (λ i y. ⊥) n lo hi xs b ys b' →
@@ -44,12 +43,6 @@ slid-then : {n lo hi : ℕ} {xs b ys b' zs b'' : List ℕ} → Slid n lo hi xs b
     Slid n lo hi xs b zs b''
 slid-then p q = record { grown = grown-then p.grown q.grown; bare = q.bare }
 
-slid-none : {n lo hi : ℕ} {xs b : List ℕ} → Slidable xs b n lo hi → Slid n lo hi xs b xs b
-slid-none s = record { grown = shelf-none s.shelf; bare = s.bare }
-
-pub slid-slidable : {n lo hi : ℕ} {xs b ys b' : List ℕ} → Slid n lo hi xs b ys b' → Slidable ys b' n lo hi
-slid-slidable p = record { shelf = p.grown.shelf; bare = p.bare }
-
 -- what is known of a set holds of one that is the same
 bare-is : {s t : CutSet} → s ≡ t → Bare t → Bare s
 bare-is e g = rw e g
@@ -62,15 +55,6 @@ used_is e = ap (λ s. s.used) e
 
 pub set-good : {xs b : List ℕ} {n lo hi u : ℕ} {s : CutSet} → Shelf xs b n lo hi → u < n → s ≡ set_at b u → Good xs s
 set-good {u = u} f h e = good-is e (f.good u h)
-
-pub movable : {xs b : List ℕ} {n lo hi u base limit : ℕ} {s : CutSet} → Slidable xs b n lo hi →
-    Between b n lo hi u base limit → s ≡ set_at b u → Movable xs s base limit
-movable {u = u} f p e = rw e (record {
-  good = f.shelf.good u p.index;
-  bare = f.bare u p.index;
-  fits = p.fits;
-  within = omega (arith, p.to, f.shelf.within);
-})
 
 module _ {xs b ys b' : List ℕ} {n lo hi u : ℕ} {s t : CutSet} (length_work : length ys ≡ length xs)
     (length_book : length b' ≡ length b) (e : s ≡ set_at b u) (saved : Saved b u t b') where
@@ -120,14 +104,6 @@ pub record Baring (n lo hi : ℕ) (xs b ys b' : List ℕ) (u : ℕ) : Type 0 whe
   pub grown : GrownShelf (λ i y. ⊥) n lo hi xs b ys b'
   pub bare : (i : ℕ) → i < u → Bare (set_at b' i)
 
-pub baring-start : {n lo hi : ℕ} {xs b : List ℕ} → Shelf xs b n lo hi → Baring n lo hi xs b xs b 0
-baring-start f = record {
-  most = omega arith;
-  lengths = refl;
-  grown = shelf-none f;
-  bare = λ i l. absurd (omega arith);
-}
-
 pub baring-step : {n lo hi u : ℕ} {xs b ys b' zs b'' : List ℕ} → Baring n lo hi xs b ys b' u → u < n →
     length zs ≡ length ys → Bared n lo hi u ys b' zs b'' → Baring n lo hi xs b zs b'' (u + 1)
 baring-step {u = u} p h m q = record {
@@ -139,9 +115,6 @@ baring-step {u = u} p h m q = record {
       (λ d. bare-is (q.others i d) (p.bare i (omega arith)));
 }
 
-pub bared-all : {n lo hi u : ℕ} {xs b ys b' : List ℕ} → Baring n lo hi xs b ys b' u → n ≤ u → Slid n lo hi xs b ys b'
-bared-all p h = record { grown = p.grown; bare = λ i l. p.bare i (omega arith) }
-
 -- no place before `at` is free, and the sets from u on stand behind it
 pub record Packing (n lo hi : ℕ) (xs b ys b' : List ℕ) (at u : ℕ) : Type 0 where
   pub most : u ≤ n
@@ -151,17 +124,6 @@ pub record Packing (n lo hi : ℕ) (xs b ys b' : List ℕ) (at u : ℕ) : Type 0
   pub fits : at ≤ hi
   pub below : (i : ℕ) → i < u → (set_at b' i).limit ≤ at
   pub above : (i : ℕ) → u ≤ i → i < n → at ≤ (set_at b' i).base
-
-pub packing-start : {n lo hi : ℕ} {xs b : List ℕ} → Slidable xs b n lo hi → Packing n lo hi xs b xs b lo 0
-packing-start f = record {
-  most = omega arith;
-  lengths = refl;
-  slid = slid-none f;
-  sum = omega arith;
-  fits = f.shelf.part;
-  below = λ i l. absurd (omega arith);
-  above = λ i l h. f.shelf.from i h;
-}
 
 -- s is the set number u, as it was read from the book
 module _ {n lo hi at u : ℕ} {xs b ys b' : List ℕ} {s : CutSet} (p : Packing n lo hi xs b ys b' at u) (h : u < n)
@@ -213,15 +175,6 @@ module _ {n lo hi at u : ℕ} {xs b ys b' : List ℕ} {s : CutSet} (p : Packing 
     above = λ i l k. omega (arith, base_is (q.others i (λ c. omega arith)), packing-between.above i (omega arith) k);
   }
 
-pub packed : {n lo hi at u : ℕ} {xs b ys b' : List ℕ} → Packing n lo hi xs b ys b' at u → n ≤ u →
-    Packed n lo hi xs b ys b' at
-packed {n} {at = at} {u} {b' = b'} p h = let e : u ≡ n = omega (arith, p.most) in record {
-  slid = p.slid;
-  sum = rw e at p.sum;
-  fits = p.fits;
-  ends = λ i l. p.below i (omega arith);
-}
-
 -- the sets from u on stand behind `end`; the reserve is the set's number j, or is left before `end`
 pub record Spreading (n lo hi j reserve : ℕ) (xs b ys b' : List ℕ) (end u : ℕ) : Type 0 where
   pub most : u ≤ n
@@ -232,19 +185,6 @@ pub record Spreading (n lo hi j reserve : ℕ) (xs b ys b' : List ℕ) (end u : 
   pub above : (i : ℕ) → u ≤ i → i < n → end ≤ (set_at b' i).base
   pub left : j < u → (i : ℕ) → i < u → (set_at b' i).used + reserve ≤ end
   pub there : u ≤ j → (set_at b' j).used + reserve ≤ (set_at b' j).limit
-
-pub spreading-start : {n lo hi j reserve : ℕ} {xs b : List ℕ} → Spreadable xs b n lo hi j reserve →
-    Spreading n lo hi j reserve xs b xs b hi n
-spreading-start f = record {
-  most = omega arith;
-  lengths = refl;
-  slid = slid-none f.slidable;
-  fits = omega arith;
-  below = f.slidable.shelf.to;
-  above = λ i l h. absurd (omega arith);
-  left = λ l i h. f.room i h;
-  there = λ l. absurd (omega (arith, f.index));
-}
 
 -- s is the set before the one number v, as it was read from the book
 module _ {n lo hi j reserve end v : ℕ} {xs b ys b' : List ℕ} {s : CutSet} (u : ℕ) (before : v ≡ u + 1)
@@ -317,18 +257,6 @@ module _ {n lo hi j reserve end v : ℕ} {xs b ys b' : List ℕ} {s : CutSet} (u
       where
         slack : j < v → reserve ≤ end - s.used
         slack h = omega (arith, used_is read, p.left h u (omega arith))
-
-pub spread-out : {n lo hi j reserve end u : ℕ} {xs b ys b' : List ℕ} → Spreading n lo hi j reserve xs b ys b' end u →
-    u ≤ 0 → Spread n lo hi j reserve xs b ys b'
-spread-out p h = record { slid = p.slid; room = p.there (omega arith) }
-
-pub packed-spreadable : {n lo hi j reserve r : ℕ} {xs b ys b' : List ℕ} → Packed n lo hi xs b ys b' r → j < n →
-    r + reserve ≤ hi → Spreadable ys b' n lo hi j reserve
-packed-spreadable p h l = record {
-  slidable = slid-slidable p.slid;
-  index = h;
-  room = λ i k. omega (arith, p.ends i k, used-limit (p.slid.grown.shelf.good i k));
-}
 
 pub room-none : {n lo hi j r : ℕ} {xs b ys b' zs b'' : List ℕ} → Slid n lo hi xs b ys b' →
     Packed n lo hi ys b' zs b'' r → r ≡ hi → MadeRoom n lo hi j xs b zs b'' false

@@ -26,10 +26,8 @@ fn bare_sets(work: &mut [u32], book: &mut [usize], sets: usize, lo: usize, hi: u
     requires { Shelf work.old book.old sets lo hi }
     ensures { Slid sets lo hi work.old book.old work.new book.new }
 {
-    let mut u = 0;
-    while u < sets {
+    for u in 0..sets {
         bare_set(work, book, sets, lo, hi, u);
-        u += 1;
     }
 }
 
@@ -60,25 +58,13 @@ fn pack(work: &mut [u32], book: &mut [usize], sets: usize, lo: usize, hi: usize)
     ensures { Packed sets lo hi work.old book.old work.new book.new result }
 {
     let mut at = lo;
-    let mut u = 0;
-    while u < sets {
+    for u in 0..sets {
         let s = load(book, u);
         let end = at + (s.used - s.base);
         move_to(work, book, sets, lo, hi, u, at, end);
         at = end;
-        u += 1;
     }
     at
-}
-
-// The lesser number.
-fn lesser(a: usize, b: usize) -> usize
-    ensures { result ≤ a }
-{
-    if a < b {
-        return a;
-    }
-    b
 }
 
 // How many of the free places behind the set number u stay there: a share, for the set number j besides the reserve,
@@ -87,19 +73,16 @@ fn leave(free: usize, u: usize, j: usize, share: usize, reserve: usize) -> usize
     ensures { Leaving free u j reserve result }
 {
     if u == 0 {
-        return free;
+        free
+    } else if u < j {
+        free.min(share)
+    } else if free < reserve {
+        free
+    } else if u == j {
+        reserve + share.min(free - reserve)
+    } else {
+        share.min(free - reserve)
     }
-    if u < j {
-        return lesser(free, share);
-    }
-    if free < reserve {
-        return free;
-    }
-    let kept = lesser(free - reserve, share);
-    if u == j {
-        return reserve + kept;
-    }
-    kept
 }
 
 // Moves the sets up from the last on, so that the set number j has the reserve at least, and the others a share.
@@ -117,9 +100,7 @@ fn spread(
     ensures { Spread sets lo hi j reserve work.old book.old work.new book.new }
 {
     let mut end = hi;
-    let mut u = sets;
-    while 0 < u {
-        u -= 1;
+    for u in (0..sets).rev() {
         let s = load(book, u);
         let free = end - s.used;
         let base = s.base + (free - leave(free, u, j, share, reserve));

@@ -1,5 +1,4 @@
--- `sliding::bare_sets` meets its contract. The invariant: the sets before `u` are gathered and have no notes. The
--- measure is how many are left. Assumes nothing.
+-- `sliding::bare_sets` meets its contract: one set more is bared. Assumes nothing.
 use Rattle.sliding.proofs.Sliding.{baring-step}
 use borrow.Author.Rules.{rules}
 use Rattle.sliding.proofs.bare_sets.Goals as goal

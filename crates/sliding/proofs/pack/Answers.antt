@@ -1,5 +1,4 @@
--- `sliding::pack` meets its contract. The invariant: the sets before `u` stand at the front and end at `at`. The
--- measure is how many are left. Assumes nothing.
+-- `sliding::pack` meets its contract: one set more moves behind those before it. Assumes nothing.
 use Rattle.sliding.proofs.Sliding.{packing-between}
 use Rattle.sliding.proofs.Sliding.{packing-step}
 use borrow.Author.Rules.{rules}

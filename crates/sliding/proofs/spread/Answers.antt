@@ -1,5 +1,4 @@
--- `sliding::spread` meets its contract. The invariant: the sets from `u` on are spread behind `end`, and the reserve is
--- the set's number `j`, or left before `end`. The measure is `u`. Assumes nothing.
+-- `sliding::spread` meets its contract: one set more moves up to those behind it. Assumes nothing.
 use Prim.Native.Nat.{◌-◌}
 use Rattle.sliding.proofs.Sliding.{spreading-step}
 use borrow.Author.Rules.{rules}
