@@ -127,24 +127,15 @@ fn drawn_dealing(table: &[u32], attempt: u64, shares: u32, homes: u32) -> Dealin
     }
 }
 
-fn count_with_small_store(table: &[u32]) -> Result<Counted, GaveUp>
-    requires { length (rows_of table.now) < 2 ^ 32 }
+// Counts a table that is one share, with a store of so many slots.
+fn count_with_store<const SLOTS: usize>(table: &[u32], homes: u32) -> Result<Counted, GaveUp>
+    requires table_len_bound { length (rows_of table.now) < 2 ^ 32 }
+    requires slots_bound { SLOTS < 2 ^ 32 }
     ensures { Attempt (rows_of table.now) result }
 {
-    let by = drawn_dealing(table, 0, 1, SMALL_HOMES);
-    let probes = probes_of(row_count(table));
-    let mut slots = [0u32; SMALL_STORE];
-    distinct_store::count_share(table, &mut slots, by, 0, probes)
-}
-
-fn count_with_medium_store(table: &[u32]) -> Result<Counted, GaveUp>
-    requires { length (rows_of table.now) < 2 ^ 32 }
-    ensures { Attempt (rows_of table.now) result }
-{
-    let by = drawn_dealing(table, 0, 1, MEDIUM_HOMES);
-    let probes = probes_of(row_count(table));
-    let mut slots = [0u32; MEDIUM_STORE];
-    distinct_store::count_share(table, &mut slots, by, 0, probes)
+    let by = drawn_dealing(table, 0, 1, homes);
+    let mut slots = [0u32; SLOTS];
+    distinct_store::count_share(table, &mut slots, by, 0, probes_of(row_count(table)))
 }
 
 fn count_with_large_store(
@@ -208,9 +199,9 @@ pub fn count_distinct(table: &[u32]) -> usize
 {
     let rows = row_count(table);
     if rows <= SMALL_ROWS {
-        settled(table, count_with_small_store(table))
+        settled(table, count_with_store::<SMALL_STORE>(table, SMALL_HOMES))
     } else if rows <= MEDIUM_ROWS {
-        settled(table, count_with_medium_store(table))
+        settled(table, count_with_store::<MEDIUM_STORE>(table, MEDIUM_HOMES))
     } else if rows <= ROW_NUMBERS {
         match count_long(table, 0) {
             Ok(counted) => counted.found,

@@ -1,20 +1,17 @@
 -- Lengths counted by class, row by row.
 --     class-only, class-of-none       which class a length is in: one, or none
---     top-place, top-class            and by its leading zeros
 --     classes-length, classes-at      what stands where in the class counts
 --     classes-same, classes-more      the counts with one more row
 -- Assumes nothing.
-use Prim.Native.Nat.{ℕ, zero, suc, ◌+◌, ◌-◌, ◌^◌, ◌≤◌, ◌<◌}
+use Prim.Native.Nat.{ℕ, zero, suc, ◌+◌, ◌^◌, ◌≤◌, ◌<◌}
 use mathlib.Core.Bool.{cond, false, and-false}
 use mathlib.Core.Path.{◌≡◌, refl, sym, ap, ◌∙◌}
 use mathlib.Core.List.{List}
 use native.Mathlib.Omega.{arith}
 use native.Mathlib.Decide.{dec_lt, ℕ_discrete}
-use native.Mathlib.Numerals.{add-one}
 use native.Mathlib.Nat.{zero-add, add-zero, le_trans, lt_of_lt_of_le, le_of_suc-le-suc, not-suc-le-zero}
 use borrow.Author.Tests.{eq-eqb, ne_eqb, lt-ltb, le-ltb, le-leb, lt-leb}
 use lib.ListN.{length, get_or, take, set, length-set}
-use lib.Count.{count_leading_zeros, leading_top}
 use lib.Dec.{eqb, leb}
 use lib.Pow.{pow_mono, pow_pos}
 use lib.Seq.{ext_get_or, get_or-set_same, get_or-set_other}
@@ -44,16 +41,6 @@ class-only letters j low high c =
 
 pub class-of-none : (c : ℕ) → length_in_class c 0 ≡ false
 class-of-none c = rw (lt-leb (2 ^ c) 0 (pow_pos c))
-
-pub top-place : (letters : ℕ) → 0 < letters → letters < 2 ^ 32 → count_leading_zeros 32 letters ≤ 31
-top-place letters some fits = omega (arith, (leading_top 32 letters some fits).1)
-
-pub top-class : (letters : ℕ) → 0 < letters → letters < 2 ^ 32 → (c : ℕ)
-    → length_in_class c letters ≡ eqb c (31 - count_leading_zeros 32 letters)
-top-class letters some fits c =
-    let top = leading_top 32 letters some fits in
-    let place : 31 - count_leading_zeros 32 letters ≡ top.0 = omega (arith, top.1) in
-    rw place (class-only letters top.0 top.2 (rw (add-one top.0) top.3) c)
 
 -- ---- the counts
 
