@@ -27,10 +27,8 @@ pub fn gather_sets(work: &mut [u32], book: &mut [usize], sets: usize, lo: usize,
     requires { Shelf work.old book.old sets lo hi }
     ensures { GatheredSets sets lo hi work.old book.old work.new book.new }
 {
-    let mut j = 0;
-    while j < sets {
+    for j in 0..sets {
         gather_set(work, book, j);
-        j += 1;
     }
 }
 
@@ -52,10 +50,8 @@ pub fn finish_sets(work: &mut [u32], book: &mut [usize], sets: usize, lo: usize,
     requires all_gathered { AllGathered book.old sets }
     ensures { FinishedSets sets lo hi work.old book.old work.new book.new }
 {
-    let mut j = 0;
-    while j < sets {
+    for j in 0..sets {
         finish_set(work, book, j);
-        j += 1;
     }
 }
 
@@ -64,28 +60,18 @@ pub fn any_found(book: &[usize], sets: usize) -> bool
     requires { 8 * sets ≤ length book.now }
     ensures { AnyFound book.now sets result }
 {
-    let mut j = 0;
-    while j < sets {
+    for j in 0..sets {
         let s = load(book, j);
         if s.done != s.used {
             return true;
         }
-        j += 1;
     }
     false
 }
 
 // How many sets are wanted.
 fn count_wanted(wanted: &[bool]) -> usize {
-    let mut count = 0;
-    let mut j = 0;
-    while j < wanted.len() {
-        if wanted[j] {
-            count += 1;
-        }
-        j += 1;
-    }
-    count
+    wanted.iter().filter(|is_wanted| **is_wanted).count()
 }
 
 // Where the part of the next set ends, which begins at `at`: one that is wanted has an equal share of the places
@@ -95,23 +81,17 @@ fn share_end(wanted: bool, at: usize, hi: usize, left: usize) -> usize
     ensures { Between at result hi }
 {
     if !wanted {
-        return at;
+        at
+    } else if left <= 1 {
+        hi
+    } else {
+        at + (hi - at) / left
     }
-    if left <= 1 {
-        return hi;
-    }
-    at + (hi - at) / left
 }
 
 // How many sets are to have a part behind this one.
 fn left_behind(wanted: bool, left: usize) -> usize {
-    if !wanted {
-        return left;
-    }
-    if left == 0 {
-        return 0;
-    }
-    left - 1
+    left.saturating_sub(usize::from(wanted))
 }
 
 // Makes the set number j an empty one in the places [base, limit).
@@ -132,13 +112,11 @@ pub fn lay_out(work: &[u32], book: &mut [usize], sets: usize, lo: usize, hi: usi
 {
     let mut left = count_wanted(wanted);
     let mut at = lo;
-    let mut j = 0;
-    while j < sets {
+    for j in 0..sets {
         let is_wanted = wanted[j];
         let limit = share_end(is_wanted, at, hi, left);
         left = left_behind(is_wanted, left);
         empty_set(work, book, j, at, limit);
         at = limit;
-        j += 1;
     }
 }

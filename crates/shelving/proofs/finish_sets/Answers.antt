@@ -1,6 +1,4 @@
--- `shelving::finish_sets` meets its contract: the invariant is FinishedTo. The measure is the number of sets that are
--- left.
--- Assumes nothing.
+-- `shelving::finish_sets` meets its contract: one set more is finished. Assumes nothing.
 use Rattle.shelving.proofs.SetBySet.{finish-next}
 use borrow.Author.Rules.{rules}
 use Rattle.shelving.proofs.finish_sets.Goals as goal

@@ -1,6 +1,4 @@
--- `shelving::gather_sets` meets its contract: the invariant is GatheredTo. The measure is the number of sets that are
--- left.
--- Assumes nothing.
+-- `shelving::gather_sets` meets its contract: one set more is gathered. Assumes nothing.
 use Rattle.shelving.proofs.SetBySet.{gather-next}
 use borrow.Author.Rules.{rules}
 use Rattle.shelving.proofs.gather_sets.Goals as goal

@@ -1,6 +1,4 @@
--- `shelving::lay_out` meets its contract: the invariant is LaidTo. The measure is the number of sets that are left.
--- Assumes nothing.
-use Prim.Native.Nat.{◌-◌}
+-- The invariant is LaidTo. Assumes nothing.
 use mathlib.Core.Path.{◌≡◌}
 use lib.ListN.{length}
 use Rattle.shelving.proofs.Laying.{LaidTo}
@@ -8,6 +6,3 @@ use Rattle.shelving.proofs.lay_out.Given as goal
 
 abbrev pub invariant-loop-j : goal.invariant-loop-j
 invariant-loop-j l = LaidTo l.sets l.lo l.hi l.j l.at l.work l.book × (length l.book ≡ length l.initial.book)
-
-abbrev pub decreases-loop-j : goal.decreases-loop-j
-decreases-loop-j l = l.sets - l.j
