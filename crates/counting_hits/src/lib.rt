@@ -46,15 +46,12 @@ pub fn exceed(
         → MoreHits lefts.now rights.now (found_in work.now from) room }
 {
     let mut free = room;
-    let mut k = 0;
-    // Not a `for`: the places are `step` apart.
-    while k < lefts.len() {
+    for k in (0..lefts.len()).step_by(step) {
         let hits = hits_of(work, from, lefts[k], rights[k]);
         if free < hits {
             return true;
         }
         free -= hits;
-        k += step;
     }
     false
 }
