@@ -12,7 +12,6 @@ use lib.Seq.{sets-eq}
 use Rattle.std.specs.Prelude.{Ok, Err}
 use Rattle.text.specs.Putting.{Put}
 use Rattle.reporting.specs.Reporting.{reporting_of_text}
-use Rattle.reporting.specs.declared.TextTooShort.{TextTooShort}
 
 module _ (printed : List ℕ) {text part part' : List ℕ} {needed : ℕ} (measured : Put printed part 0 part' needed) where
   pub reporting-short : length text < needed

@@ -2,10 +2,6 @@
 use mathlib.Core.Path.{◌≡◌, sym, ap, ◌∙◌}
 use Prim.Native.Nat.{ℕ}
 use native.Mathlib.Omega.{arith}
-use lib.ListN.{length}
-use Rattle.std.specs.Prelude.{Result, Ok, Err}
-use Rattle.reporting.specs.Reporting.{report_of}
-use Rattle.reporting.specs.declared.TextTooShort.{TextTooShort}
 use Rattle.reporting.proofs.Fits.{report-printed}
 use Rattle.notchergrey.proofs.make_text.Goals as goal
 
