@@ -1,2 +1,1 @@
 mod Written
-pub mod Through
