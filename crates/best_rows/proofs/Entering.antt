@@ -1,7 +1,6 @@
 -- A row is entered: it is held against the number at the middle whenever its place is in the later half.
 --     Entering          what holds between two steps: the row's place is in the part that is left, and once the row is
 --                       entered there, it is entered
---     middle-held       the number at the middle names a row, or is 0
 --     entering-start    before the first step
 --     entering-first, entering-later     a step: the place is in the first half of the part, or in the later one
 --     entering-end      one place is left
@@ -166,9 +165,6 @@ module _ {price : ℕ} {rs : List Row} {scores : List ℕ} {count place number :
       module _ (room : count ≤ length held₀) where
         within_held : middle lo hi < length held
         within_held = middle-there lo hi l (omega (arith, s.within, s.as_long))
-
-        pub middle-held : get_or held (middle lo hi) 0 ≤ length rs
-        middle-held = s.holding.holding (middle lo hi) within_held
 
         pub entering-later :
             {v : ℕ} → 1 ≤ number → number ≤ length rs → middle lo hi ≤ place

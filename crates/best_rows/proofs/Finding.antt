@@ -3,7 +3,7 @@
 --     Nearing           the loop's invariant: the place is one of those from lo up to hi, the numbers there are right,
 --                       and the row is the best of those at hi or behind
 --     middle-named      what the middle has is a row's number, or 0
---     nearing-start, nearing-first, nearing-later, nearing-end     the start, the place in either half, and the end
+--     nearing-start, nearing-first, nearing-later     the start, and the place in either half
 -- Assumes nothing.
 use Prim.Native.Nat.{ℕ, ◌+◌, ◌≤◌, ◌<◌}
 use mathlib.Core.Path.{◌≡◌}
@@ -94,9 +94,3 @@ module _ {price : ℕ} {rs : List Row} {scores held : List ℕ} {count place : �
       halved = λ es places h. (halved-parts l (n.halved es places h)).2;
       behind = n.behind;
     }
-
-    pub nearing-end : hi ≤ lo + 1 → Behind price rs scores held count place best
-    nearing-end l = record { named = n.named; best = λ es places below h. rw (← last) (n.behind es places h) }
-      where
-        last : hi ≡ place + 1
-        last = omega (arith, n.from, n.to)

@@ -23,9 +23,10 @@ pub fn best_behind(
     requires place_lt_count { place < count }
     ensures { Behind price (rows_of table.now) scores.now held.now count place result }
 {
-    let mut best: u32 = 0;
-    let mut lo: usize = 0;
+    let mut best = 0;
+    let mut lo = 0;
     let mut hi = count;
+    // Not a `for`: each step halves what is left.
     while lo + 1 < hi {
         let mid = lo + (hi - lo) / 2;
         if place < mid {
@@ -56,8 +57,9 @@ pub fn enter(
     ensures { Entered price (rows_of table.now) scores.now held.old 0 count place number
         held.new }
 {
-    let mut lo: usize = 0;
+    let mut lo = 0;
     let mut hi = count;
+    // Not a `for`: each step halves what is left.
     while lo + 1 < hi {
         let mid = lo + (hi - lo) / 2;
         if place < mid {

@@ -1,7 +1,6 @@
 -- The numbers of the direct rows, collected row by row.
 --     PlaceOf                  a number stands at a place before d
 --     CollectedTo              those of the first k rows are collected
---     none-collected           nothing is collected at first
 --     collected-more           the next row is direct, and its number is written behind the others
 --     collected-none           the next row is not direct
 --     all-collected            at the end all are collected
@@ -34,18 +33,6 @@ pub record CollectedTo (rs : List Row) (out out' : List ℕ) (d k : ℕ) : Type 
   pub low : (i : ℕ) → i < d → get_or out' i 0 ≤ k
   pub rising : (i j : ℕ) → i < j → j < d → get_or out' i 0 < get_or out' j 0
   pub all : (j : ℕ) → Direct rs j → j ≤ k → PlaceOf out' d j
-
-pub none-collected : {rs : List Row} {out : List ℕ} → CollectedTo rs out out 0 0
-none-collected =
-    record {
-      long = refl;
-      within = omega arith;
-      few = omega arith;
-      direct = λ i h. absurd (omega arith);
-      low = λ i h. absurd (omega arith);
-      rising = λ i j h l. absurd (omega arith);
-      all = λ j q h. absurd (omega (arith, q.from_one));
-    }
 
 module _ {rs : List Row} {out out' : List ℕ} {d k : ℕ} (c : CollectedTo rs out out' d k) (room : length rs ≤ length out)
   where

@@ -1,5 +1,4 @@
 -- What a link costs, and what the link is by that.
---     cost-bounded     the price of skipped letters is bounded
 --     made_none, made-lost, made-gained
 --                      the link of a row that no other may follow, that gains nothing, and that gains
 -- Assumes nothing.
@@ -15,10 +14,6 @@ use Rattle.backbone.specs.Chains.{row_numbered, skipped}
 use Rattle.weighing.specs.Weighing.{score_at}
 use Rattle.linking.specs.Linking.{cost_of, Extended}
 use Rattle.linking.specs.declared.Link.{Link}
-
-pub cost-bounded : (price : ℕ) (r r' : Row) → price ≤ 1000 → left_of A r' < 2 ^ 32 → left_of B r' < 2 ^ 32
-    → price * skipped r r' ≤ 9000000000000
-cost-bounded price r r' low a b = let few : skipped r r' ≤ 9000000000 = omega arith in mul-le-mul low few
 
 module _ (rs : List Row) (scores : List ℕ) (price k j : ℕ) {row : Row} (read : row ≡ row_numbered rs k) where
   -- the row's letters

@@ -38,12 +38,6 @@ module _ {price n : ℕ} {rs : List Row} {d : ℕ} {work scores : List ℕ} {r :
       (lent-held (length rs) (linked_work (length rs) work r)
       ∙ written_held (length rs) work (r.number - 1) r.next below)
 
-  pub still-scored : Scored rs (linked_scores scores r) price
-  still-scored = record { each = rw length-set p.scored.each; priced = p.scored.priced }
-
-  pub lent-holding : Holding rs (lent_in n (linked_work n work r))
-  lent-holding = rw lent-kept p.holding
-
   pub lent-size : length (lent_in n (linked_work n work r)) ≡ length rs
   lent-size = rw lent-kept (held-many (length rs) work p.room)
 

@@ -4,7 +4,6 @@
 --     worked-start, worked-step, worked-end     where a column begins, one match more, and the end
 --     BothWorked      the loop's invariant: so it is of both columns, and from k on that on B has the lengths yet
 --     both-start, both-step, both_end           where the loop begins, one match more, and the end
---     end_fits        a right end that is due fits 32 bits
 -- Assumes nothing.
 use Prim.Native.Nat.{ℕ, ◌+◌, ◌^◌, ◌≤◌, ◌<◌}
 use mathlib.Core.Path.{◌≡◌, refl, sym, ◌∙◌}
@@ -74,9 +73,6 @@ module _ {f t before-a before-b : List ℕ} where
     -- the length that waits is that of the match
     waits : get_or b k 0 ≡ get_or (front f before-b) k 0
     waits = w.yet k (omega arith) l
-
-    pub end_fits : {e : List ℕ} → Ends e (front f before-b) → length f ≡ length e → get_or e k 0 + get_or b k 0 < 2 ^ 32
-    end_fits ends n = omega (arith, ends.fits k (omega (arith, ends.same_length)), waits)
 
     pub both-step :
         BothWorked f t before-a before-b (set a k (get_or f k 0 + get_or b k 0)) (set b k (get_or t k 0 + get_or b k 0)) (k + 1)

@@ -2,7 +2,6 @@
 --     trail-unique       the links lead through one chain
 --     Onward, onward     a chain that is not at its end begins with its row, and the link of that leads on
 --     OnWay              what is written is the front of the chain, and the links lead on through the rest
---     way-begins         nothing is written at first
 --     way-there, way-free     while the links lead on, there is a link to read and room to write
 --     way-kept           the chain buffer keeps its length
 --     way_on             one number more is written
@@ -53,18 +52,6 @@ pub record OnWay (links : List ℕ) (first : ℕ) (chain chain' : List ℕ) (k n
   pub count : n ≡ length front
   pub fits : length front + length rest ≤ length chain
   pub made : chain' ≡ front ++ drop (length front) chain
-
-pub way-begins : {links chain : List ℕ} {k : ℕ} → Leads links k (length chain) → OnWay links k chain chain k 0
-way-begins l =
-    record {
-      front = [];
-      rest = l.through;
-      whole = l.trail;
-      trail = l.trail;
-      count = refl;
-      fits = omega (arith, l.fits);
-      made = refl;
-    }
 
 module _ {links chain chain' : List ℕ} {first k n : ℕ} (w : OnWay links first chain chain' k n) where
   pub way-kept : length chain' ≡ length chain

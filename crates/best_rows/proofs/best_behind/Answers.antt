@@ -1,4 +1,4 @@
--- `best_rows::best_behind` meets its contract. The loop keeps `Nearing`; its measure is how many places are left.
+-- The middle is behind the place, and its best row is taken in, or it is not.
 -- Assumes nothing.
 use borrow.Author.Rules.{rules}
 use Rattle.best_rows.proofs.Finding.{nearing-start, nearing-first, nearing-later}

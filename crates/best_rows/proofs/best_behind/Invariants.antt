@@ -1,4 +1,4 @@
--- `best_rows::best_behind` meets its contract. The loop keeps `Nearing`; its measure is how many places are left.
+-- The best row behind the place is `best`, or entered from `lo` up to `hi`; the measure is how many places are left.
 -- Assumes nothing.
 use Prim.Native.Nat.{◌-◌}
 use Rattle.rows.specs.Rows.{rows_of}

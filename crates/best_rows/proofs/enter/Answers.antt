@@ -1,4 +1,4 @@
--- `best_rows::enter` meets its contract. The loop keeps `Entering`; its measure is how many places are left.
+-- The middle is behind the place, or the row is entered there.
 -- Assumes nothing.
 use Rattle.best_rows.proofs.Entering.{entering-first, entering-later, entering-end}
 use Rattle.best_rows.proofs.enter.Goals as goal

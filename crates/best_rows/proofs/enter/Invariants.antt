@@ -1,4 +1,4 @@
--- `best_rows::enter` meets its contract. The loop keeps `Entering`; its measure is how many places are left.
+-- The row is entered but from `lo` up to `hi`; the measure is how many places are left.
 -- Assumes nothing.
 use Prim.Native.Nat.{◌-◌}
 use Rattle.rows.specs.Rows.{rows_of}
