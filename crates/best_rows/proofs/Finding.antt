@@ -6,7 +6,6 @@
 --     nearing-start, nearing-first, nearing-later     the start, and the place in either half
 -- Assumes nothing.
 use Prim.Native.Nat.{ℕ, ◌+◌, ◌≤◌, ◌<◌}
-use mathlib.Core.Path.{◌≡◌}
 use mathlib.Core.Logic.{◌⊎◌, inl, inr, ⊎_elim, ◌↔◌}
 use mathlib.Core.List.{List}
 use native.Mathlib.Omega.{arith}
@@ -17,7 +16,7 @@ use Rattle.direct_rows.specs.Direct.{place_at}
 use Rattle.weighing.specs.Weighing.{Top, better_of}
 use Rattle.weighing.specs.Weighing.Top.{none}
 use Rattle.weighing.proofs.Top.{better-top, top-same}
-use Rattle.best_rows.specs.Halves.{middle, Within, Halved, Holding, Behind}
+use Rattle.best_rows.specs.Halves.{middle, Within, Halved, Holding}
 use Rattle.best_rows.proofs.Halves.{middle-within, middle-there, halved-parts, better-named}
 
 pub record Nearing (price : ℕ) (rs : List Row) (scores held : List ℕ) (count place lo hi best : ℕ) : Type 0 where

@@ -1,7 +1,6 @@
 -- A link is written, and its row entered.
 --     linked_work, linked_scores     the buffers once the link is written
---     still-scored, lent-holding, lent-size
---                                  what entering asks of the buffers then
+--     lent-size                    how long the part is that is lent for entering
 --     put                          the buffers once the row is entered
 -- Assumes nothing.
 use Prim.Native.Nat.{ℕ, ◌+◌, ◌-◌, ◌*◌, ◌≤◌, ◌<◌}

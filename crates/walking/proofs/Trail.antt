@@ -14,7 +14,7 @@ use mathlib.Core.List.{List, [], ◌∷◌, ◌++◌, append-nil, append_assoc}
 use native.Mathlib.Omega.{arith}
 use lib.ListN.{length, get_or, drop, set, length-append, length-drop}
 use lib.Seq.{drop-cons, set_at}
-use Rattle.walking.specs.Trail.{link_at, Trail, ends, leads, Leads, Written}
+use Rattle.walking.specs.Trail.{link_at, Trail, ends, leads, Written}
 
 pub trail-unique : {links : List ℕ} {k : ℕ} {ks js : List ℕ} → Trail links k ks → Trail links k js → ks ≡ js
 trail-unique ends ends = refl
