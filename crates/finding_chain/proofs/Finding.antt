@@ -1,15 +1,14 @@
 -- The backbone as it is written out, and the lent buffers after it.
 --     links-lead        the links lead through a chain for which there is room
 --     chain-found       written out, it is what was to be found
---     front-findable    the front of the work buffer is enough
---     front-found       so what is found with it is found with the whole
+--     front-found       what is found with the front of the work buffer is found with the whole
 -- Assumes nothing.
 use Prim.Native.Nat.{ℕ, zero, suc, ◌-◌, ◌*◌, ◌≤◌}
 use mathlib.Core.Path.{◌≡◌, refl, ap, sym, ◌∙◌}
 use mathlib.Core.List.{List, ◌∷◌, ◌++◌}
 use native.Mathlib.Omega.{arith}
 use lib.ListN.{length, take, drop, replicate, take-append-drop}
-use lib.Seq.{length-take-le, take_at, drop_at}
+use lib.Seq.{take_at, drop_at}
 use Rattle.rows.specs.declared.Row.{Row}
 use Rattle.refining.specs.Refining.{zeroed}
 use Rattle.walking.specs.Trail.{Trail, Leads, Written}
@@ -56,18 +55,6 @@ module _ {rs : List Row} {price : ℕ} {work chain scores : List ℕ} (f : Finda
     -- the front is zero, as the whole is
     front-zero : take m work ≡ zeroed (take m work)
     front-zero = rw f.work_clear (take-zero m (length work))
-
-    pub front-findable : m ≡ 4 * length rs → Findable rs price (take m work) chain scores
-    front-findable e =
-        record {
-          apart = f.apart;
-          priced = f.priced;
-          counted = f.counted;
-          work_room = omega (arith, length-take-le m work (omega (arith, f.work_room)));
-          work_clear = front-zero;
-          chain_room = f.chain_room;
-          score_room = f.score_room;
-        }
 
     pub front-found :
         {r : Found} {front chain' scores' : List ℕ}

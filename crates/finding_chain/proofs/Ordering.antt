@@ -1,5 +1,4 @@
 -- The direct rows in the orders of A and of B.
---     collected-named      collected numbers name rows, each once
 --     sorted-direct        sorted, they are the direct rows in order
 --     direct-placeable     so their places can be noted
 --     arranged-by          the order of A with the places of B is what linking starts from
@@ -18,7 +17,7 @@ use Rattle.refinement.specs.declared.Side.TheVariants.{A, B}
 use Rattle.refinement.specs.Order.{◌∈◌}
 use Rattle.refinement.proofs.Lists.{rising-weaken, pigeonhole}
 use Rattle.backbone.specs.Chains.{Direct}
-use Rattle.row_order.specs.Order.{Ahead, Named, Sorted}
+use Rattle.row_order.specs.Order.{Ahead, Sorted}
 use Rattle.backbone.proofs.Places.{at-∈, ∈-at}
 use Rattle.row_order.proofs.Order.{ahead-not, in-order-rising}
 use Rattle.direct_rows.specs.Direct.{Collected, place_at, Placeable, Placed}
@@ -29,19 +28,6 @@ module _ {rs : List Row} {out : List ℕ} {d : ℕ} (c : Collected rs out d) (h 
   -- they are the front of the buffer
   long : length (take d out) ≡ d
   long = length-take-le d out h
-
-  pub collected-named : Named rs (take d out)
-  collected-named =
-      record {
-        each = λ i l.
-            let m : i < d = omega (arith, long) in
-            let q = c.direct i m in
-            rw (get_or-take d out i 0 m) (record { from_one = q.from_one; to_last = q.to_last });
-        once = λ i j l m e.
-            let o : j < d = omega (arith, long) in
-            let t = get_or-take d out in
-            omega (arith, c.rising i j l o, t i 0 (omega arith), t j 0 o);
-      }
 
   -- nothing but direct rows is collected
   collected-direct : {k : ℕ} → k ∈ take d out → Direct rs k
