@@ -71,15 +71,9 @@ fn product(a: u32, b: u32) -> u64
 fn sum_of(row: Row, by: Dealing) -> u64
     ensures { result ≡ summed by row }
 {
-    let lefts = std::num::wrapping_add_u64(
-        product(row.left_a, by.left_a),
-        product(row.left_b, by.left_b),
-    );
-    let rest = std::num::wrapping_add_u64(
-        product(row.length, by.length),
-        product(row.direction, by.direction),
-    );
-    std::num::wrapping_add_u64(lefts, rest)
+    let lefts = product(row.left_a, by.left_a).wrapping_add(product(row.left_b, by.left_b));
+    let rest = product(row.length, by.length).wrapping_add(product(row.direction, by.direction));
+    lefts.wrapping_add(rest)
 }
 
 #[tactic(auto, unfolding(crate::specs::Store::folded))]
