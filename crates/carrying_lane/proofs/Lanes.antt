@@ -4,7 +4,7 @@
 --     made-ready           what taking along a lane needs, from what a contract asks
 --     Going                the loop's invariant: the groups before g are done
 --     going-ready, going-ends     what taking needs still holds
---     going_start, going_step, going_end     where it begins, one group more, and where it ends
+--     going_step, going_end       one group more, and where it ends
 --     going-not            no room for a group, or too many hits
 -- Assumes nothing.
 use Prim.Native.Nat.{ℕ, zero, suc, ◌+◌, ◌-◌, ◌≤◌, ◌<◌}
@@ -27,7 +27,7 @@ use Rattle.refining.specs.Columns.{Columns, count_of, to_at, to_right_at, Fit}
 use Rattle.carrying_match.proofs.RunLists.{slice-same}
 use Rattle.carrying_cuts.specs.Worker.{Image, Images, hits_over}
 use Rattle.shelf.specs.Shelf.{set_at, Outside, Shelf, Shelved}
-use Rattle.shelf.proofs.Shelving.{shelf-none, shelf-then, shelf-as, jammed-as}
+use Rattle.shelf.proofs.Shelving.{shelf-then, shelf-as, jammed-as}
 use Rattle.shelf.proofs.Members.{grown-member}
 use Rattle.carrying_group.specs.Group.{Carried, Grouping}
 use Rattle.carrying_group.specs.declared.TooMany.{TooMany}
@@ -136,21 +136,6 @@ module _ {c : Columns} {is gs fb : List ℕ} {n fa ta sets lo hi : ℕ} {xs b : 
 
     abbrev news : ℕ → List ℕ
     news i = found_in xs (set_at fb i)
-
-    pub going_start : {hits most : ℕ} → hits ≤ most → Going the_lane gs fb n sets lo hi xs b hits most 0 xs b hits
-    going_start h = record {
-      until = omega arith;
-      lengths = refl;
-      book_length = refl;
-      takes = record {
-        grown = shelf-as (shelf-none ready.shelf) (λ i l y. (
-          λ p. absurd p,
-          λ p. absurd (omega (arith, p.below, groups.first)),
-        ));
-        counted = omega (arith, ap (λ k. lane_hits the_lane k news) groups.first);
-        few = h;
-      };
-    }
 
     module _ {hits most g : ℕ} {ys b' : List ℕ} {total : ℕ}
         (w : Going the_lane gs fb n sets lo hi xs b hits most g ys b' total)

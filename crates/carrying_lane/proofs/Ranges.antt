@@ -4,7 +4,6 @@
 --     read-ranged              so is their index, or there is none
 --     read-clear               the set that it takes from is gathered, and stands outside of the shelf's places
 --     read-ends                the ends of its matches are members of the set that it takes to
---     part-is                  the columns of its matches, as they are lent
 --     none-taken               a set without newly found cuts has nothing to be taken
 -- Assumes nothing.
 use Prim.Native.Nat.{ℕ, zero, suc, ◌≤◌, ◌<◌}
@@ -15,15 +14,13 @@ use lib.ListN.{length}
 use lib.Seq.{slice, slice_empty}
 use Rattle.cut_set.specs.Store.{found_in, NothingFound}
 use Rattle.cut_set.specs.declared.CutSet.{CutSet}
-use Rattle.refining.specs.Columns.{Columns, columns_of, count_of, to_at, to_right_at}
-use Rattle.match_columns.specs.Held.{columns_in}
-use Rattle.match_columns.specs.declared.MatchColumns.{MatchColumns}
+use Rattle.refining.specs.Columns.{Columns, count_of, to_at, to_right_at}
 use Rattle.carrying_match.specs.OneMatch.{EndsIn}
 use Rattle.carrying_cuts.specs.Worker.{hits_over, EndsKnown}
 use Rattle.shelf.specs.Shelf.{set_at, Shelf}
 use Rattle.shelf.proofs.Shelving.{shelf-none, shelf-as}
 use Rattle.carrying_group.specs.Group.{Clear, Carried}
-use Rattle.tracks.specs.Groups.{start_at, track_at, lane_by, part, part_of}
+use Rattle.tracks.specs.Groups.{start_at, track_at, lane_by, part_of}
 use Rattle.tracks.proofs.Grouped.{start-count, group-track, part-ends}
 use Rattle.carrying_lane.specs.Parts.{place_in, EndsKept}
 use Rattle.carrying_lane.specs.Range.{GroupAt, Ready, Ranged}
@@ -80,14 +77,6 @@ module _ {c : Columns} {is gs fb : List ℕ} {n fa ta sets lo hi : ℕ} {xs b : 
     pub read-ends :
         EndsKept (lane_by c gs n fa ta) xs b → EndsKnown (part_of r.start r.end c) xs (set_at b r.to)
     read-ends kept = rw read.start_is (rw read.end_is (rw read.to_is (ends-part kept)))
-
--- the columns of the matches from one index up to another, as they are lent
-pub part-is :
-    (start end : ℕ) (m p : MatchColumns) → p.lefts.now ≡ part start end m.lefts.now
-    → p.rights.now ≡ part start end m.rights.now → p.other_lefts.now ≡ part start end m.other_lefts.now
-    → p.other_rights.now ≡ part start end m.other_rights.now → p.reversed.now ≡ part start end m.reversed.now
-    → columns_in p ≡ part_of start end (columns_in m)
-part-is start end m p f g t u r = λ i. columns_of (f i) (g i) (t i) (u i) (r i)
 
 -- no hit without a cut
 hits-empty : (c : Columns) (k : ℕ) → hits_over c k [] ≡ 0

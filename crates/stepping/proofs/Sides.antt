@@ -1,7 +1,6 @@
 -- A step as one of the side A or B: one law for both.
 --     lane-is              the lanes of the step are those of the side
 --     step-able            what holds between two steps is what the step is given
---     ends-kept            for the side B, the ends of the matches on A are members
 --     step-open            after the step, the other side is next ..
 --     step_less            .. with fewer unused places, if some cut is newly found
 --     step-done            and nothing is left to be carried, if none is
@@ -30,7 +29,7 @@ use Rattle.shelving.specs.AllSets.{SomeFound}
 use Rattle.std.specs.declared.result.Result.{Result}
 use Rattle.std.specs.declared.result.Result.TheVariants.{Ok, Err}
 use Rattle.carrying_group.specs.declared.TooMany.{TooMany}
-use Rattle.carrying_lane.specs.Parts.{OneOfTwo, EndsKept}
+use Rattle.carrying_lane.specs.Parts.{OneOfTwo}
 use Rattle.taking.specs.Taking.{lane_to, Halves, before, behind, Able, Stepped, BothNot, excess, jammed}
 use Rattle.stepping.specs.Steps.{AllCuts}
 use Rattle.stepping.specs.Steps.{Going}
@@ -150,13 +149,6 @@ module _ {c : Columns} {gs : List ℕ} {g n cap : ℕ} {marks : List Place} {xs 
                 cuts = all.1;
                 fits = all.0;
               }
-
--- the ends on A are members, and no promise is made of those on B
-pub ends-kept :
-    (c : Columns) (gs : List ℕ) (g : ℕ) {n cap : ℕ} {marks : List Place} {xs : List ℕ} {books : Side → List ℕ}
-    {hits : Kind → Side → ℕ} → Open (grouped c gs g marks) n cap xs books hits B
-    → EndsKept (lane_to over (seen_from B c) gs g (side_at B) (side_at A)) xs (books A)
-ends-kept c gs g o k l = o.ended k l
 
 -- the places of both halves are there
 pub halves-within :

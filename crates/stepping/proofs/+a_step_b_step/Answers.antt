@@ -9,7 +9,7 @@ use Rattle.tracks.specs.Engine.{books_of}
 use Rattle.tracks.proofs.Grouped.{grouped-fit}
 use Rattle.stepping.specs.Steps.{hits_of}
 use Rattle.stepping.specs.declared.Counts.{Counts}
-use Rattle.stepping.proofs.Sides.{step-able, ends-kept, step-open, step_less, step-done, step-not, halves-within, goes_on}
+use Rattle.stepping.proofs.Sides.{step-able, step-open, step_less, step-done, step-not, halves-within, goes_on}
 use Rattle.stepping.proofs.+a_step_b_step.Goals as goal
 
 pub a_step-overflow_mul-capacity : goal.a_step-overflow_mul-capacity
@@ -102,22 +102,6 @@ b_step-overflow_add-capacity t c = let within = halves-within c.requires.opened.
 pub b_step-take_step-requires-clause-able : goal.b_step-take_step-requires-clause-able
 b_step-take_step-requires-clause-able t c =
     rw (c.turned.ensures.reversed) (step-able c.requires.given.groups c.requires.opened.1)
-
-pub b_step-take_step-requires-clause-usable_parts : goal.b_step-take_step-requires-clause-usable_parts
-b_step-take_step-requires-clause-usable_parts t c =
-    rw (c.turned.ensures.lefts, c.turned.ensures.rights) c.requires.given.on_b
-
-pub b_step-take_step-requires-clause-usable_parts_2 : goal.b_step-take_step-requires-clause-usable_parts_2
-b_step-take_step-requires-clause-usable_parts_2 t c =
-    rw (c.turned.ensures.other_lefts, c.turned.ensures.other_rights) c.requires.given.on_a
-
-pub b_step-take_step-requires-clause-ends_kept : goal.b_step-take_step-requires-clause-ends_kept
-b_step-take_step-requires-clause-ends_kept t c =
-    let a = c.args in
-    let lent = c.turned.ensures in
-    λ e.
-    rw (lent.other_lefts, lent.other_rights, lent.reversed)
-    (ends-kept (columns_in a.matches.now) a.groups.now a.count c.requires.opened.1)
 
 pub b_step-returns-then-not-any_found : goal.b_step-returns-then-not-any_found
 b_step-returns-then-not-any_found t c =
