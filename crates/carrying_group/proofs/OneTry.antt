@@ -2,19 +2,16 @@
 --     tried               what one try did, from what carrying and writing into the book did
 -- Assumes nothing.
 use Prim.Native.Nat.{ℕ, ◌+◌, ◌≤◌, ◌<◌}
-use native.Mathlib.Omega.{arith}
 use mathlib.Core.Path.{◌≡◌}
 use mathlib.Core.List.{List}
-use mathlib.Core.Logic.{⊎_elim}
 use lib.ListN.{length}
 use Rattle.cut_set.specs.Store.{Found, found_in, Stored}
 use Rattle.cut_set.specs.declared.CutSet.{CutSet}
 use Rattle.refining.specs.Columns.{Columns, count_of}
 use Rattle.carrying_cuts.specs.Worker.{Images, hits_over}
 use Rattle.shelf.specs.Shelf.{set_at, Shelf, Saved}
-use Rattle.shelf.proofs.Shelving.{good-is, base_is, limit_is}
 use Rattle.shelf.proofs.Filling.{put}
-use Rattle.carrying_group.specs.Group.{Clear, Carried}
+use Rattle.carrying_group.specs.Group.{Carried}
 
 -- the set number j was loaded as s, and saved as t
 module _ {s t : CutSet} {n lo hi j : ℕ} {xs b ys b' : List ℕ} (e : s ≡ set_at b j)

@@ -13,20 +13,17 @@ use mathlib.Core.List.{List}
 use native.Mathlib.Omega.{arith}
 use native.Mathlib.Decide.{ℕ_discrete}
 use lib.ListN.{length, get_or}
-use Rattle.refinement.specs.Match.{Place, between}
+use Rattle.refinement.specs.Match.{Place}
 use Rattle.runs.specs.Runs.{Answers}
-use Rattle.near_matches.specs.Near.{Passable}
-use Rattle.near_matches.proofs.Passable.{passable-step, passable-then}
 use Rattle.shelf.specs.Shelf.{Shelf, GrownShelf, Jammed, Shelved}
 use Rattle.shelf.specs.Filling.{Filling}
-use Rattle.shelf.proofs.Shelving.{shelf-none, shelf-then, shelf-as, jammed-as}
+use Rattle.shelf.proofs.Shelving.{shelf-then, shelf-as, jammed-as}
 use Rattle.shelf.proofs.Members.{grown-member}
 use Rattle.tracks.specs.Groups.{start_at, part}
 use Rattle.tracks.proofs.Grouped.{match-named, part_length, part_at}
 use Rattle.seeding.specs.Seeds.{EndOf}
-use Rattle.seeding.specs.Sown.{group_at, SideGroups, MatchIn, SpannedHere, GroupSpans, SpannedIn, MarkAt, MarkIn}
-use Rattle.seeding.specs.declared.Group.{Group}
-use Rattle.seeding.proofs.OneGroup.{group-whole, group-to, match-in, match-of, match-wide}
+use Rattle.seeding.specs.Sown.{SideGroups, MatchIn, GroupSpans, SpannedIn, MarkAt, MarkIn}
+use Rattle.seeding.proofs.OneGroup.{group-to, match-in, match-of, match-wide}
 
 -- ---- group by group
 

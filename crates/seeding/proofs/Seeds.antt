@@ -4,16 +4,16 @@
 --     sown-step, sown-full, sown-end     one match more, no room for one, and its end
 -- Assumes nothing.
 use Prim.Native.Nat.{ℕ, ◌+◌, ◌≤◌, ◌<◌}
-use mathlib.Core.Path.{◌≡◌, refl, subst, ◌∙◌}
+use mathlib.Core.Path.{◌≡◌, subst, ◌∙◌}
 use mathlib.Core.Logic.{◌⊎◌, inl, inr, ⊎_elim}
 use mathlib.Core.List.{List}
 use native.Mathlib.Omega.{arith}
 use native.Mathlib.Decide.{ℕ_discrete}
 use lib.ListN.{length, get_or}
-use Rattle.cut_set.specs.Store.{Good, Stored, Cramped, Adding}
+use Rattle.cut_set.specs.Store.{Stored, Cramped, Adding}
 use Rattle.cut_set.specs.declared.CutSet.{CutSet}
 use Rattle.cut_set.specs.declared.Added.{Added}
-use Rattle.cut_set.proofs.Laws.{stored-none, stored_same, stored-then, cramped-wide, cramped-then}
+use Rattle.cut_set.proofs.Laws.{stored_same, stored-then, cramped-wide, cramped-then}
 use Rattle.seeding.specs.Seeds.{EndAt, EndOf, Seeding}
 
 pub two-added :

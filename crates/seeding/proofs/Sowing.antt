@@ -3,14 +3,14 @@
 --     sowing-step, sowing-full, sowing-end   one group more, no room for one, its end
 -- Assumes nothing.
 use Prim.Native.Nat.{ℕ, suc, ◌+◌, ◌-◌, ◌≤◌, ◌<◌}
-use mathlib.Core.Path.{◌≡◌, refl, ap, subst, ◌∙◌}
+use mathlib.Core.Path.{◌≡◌, ap, subst, ◌∙◌}
 use mathlib.Core.Logic.{◌⊎◌, inl, inr, ⊎_elim}
 use mathlib.Core.List.{List}
 use native.Mathlib.Omega.{arith}
 use lib.ListN.{length}
 use Rattle.refinement.specs.Match.{Place}
 use Rattle.shelf.specs.Shelf.{Shelf, GrownShelf, Jammed, Shelved}
-use Rattle.shelf.proofs.Shelving.{shelf-none, shelf-then, shelf-as, jammed-as}
+use Rattle.shelf.proofs.Shelving.{shelf-then, shelf-as, jammed-as}
 use Rattle.shelf.proofs.Members.{grown-member}
 use Rattle.tracks.specs.Groups.{start_at, part}
 use Rattle.tracks.proofs.Grouped.{start-count}

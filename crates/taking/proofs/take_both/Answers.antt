@@ -1,8 +1,5 @@
 -- `take_both` meets its contract: each kind of lane does, one after the other (Both). Assumes nothing.
-use mathlib.Core.Path.{◌≡◌, subst}
-use lib.ListN.{length}
 use Rattle.std.proofs.lemmas.Result.{err_from_is_err_and}
-use Rattle.refining.specs.Columns.{Columns, columns_of, count_of}
 use Rattle.match_columns.specs.Held.{columns_in}
 use Rattle.tracks.specs.Groups.{lane_by, Takes, TakesNot}
 use Rattle.carrying_lane.proofs.Lanes.{clear_later}
