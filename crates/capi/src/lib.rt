@@ -4,7 +4,8 @@
 #![tactic(auto)]
 
 ghost use Rattle.std.specs.Prelude.{◌≡◌};
-ghost use Rattle.doors.specs.Doors.{read_door, match_door, refine_door, carry_door, carry_from_a, carry_from_b};
+ghost use Rattle.script.specs.Refusals.{number_of, place_of};
+ghost use Rattle.doors.specs.Doors.{door, read_door, match_door, refine_door, carry_door, carry_from_a, carry_from_b};
 ghost use Rattle.doors.specs.Doors.{carry_all_door, carry_all_from_a, carry_all_from_b};
 ghost use Rattle.doors.specs.Doors.{rows_door, summary_door, report_door};
 ghost use Rattle.doors.specs.Doors.{write_door, records_door, chain_door};
@@ -14,20 +15,38 @@ ghost use Rattle.records.specs.Writing.{writing_of};
 ghost use Rattle.refining.specs.Refining.{refining_of};
 ghost use Rattle.reporting.specs.Reporting.{reporting_of};
 
-use backbone::Chained;
 use commands::bit;
 use match_rows::span_of;
-use positions::CarriedAll;
 use reader::find::find_match;
 use record_reader::read_records;
-use records::{Listed, Written};
 use refinement::Side;
-use refining::answers::{Carried, Refined};
 use refusals::{number_of, place_of};
-use reporting::Reported;
-use script::{Finding, Refusal, Verdict};
+use script::Refusal;
 use summary::sum_up;
 use table::CLASSES;
+
+// What a door on a script does with a refusal: its place is handed out, and its number returned.
+fn refuse(refusal: Refusal, place: &mut usize) -> u32
+    ensures number { result ≡ number_of refusal }
+    ensures place_after { place.new ≡ place_of refusal }
+{
+    *place = place_of(refusal);
+    number_of(refusal)
+}
+
+// What such a door does with an answer that is one number: it is handed out, or why there is none.
+fn hand_out<T: Copy>(answer: Result<T, Refusal>, place: &mut usize, given: &mut T) -> u32
+    ensures { record { number = result; place = place.new; given = given.new }
+        ≡ door answer place.old given.old }
+{
+    match answer {
+        Ok(number) => {
+            *given = number;
+            0
+        }
+        Err(refusal) => refuse(refusal, place),
+    }
+}
 
 // Reads a script: p, q and the counts of matches and marks.
 #[unsafe(no_mangle)]
@@ -58,24 +77,15 @@ pub extern "C" fn notchergrey_read(
           marks = mark_count.old;
         }) }
 {
-    let verdict = reader::read(script);
-    match verdict {
-        Verdict::Admitted {
-            p: a,
-            q: b,
-            count: n,
-            marks: k,
-        } => {
-            *p = a;
-            *q = b;
-            *count = n;
-            *mark_count = k;
+    match reader::read(script) {
+        Ok(admitted) => {
+            *p = admitted.p;
+            *q = admitted.q;
+            *count = admitted.count;
+            *mark_count = admitted.marks;
             0
         }
-        Verdict::Refused(refusal) => {
-            *place = place_of(refusal);
-            number_of(refusal)
-        }
+        Err(refusal) => refuse(refusal, place),
     }
 }
 
@@ -110,17 +120,14 @@ pub extern "C" fn notchergrey_match(
         }) }
 {
     match find_match(script, number) {
-        Finding::Found(found) => {
+        Ok(found) => {
             *left_a = found.left_a;
             *left_b = found.left_b;
             *length = found.length;
             *reversed = bit(found.reversed);
             0
         }
-        Finding::Refused(refusal) => {
-            *place = place_of(refusal);
-            number_of(refusal)
-        }
+        Err(refusal) => refuse(refusal, place),
     }
 }
 
@@ -141,16 +148,7 @@ pub extern "C" fn notchergrey_write(
     ensures script_after { script.new
         ≡ (writing_of p q records.now marks.now script.old).script }
 {
-    match writer::write(p, q, records, marks, script) {
-        Written::Bytes(n) => {
-            *length = n;
-            0
-        }
-        Written::Refused(refusal) => {
-            *place = place_of(refusal);
-            number_of(refusal)
-        }
-    }
+    hand_out(writer::write(p, q, records, marks, script), place, length)
 }
 
 // Reads a script into two lists: p, q and the counts of matches and marks, and their numbers in the lent ones.
@@ -187,22 +185,14 @@ pub extern "C" fn notchergrey_read_records(
     ensures marks_after { marks.new ≡ (listing_of script.now records.old marks.old).marks }
 {
     match read_records(script, records, marks) {
-        Listed::Records {
-            p: a,
-            q: b,
-            count: n,
-            marks: k,
-        } => {
-            *p = a;
-            *q = b;
-            *count = n;
-            *mark_count = k;
+        Ok(listed) => {
+            *p = listed.p;
+            *q = listed.q;
+            *count = listed.count;
+            *mark_count = listed.marks;
             0
         }
-        Listed::Refused(refusal) => {
-            *place = place_of(refusal);
-            number_of(refusal)
-        }
+        Err(refusal) => refuse(refusal, place),
     }
 }
 
@@ -221,16 +211,7 @@ pub extern "C" fn notchergrey_refine(
     ensures table_after { table.new ≡ (refining_of script.now table.old work.old).table }
     ensures work_after { work.new ≡ (refining_of script.now table.old work.old).work }
 {
-    match refine::refine(script, table, work) {
-        Refined::Rows(n) => {
-            *rows = n;
-            0
-        }
-        Refined::Refused(refusal) => {
-            *place = place_of(refusal);
-            number_of(refusal)
-        }
-    }
+    hand_out(refine::refine(script, table, work), place, rows)
 }
 
 // Finds the backbone of a script; `score`, `rows` and `length` become its score, the count of the table's rows and the
@@ -270,20 +251,13 @@ pub extern "C" fn notchergrey_chain(
         scores.old).scores }
 {
     match chain::chain(script, price, table, work, chain, scores) {
-        Chained::Best {
-            score: best,
-            rows: n,
-            length: count,
-        } => {
-            *score = best;
-            *rows = n;
-            *length = count;
+        Ok(chained) => {
+            *score = chained.score;
+            *rows = chained.rows;
+            *length = chained.length;
             0
         }
-        Chained::Refused(refusal) => {
-            *place = place_of(refusal);
-            number_of(refusal)
-        }
+        Err(refusal) => refuse(refusal, place),
     }
 }
 
@@ -299,16 +273,11 @@ fn carry_from(
     ensures { record { number = result; place = place.new; given = carried.new }
         ≡ carry_door side script.now number position place.old carried.old }
 {
-    match carrying::carry(script, number, side, position) {
-        Carried::To(x) => {
-            *carried = x;
-            0
-        }
-        Carried::Refused(refusal) => {
-            *place = place_of(refusal);
-            number_of(refusal)
-        }
-    }
+    hand_out(
+        carrying::carry(script, number, side, position),
+        place,
+        carried,
+    )
 }
 
 // Carries a position of A to B over the match of this number.
@@ -355,11 +324,8 @@ fn carry_all_from(
         carried.old }
 {
     match carrying_all::carry_all(script, number, side, positions, carried) {
-        CarriedAll::All => 0,
-        CarriedAll::Refused(refusal) => {
-            *place = place_of(refusal);
-            number_of(refusal)
-        }
+        Ok(()) => 0,
+        Err(refusal) => refuse(refusal, place),
     }
 }
 
@@ -433,10 +399,8 @@ pub extern "C" fn notchergrey_summary(
     let summary = sum_up(table);
     *pieces = summary.pieces;
     *distinct = summary.distinct;
-    let letters = summary.covers;
-    *covers = letters;
-    let counts = summary.classes;
-    *classes = counts;
+    *covers = summary.covers;
+    *classes = summary.classes;
     0
 }
 
@@ -449,12 +413,12 @@ pub extern "C" fn notchergrey_report(script: &[u8], text: &mut [u8], length: &mu
     ensures text_after { text.new ≡ (reporting_of script.now text.old).text }
 {
     match report::report(script, text) {
-        Reported::Printed(n) => {
+        Ok(n) => {
             *length = n;
             0
         }
-        Reported::TextTooShort(n) => {
-            *length = n;
+        Err(short) => {
+            *length = short.needed;
             number_of(Refusal::BufferTooShort)
         }
     }

@@ -5,10 +5,11 @@
 use Prim.Native.Nat.{ℕ}
 use mathlib.Core.Path.{◌≡◌, sym, ap, ◌∙◌}
 use mathlib.Core.List.{List, ◌++◌}
+use Rattle.std.specs.Prelude.{Result}
 use Rattle.script.specs.Reading.{read_script, verdict_of}
 use Rattle.script.specs.Refusals.{number_of, place_of}
 use Rattle.script.specs.declared.refusal.Refusal.{Refusal}
-use Rattle.script.specs.declared.Verdict.{Verdict}
+use Rattle.script.specs.declared.Admitted.{Admitted}
 use Rattle.text.specs.Putting.{Put}
 use Rattle.text.proofs.Stores.{put_then, put_same}
 use Rattle.edge_answers.specs.Lines.{entry, blank, newline, refused, refused_text, read_text, read_line}
@@ -32,7 +33,7 @@ put-answered says {heading = heading} answered told x y =
     put_same (ap (λ a. heading ++ says a) (sym told ∙ answered)) (put_then x y)
 
 pub put-read :
-    (script : List ℕ) {heading t₀ t₁ t₂ : List ℕ} {k₀ k₁ k₂ : ℕ} {read told : Verdict}
+    (script : List ℕ) {heading t₀ t₁ t₂ : List ℕ} {k₀ k₁ k₂ : ℕ} {read told : Result Admitted Refusal}
     → read ≡ verdict_of (read_script script)
     → read ≡ told
     → Put heading t₀ k₀ t₁ k₁

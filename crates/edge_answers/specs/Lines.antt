@@ -2,16 +2,14 @@
 --     read_text, refined_text, carried_text          an answer of the library, as it stands at the end of a line
 --     read_line, refined_line, carried_line          a heading, and behind it what the library answers
 -- Assumes nothing.
-use Rattle.std.specs.Prelude.{ℕ, List, [], ◌∷◌, ◌++◌, replicate}
+use Rattle.std.specs.Prelude.{ℕ, List, [], ◌∷◌, ◌++◌, replicate, Result, Ok, Err}
 use Rattle.script.specs.Reading.{read_script, verdict_of}
 use Rattle.script.specs.Refusals.{number_of, place_of}
 use Rattle.script.specs.declared.refusal.Refusal.{Refusal}
-use Rattle.script.specs.declared.Verdict.{Verdict}
+use Rattle.script.specs.declared.Admitted.{Admitted}
 use Rattle.refinement.specs.declared.Side.{Side}
 use Rattle.refining.specs.Refining.{refining_of}
 use Rattle.refining.specs.Carrying.{carrying_of}
-use Rattle.refining.specs.declared.answers.Refined.{Refined}
-use Rattle.refining.specs.declared.answers.Carried.{Carried}
 use Rattle.text.specs.Decimal.{decimal}
 
 -- ---- answers
@@ -38,25 +36,25 @@ refused_text r = entry refused (number_of r) ++ entry blank (place_of r) ++ newl
 abbrev pub admitted : List ℕ
 admitted = 32 ∷ 97 ∷ 100 ∷ 109 ∷ 105 ∷ 116 ∷ 116 ∷ 101 ∷ 100 ∷ 10 ∷ []
 
-abbrev pub read_text : Verdict → List ℕ
-read_text (Verdict.Admitted p q count marks) = admitted
-read_text (Verdict.Refused r) = refused_text r
+abbrev pub read_text : Result Admitted Refusal → List ℕ
+read_text (Ok a) = admitted
+read_text (Err r) = refused_text r
 
 -- " rows "
 abbrev pub rows : List ℕ
 rows = 32 ∷ 114 ∷ 111 ∷ 119 ∷ 115 ∷ 32 ∷ []
 
-abbrev pub refined_text : Refined → List ℕ
-refined_text (Refined.Rows n) = entry rows n ++ newline
-refined_text (Refined.Refused r) = refused_text r
+abbrev pub refined_text : Result ℕ Refusal → List ℕ
+refined_text (Ok n) = entry rows n ++ newline
+refined_text (Err r) = refused_text r
 
 -- " to "
 abbrev pub to : List ℕ
 to = 32 ∷ 116 ∷ 111 ∷ 32 ∷ []
 
-abbrev pub carried_text : Carried → List ℕ
-carried_text (Carried.To position) = entry to position ++ newline
-carried_text (Carried.Refused r) = refused_text r
+abbrev pub carried_text : Result ℕ Refusal → List ℕ
+carried_text (Ok position) = entry to position ++ newline
+carried_text (Err r) = refused_text r
 
 -- ---- lines
 

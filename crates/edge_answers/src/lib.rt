@@ -7,9 +7,8 @@ ghost use Rattle.text.specs.Putting.{Put};
 ghost use Rattle.edge_answers.specs.Lines.{entry, refused_text, read_line, refined_line, carried_line};
 
 use refinement::Side;
-use refining::answers::{Carried, Refined};
 use refusals::{number_of, place_of};
-use script::{Refusal, Verdict};
+use script::Refusal;
 use text::{put_byte, put_bytes, put_number};
 
 // A word and a number in decimal.
@@ -38,15 +37,9 @@ pub fn put_read(text: &mut [u8], at: usize, heading: &[u8], script: &[u8]) -> us
     ensures upper_bound { result ≤ at + 71 }
 {
     let next = put_bytes(text, at, heading);
-    let verdict = reader::read(script);
-    match verdict {
-        Verdict::Admitted {
-            p: _,
-            q: _,
-            count: _,
-            marks: _,
-        } => put_bytes(text, next, b" admitted\n"),
-        Verdict::Refused(refusal) => put_refusal(text, next, refusal),
+    match reader::read(script) {
+        Ok(_) => put_bytes(text, next, b" admitted\n"),
+        Err(refusal) => put_refusal(text, next, refusal),
     }
 }
 
@@ -67,11 +60,11 @@ pub fn put_refined(
     let next = put_bytes(text, at, heading);
     let mut table = [0; 40];
     match refine::refine(script, &mut table, work) {
-        Refined::Rows(count) => {
+        Ok(count) => {
             let next = put_entry(text, next, b" rows ", count as u64);
             put_byte(text, next, b'\n')
         }
-        Refined::Refused(refusal) => put_refusal(text, next, refusal),
+        Err(refusal) => put_refusal(text, next, refusal),
     }
 }
 
@@ -91,10 +84,10 @@ pub fn put_carried(
 {
     let next = put_bytes(text, at, heading);
     match carrying::carry(script, number, side, position) {
-        Carried::To(position) => {
+        Ok(position) => {
             let next = put_entry(text, next, b" to ", position as u64);
             put_byte(text, next, b'\n')
         }
-        Carried::Refused(refusal) => put_refusal(text, next, refusal),
+        Err(refusal) => put_refusal(text, next, refusal),
     }
 }

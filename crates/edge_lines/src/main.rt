@@ -92,10 +92,8 @@ fn put_many(script: &mut [u8], count: usize)
     ensures { script.new ≡ many count }
 {
     let mut at = put_bytes(script, 0, b"L\x01\0\0\0\x01\0\0\0");
-    let mut k: usize = 0;
-    while k < count {
+    for _ in 0..count {
         at = put_bytes(script, at, b"D\0\0\0\0\0\0\0\0\x01\0\0\0");
-        k += 1;
     }
     put_byte(script, at, b'E');
 }

@@ -5,10 +5,10 @@ use Rattle.edge_answers.proofs.Putting.{put-answered}
 use borrow.Author.Rules.{rules}
 use Rattle.edge_answers.proofs.put_carried.Goals as goal
 
-pub returns-in-To-clause-put : goal.returns-in-To-clause-put
-returns-in-To-clause-put c =
+pub returns-in-Ok-clause-put : goal.returns-in-Ok-clause-put
+returns-in-Ok-clause-put c =
     search (rules, put-answered carried_text, put_then)
 
-pub returns-in-Refused-clause-put : goal.returns-in-Refused-clause-put
-returns-in-Refused-clause-put c =
+pub returns-in-Err-clause-put : goal.returns-in-Err-clause-put
+returns-in-Err-clause-put c =
     search (rules, put-answered carried_text)

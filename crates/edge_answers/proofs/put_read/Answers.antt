@@ -3,10 +3,10 @@ use Rattle.edge_answers.proofs.Putting.{put-read}
 use borrow.Author.Rules.{rules}
 use Rattle.edge_answers.proofs.put_read.Goals as goal
 
-pub returns-in-Admitted-clause-put : goal.returns-in-Admitted-clause-put
-returns-in-Admitted-clause-put c =
+pub returns-in-Ok-clause-put : goal.returns-in-Ok-clause-put
+returns-in-Ok-clause-put c =
     search (rules, put-read)
 
-pub returns-in-Refused-clause-put : goal.returns-in-Refused-clause-put
-returns-in-Refused-clause-put c =
+pub returns-in-Err-clause-put : goal.returns-in-Err-clause-put
+returns-in-Err-clause-put c =
     search (rules, put-read)
