@@ -17,9 +17,10 @@ use native.Mathlib.Omega.{arith}
 use borrow.Author.Tests.{leb-true, le-leb, eq-eqb, ne_eqb}
 use lib.Dec.{leb}
 use lib.ListN.{length, take, drop, replicate, length-take, length-replicate, take-append-drop}
+use Rattle.std.specs.Prelude.{Result, Ok, Err}
 use Rattle.script.specs.Refusals.{number_of}
 use Rattle.script.specs.Reading.{Reading, admitted, refused, read_script, verdict_of}
-use Rattle.script.specs.declared.Verdict.{Verdict}
+use Rattle.script.specs.declared.Admitted.{Admitted as Told}
 use Rattle.script.specs.declared.refusal.Refusal.{Refusal}
 use Rattle.script.specs.declared.refusal.Refusal.TheVariants.{WorkTooShort, TooManyPieces, PriceTooHigh, ChainTooShort}
 use Rattle.script.proofs.Outcome.{read-outcome}
@@ -28,7 +29,6 @@ use Rattle.rows.specs.Rows.{row_width, rows_of}
 use Rattle.rows.proofs.TableRows.{rows-length}
 use Rattle.refining.specs.Refining.{Given, given_by, least_of, capacity_of, work_needed, zeroed, Refining, refining_of}
 use Rattle.refining.specs.Demands.{Admitted}
-use Rattle.refining.specs.declared.answers.Refined.{Refined}
 use Rattle.refining.proofs.Numbered.{admitted_of, admitted-matches}
 use Rattle.refining.proofs.RefiningCases.{written, exceeds-many, MatchesCase, short, crowded, writing, matches-case}
 use Rattle.refining.proofs.RefiningCases.{refining-refused, refining-admitted}
@@ -36,7 +36,6 @@ use Rattle.refining.proofs.Demands.{script-twelve}
 use Rattle.backbone.specs.Backbone.{backbone_of, points_of}
 use Rattle.backbone.specs.Chaining.{most_price, most_rows, least_rows}
 use Rattle.backbone.specs.Demands.{Lent}
-use Rattle.backbone.specs.declared.Chained.TheVariants.{Best, Refused}
 use Rattle.backbone.proofs.Backbones.{backbone-unique}
 use Rattle.backbone.proofs.LeastRows.{least-length, least-read}
 use Rattle.backbone.proofs.Demands.{least-backbone}
@@ -85,8 +84,8 @@ module _ (price : ℕ) (table chain scores : List ℕ) {capacity : ℕ} {told : 
 -- ---- a call that it does not pass
 
 pub refuse-script :
-    (script : List ℕ) (price : ℕ) (table work : List ℕ) {told : Verdict} {r : Refusal}
-    → told ≡ verdict_of (read_script script) → told ≡ Verdict.Refused r → Refuses script price table work r
+    (script : List ℕ) (price : ℕ) (table work : List ℕ) {told : Result Told Refusal} {r : Refusal}
+    → told ≡ verdict_of (read_script script) → told ≡ Err r → Refuses script price table work r
 refuse-script script price table work reads v =
     record {
       refuses = λ chain scores _.
@@ -94,8 +93,8 @@ refuse-script script price table work reads v =
     }
 
 pub read-admitted :
-    (script : List ℕ) {told : Verdict} {p q count marks : ℕ} → told ≡ verdict_of (read_script script)
-    → told ≡ Verdict.Admitted p q count marks → (g : Given) × Admitted script g
+    (script : List ℕ) {told : Result Told Refusal} {a : Told} → told ≡ verdict_of (read_script script)
+    → told ≡ Ok a → (g : Given) × Admitted script g
 read-admitted script reads v =
     let held = holds-admitted script reads v in (given_by held.matches held.points, admitted_of held.read)
 
@@ -130,10 +129,10 @@ module _ (script : List ℕ) (price : ℕ) (table work : List ℕ) (a : (g : Giv
 -- ---- a call that it passes, by what refining makes
 
 -- the reply of refining and what it leaves, with the case that they are of
-data Made (script table work : List ℕ) : Refined → List ℕ → List ℕ → Type 0 where
-  unread : {r : Refusal} → read_script script ≡ refused r → Made script table work (Refined.Refused r) table work
+data Made (script table work : List ℕ) : Result ℕ Refusal → List ℕ → List ℕ → Type 0 where
+  unread : {r : Refusal} → read_script script ≡ refused r → Made script table work (Err r) table work
   matched :
-      {g : Given} {reply : Refined} {table' work' : List ℕ} → Admitted script g
+      {g : Given} {reply : Result ℕ Refusal} {table' work' : List ℕ} → Admitted script g
       → MatchesCase g table work reply table' work' → Made script table work reply table' work'
 
 -- the same of what a call of refining makes
@@ -163,8 +162,8 @@ pub record Tabled (script table work : List ℕ) (n : ℕ) (table' work' : List 
   pub rows : table' ≡ written (least_of given) table
   pub clear : work' ≡ zeroed work
 
-matched-tabled : {script table work : List ℕ} {g : Given} {reply : Refined} {n : ℕ} {table' work' : List ℕ}
-    → Admitted script g → MatchesCase g table work reply table' work' → reply ≡ Refined.Rows n
+matched-tabled : {script table work : List ℕ} {g : Given} {reply : Result ℕ Refusal} {n : ℕ} {table' work' : List ℕ}
+    → Admitted script g → MatchesCase g table work reply table' work' → reply ≡ Ok n
     → Tabled script table work n table' work'
 matched-tabled a (short h) is = let z : ◌≡◌ {A = ℕ} 0 1 = cc in absurd (omega arith)
 matched-tabled a (crowded enough exceeds) is = let z : ◌≡◌ {A = ℕ} 0 1 = cc in absurd (omega arith)
@@ -172,16 +171,16 @@ matched-tabled {g = g} {n = n} a (writing enough room) is =
     let count : n ≡ length (least_of g) = cc in
     record { given = g; admits = a; enough = enough; room = room; count = count; rows = refl; clear = refl }
 
-made-tabled : {script table work : List ℕ} {reply : Refined} {n : ℕ} {table' work' : List ℕ}
-    → Made script table work reply table' work' → reply ≡ Refined.Rows n → Tabled script table work n table' work'
+made-tabled : {script table work : List ℕ} {reply : Result ℕ Refusal} {n : ℕ} {table' work' : List ℕ}
+    → Made script table work reply table' work' → reply ≡ Ok n → Tabled script table work n table' work'
 made-tabled (unread e) is = let z : ◌≡◌ {A = ℕ} 0 1 = cc in absurd (omega arith)
 made-tabled (matched a m) is = matched-tabled a m is
 
 module _ (script : List ℕ) (price : ℕ) (table work chain scores : List ℕ) (lent : Lent price table chain scores) where
   matched-refused :
-      {g : Given} {reply : Refined} {table' work' : List ℕ} {r : Refusal} → Admitted script g
-      → MatchesCase g table work reply table' work' → reply ≡ Refined.Refused r
-      → Chains script price table work chain scores (Refused r) table' work' chain (scores_after r scores)
+      {g : Given} {reply : Result ℕ Refusal} {table' work' : List ℕ} {r : Refusal} → Admitted script g
+      → MatchesCase g table work reply table' work' → reply ≡ Err r
+      → Chains script price table work chain scores (Err r) table' work' chain (scores_after r scores)
   matched-refused {g = g} {r = r} a (short h) is =
       let same : r ≡ WorkTooShort = cc in
       rw same
@@ -195,9 +194,9 @@ module _ (script : List ℕ) (price : ℕ) (table work chain scores : List ℕ) 
   matched-refused a (writing enough room) is = let z : ◌≡◌ {A = ℕ} 0 1 = cc in absurd (omega arith)
 
   made-refused :
-      {reply : Refined} {table' work' : List ℕ} {r : Refusal} → Made script table work reply table' work'
-      → reply ≡ Refined.Refused r
-      → Chains script price table work chain scores (Refused r) table' work' chain (scores_after r scores)
+      {reply : Result ℕ Refusal} {table' work' : List ℕ} {r : Refusal} → Made script table work reply table' work'
+      → reply ≡ Err r
+      → Chains script price table work chain scores (Err r) table' work' chain (scores_after r scores)
   made-refused {r = r} (unread {r = f} e) is =
       let same : r ≡ f = cc in
       let other = ne_eqb (number_of f) 12 (script-twelve (read-outcome e)) in
@@ -235,8 +234,8 @@ module _ (script : List ℕ) (price : ℕ) (table work chain scores : List ℕ) 
           backbone-unique best (rw tabled-rows at f.backbone)
 
       pub tabled-found :
-          Chains script price table work chain scores (Best found.score n found.length) table' work'' chain'
-          scores'
+          Chains script price table work chain scores
+          (Ok (record { score = found.score; rows = n; length = found.length })) table' work'' chain' scores'
       tabled-found =
           let ks = backbone_of price (least_rows t.given) in
           let long : found.length ≡ length ks =
@@ -260,18 +259,18 @@ scores-kept r scores named other = rw (ne_eqb (number_of r) 12 (λ e. other (nam
 
 -- ---- by the equations that refining ensures
 
-module _ (script table work : List ℕ) {reply : Refined} {table' work' : List ℕ}
+module _ (script table work : List ℕ) {reply : Result ℕ Refusal} {table' work' : List ℕ}
     (replies : reply ≡ (refining_of script table work).reply) (tables : table' ≡ (refining_of script table work).table)
     (works : work' ≡ (refining_of script table work).work) where
   is_made : Made script table work reply table' work'
   is_made = rw (replies, tables, works) (made script table work)
 
-  pub refined-tabled : {n : ℕ} → reply ≡ Refined.Rows n → Tabled script table work n table' work'
+  pub refined-tabled : {n : ℕ} → reply ≡ Ok n → Tabled script table work n table' work'
   refined-tabled is = made-tabled is_made is
 
   pub refined-refused :
       (price : ℕ) (chain scores : List ℕ) {r : Refusal} {scores' : List ℕ} → Lent price table chain scores
-      → reply ≡ Refined.Refused r → scores' ≡ scores_after r scores
-      → Chains script price table work chain scores (Refused r) table' work' chain scores'
+      → reply ≡ Err r → scores' ≡ scores_after r scores
+      → Chains script price table work chain scores (Err r) table' work' chain scores'
   refined-refused price chain scores lent is after =
       rw after (made-refused script price table work chain scores lent is_made is)

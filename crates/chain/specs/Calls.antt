@@ -4,7 +4,7 @@
 --     scores_after      the score buffer where refining refuses
 --     Chains           the whole call
 -- Assumes nothing.
-use Rattle.std.specs.Prelude.{ℕ, ◌≡◌, Bool, cond, ◌&&◌, List, leb, eqb}
+use Rattle.std.specs.Prelude.{ℕ, ◌≡◌, Bool, cond, ◌&&◌, List, leb, eqb, Result}
 use Rattle.script.specs.Refusals.{number_of}
 use Rattle.script.specs.declared.refusal.Refusal.{Refusal}
 use Rattle.refining.specs.Refining.{zeroed}
@@ -29,7 +29,7 @@ scores_after r scores = cond (eqb (number_of r) 12) (zeroed scores) scores
 
 -- the whole call
 abbrev pub Chains :
-    List ℕ → ℕ → List ℕ → List ℕ → List ℕ → List ℕ → Chained → List ℕ → List ℕ → List ℕ → List ℕ → Type 0
+    List ℕ → ℕ → List ℕ → List ℕ → List ℕ → List ℕ → Result Chained Refusal → List ℕ → List ℕ → List ℕ → List ℕ → Type 0
 Chains script price table work chain scores reply table' work' chain' scores' =
     chaining_of script price table work chain scores
     ≡ record { reply = reply; table = table'; work = work'; chain = chain'; scores = scores' }

@@ -11,10 +11,9 @@ use clearing::clear;
 use finding_chain::find_chain;
 use reader::read;
 use refine::refine;
-use refining::answers::Refined;
 use refusals::number_of;
 use rows::{ROW_WIDTH, row_count};
-use script::{Refusal, Verdict};
+use script::Refusal;
 
 // The highest gap price.
 const MOST_PRICE: u32 = 1000;
@@ -35,20 +34,15 @@ fn refuse(script: &[u8], price: u32, table: &[u32], work: &[u32]) -> Refusal
     ensures { Refuses script.now price table.now work.now result }
 {
     match read(script) {
-        Verdict::Refused(refusal) => refusal,
-        Verdict::Admitted {
-            p: _,
-            q: _,
-            count: _,
-            marks: _,
-        } => {
+        Err(refusal) => refusal,
+        Ok(_) => {
             if work.len() < 4 * row_count(table) {
-                return Refusal::WorkTooShort;
+                Refusal::WorkTooShort
+            } else if price > MOST_PRICE {
+                Refusal::PriceTooHigh
+            } else {
+                Refusal::ChainTooShort
             }
-            if price > MOST_PRICE {
-                return Refusal::PriceTooHigh;
-            }
-            Refusal::ChainTooShort
         }
     }
 }
@@ -70,23 +64,23 @@ fn chain_lent(
     work: &mut [u32],
     chain: &mut [u32],
     scores: &mut [u32],
-) -> Chained
+) -> Result<Chained, Refusal>
     requires { Lent price table.old chain.old scores.old }
     ensures { Chains script.now price table.old work.old chain.old
         scores.old result table.new work.new chain.new scores.new }
 {
     match refine(script, table, work) {
-        Refined::Refused(refusal) => {
+        Err(refusal) => {
             clear_after(refusal, scores);
-            Chained::Refused(refusal)
+            Err(refusal)
         }
-        Refined::Rows(rows) => {
+        Ok(rows) => {
             let found = find_chain(&table[..ROW_WIDTH * rows], price, work, chain, scores);
-            Chained::Best {
+            Ok(Chained {
                 score: found.score,
                 rows,
                 length: found.length,
-            }
+            })
         }
     }
 }
@@ -100,7 +94,7 @@ pub fn chain(
     work: &mut [u32],
     chain: &mut [u32],
     scores: &mut [u32],
-) -> Chained
+) -> Result<Chained, Refusal>
     ensures reply { result
         ≡ (chaining_of script.now price table.old work.old chain.old
         scores.old).reply }
@@ -121,7 +115,8 @@ pub fn chain(
         scores.new }
 {
     if admits(price, row_count(table), chain.len(), scores.len()) {
-        return chain_lent(script, price, table, work, chain, scores);
+        chain_lent(script, price, table, work, chain, scores)
+    } else {
+        Err(refuse(script, price, table, work))
     }
-    Chained::Refused(refuse(script, price, table, work))
 }

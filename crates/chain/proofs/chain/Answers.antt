@@ -15,8 +15,8 @@ returns-then-admits-clause-demand c =
     let made = chaining-contract a.script.now a.price a.table.now a.work.now a.chain.now a.scores.now c.chain_lent.ensures in
     made.1.1.1.1.1
 
-pub returns : goal.returns
-returns c =
+pub returns-else-admits : goal.returns-else-admits
+returns-else-admits c =
     let a = c.args in
     let unlent = admitting-unlent a.price a.table.now a.chain.now a.scores.now c.row_count.ensures c.admits.ensures
     c.if-admits.false in

@@ -11,24 +11,24 @@ overflow_mul-row_count c =
 pub returns-then-work-row_count : goal.returns-then-work-row_count
 returns-then-work-row_count c =
     let a = c.args in
-    let given = read-admitted a.script.now c.read.ensures.value c.in-Admitted.is in
+    let given = read-admitted a.script.now c.read.ensures.value c.in-Ok.is in
     refuse-work a.script.now a.price a.table.now a.work.now given
     (omega (arith, rows-length a.table.now))
 
 pub returns-then-price-gt-MOST_PRICE : goal.returns-then-price-gt-MOST_PRICE
 returns-then-price-gt-MOST_PRICE c =
     let a = c.args in
-    let given = read-admitted a.script.now c.read.ensures.value c.in-Admitted.is in
+    let given = read-admitted a.script.now c.read.ensures.value c.in-Ok.is in
     refuse-price a.script.now a.price a.table.now a.work.now given
     (omega (arith, rows-length a.table.now)) (omega arith)
 
-pub returns-in-Refused : goal.returns-in-Refused
-returns-in-Refused c =
-    refuse-script _ _ _ _ c.read.ensures.value c.in-Refused.is
+pub returns-in-Err : goal.returns-in-Err
+returns-in-Err c =
+    refuse-script _ _ _ _ c.read.ensures.value c.in-Err.is
 
 pub returns-else-price-gt-MOST_PRICE : goal.returns-else-price-gt-MOST_PRICE
 returns-else-price-gt-MOST_PRICE c =
     let a = c.args in
-    let given = read-admitted a.script.now c.read.ensures.value c.in-Admitted.is in
+    let given = read-admitted a.script.now c.read.ensures.value c.in-Ok.is in
     refuse-chain a.script.now a.price a.table.now a.work.now given
     (omega (arith, rows-length a.table.now)) (omega arith)
