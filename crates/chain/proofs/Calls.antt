@@ -3,18 +3,17 @@
 --     read-admitted                         what an admitted script gives
 --     refuse-script, refuse-work, refuse-price, refuse-chain
 --                                           a call that the test does not pass: the script's refusal, 11, 17, 18
---     scores-cleared, scores-kept           the score buffer after a refusal
 --     Tabled                                the rows that refining makes
 --     tabled-findable, tabled-found         the backbone of them, before it is looked for and when it is found
 --     refined-tabled, refined-refused       what refining ensures is one of two: rows, or a refusal
 -- Assumes nothing.
 use Prim.Native.Nat.{ℕ, ◌*◌, ◌≤◌, ◌<◌}
 use mathlib.Core.Path.{◌≡◌, refl, sym, ap, ◌∙◌}
-use mathlib.Core.Logic.{◌≢◌, ⊎_elim}
+use mathlib.Core.Logic.{⊎_elim}
 use mathlib.Core.Bool.{Bool, true, false, ◌&&◌, false≢true}
 use mathlib.Core.List.{List, ◌++◌}
 use native.Mathlib.Omega.{arith}
-use borrow.Author.Tests.{leb-true, le-leb, eq-eqb, ne_eqb}
+use borrow.Author.Tests.{leb-true, le-leb, ne_eqb}
 use lib.Dec.{leb}
 use lib.ListN.{length, take, drop, replicate, length-take, length-replicate, take-append-drop}
 use Rattle.std.specs.Prelude.{Result, Ok, Err}
@@ -246,16 +245,6 @@ module _ (script : List ℕ) (price : ℕ) (table work chain scores : List ℕ) 
           rw (found-unique.1, t.count, long, t.rows, clear, chained, f.scores_zero)
           (chaining-admitted script price table work chain scores t.admits
           ∙ call-found t.given price table work chain scores t.enough lent t.room)
-
--- ---- the score buffer after a refusal
-
-pub scores-cleared :
-    (r : Refusal) (scores : List ℕ) {n : ℕ} {scores' : List ℕ} → n ≡ number_of r → n ≡ 12 → scores' ≡ zeroed scores
-    → scores' ≡ scores_after r scores
-scores-cleared r scores named twelve is = rw (eq-eqb (number_of r) 12 (sym named ∙ twelve)) is
-
-pub scores-kept : (r : Refusal) (scores : List ℕ) {n : ℕ} → n ≡ number_of r → n ≢ 12 → scores ≡ scores_after r scores
-scores-kept r scores named other = rw (ne_eqb (number_of r) 12 (λ e. other (named ∙ e)))
 
 -- ---- by the equations that refining ensures
 
