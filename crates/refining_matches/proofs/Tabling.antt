@@ -1,4 +1,6 @@
 -- From what the closure and the writing of the rows ensure to what refining the matches of a script ensures.
+--     told-good, crowded-tabled
+--                        what the closure's answer tells: a good set of cuts, or that no table has room
 --     cuts-writable      a set that holds all cuts of A, joined into one run, is what writing the rows needs
 --     rows-tabled        the rows written are the least table
 --     short_refined      the work buffer is too short, which is the call's outcome
@@ -8,21 +10,21 @@
 --                        refined
 -- Assumes nothing.
 use Prim.Native.Nat.{ℕ, ◌≤◌, ◌<◌}
-use mathlib.Core.Path.{◌≡◌, sym, ap, subst, ◌∙◌}
+use mathlib.Core.Path.{◌≡◌, refl, sym, ap, subst, ◌∙◌}
 use mathlib.Core.Logic.{◌↔◌}
 use mathlib.Core.Bool.{Bool}
 use mathlib.Core.List.{List}
 use native.Mathlib.Omega.{arith}
 use lib.ListN.{length, replicate}
 use lib.Seq.{slice, sets}
-use Rattle.script.specs.declared.refusal.Refusal.TheVariants.{WorkTooShort}
+use Rattle.script.specs.declared.refusal.Refusal.TheVariants.{TooManyPieces, WorkTooShort}
 use Rattle.refinement.specs.declared.Side.{Side}
 use Rattle.refinement.specs.Order.{◌∈◌}
 use Rattle.refinement.specs.Match.{Match, Place}
 use Rattle.refinement.specs.Cut.{end, left_end, right_end}
 use Rattle.refinement.specs.Refinement.{Matches}
 use Rattle.runs.specs.Runs.{In}
-use Rattle.cut_set.specs.Store.{Joined}
+use Rattle.cut_set.specs.Store.{Good, Joined}
 use Rattle.cut_set.specs.declared.CutSet.{CutSet}
 use Rattle.reading_cuts.specs.Reading.{AllPlaces}
 use Rattle.reading_cuts.specs.declared.Places.{Places}
@@ -47,6 +49,16 @@ told_cuts :
     {g : Given} {cap : ℕ} {ys : List ℕ} {answer : Result CutSet TooMany} {s : CutSet} → Closure g cap ys answer
     → answer ≡ Ok s → AllCutsOfA g cap ys s
 told_cuts {g} {cap} {ys} h e = subst (Closure g cap ys) e h
+
+pub told-good :
+    (g : Given) (cap : ℕ) (ys : List ℕ) {answer : Result CutSet TooMany} {s : CutSet} → answer ≡ Ok s
+    → Closure g cap ys answer → Good ys s
+told-good g cap ys e h = (told_cuts h e).good
+
+pub crowded-tabled :
+    (g : Given) (table ys : List ℕ) {answer : Result CutSet TooMany} → {e : TooMany} → answer ≡ Err e
+    → Closure g (capacity_of table) ys answer → Tabled g table table (Err TooManyPieces)
+crowded-tabled g table ys e h = (refl, subst (Closure g (capacity_of table) ys) e h, refl)
 
 module _ {columns : Columns} (fit : Fit columns) (marks : List Place) (table : List ℕ) {xs ys : List ℕ}
     {s t : CutSet} {run : Places} {answer : Result CutSet TooMany} (told : answer ≡ Ok s)
