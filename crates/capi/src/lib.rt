@@ -399,8 +399,10 @@ pub extern "C" fn notchergrey_summary(
     let summary = sum_up(table);
     *pieces = summary.pieces;
     *distinct = summary.distinct;
-    *covers = summary.covers;
-    *classes = summary.classes;
+    let letters = summary.covers;
+    *covers = letters;
+    let counts = summary.classes;
+    *classes = counts;
     0
 }
 
