@@ -1,5 +1,4 @@
 -- A script is put over a whole buffer.
---     put-length                    what is put keeps the buffer's length
 --     put_whole                     what is put over a whole buffer is what it holds
 --     directs-next, directs-length  one match more, and how many bytes they have
 -- Assumes nothing.
@@ -9,12 +8,9 @@ use mathlib.Core.List.{List, ◌++◌, append-nil}
 use native.Mathlib.Omega.{arith}
 use native.Mathlib.Numerals.{add-one}
 use lib.ListN.{length, length-append, drop_of_length-le}
-use lib.Seq.{sets-eq, length-sets}
+use lib.Seq.{sets-eq}
 use Rattle.text.specs.Putting.{Put}
 use Rattle.edge_lines.specs.Scripts.{direct, directs}
-
-pub put-length : {xs t t' : List ℕ} {at n : ℕ} → Put xs t at t' n → length t' ≡ length t
-put-length p = ap length p.stored ∙ simp length-sets
 
 pub put_whole : {xs t t' : List ℕ} {n : ℕ} → Put xs t 0 t' n → length xs ≡ length t → t' ≡ xs
 put_whole {xs} {t} p whole =
