@@ -17,6 +17,6 @@ returns c =
     let a = c.args in
     let able = c.requires.able in
     step-taken
-    (λ w. lane_to w (columns_in a.matches.now) a.groups.now
-    a.count a.from_at a.to_at)
+    (λ w. lane_to w (columns_in a.grouped.now.matches) a.grouped.now.groups.now
+    a.grouped.now.count a.from_at a.to_at)
     able.from_shelf able.halves c.in_ok-taken.ensures c.gather_sets.ensures c.finish_sets.ensures c.finish_sets.auto.work
