@@ -7,7 +7,7 @@ ghost use Rattle.match_columns.specs.Held.{columns_in};
 ghost use Rattle.stepping.specs.Steps.{Given, Opened, Goes};
 
 use carrying_group::TooMany;
-use match_columns::MatchColumns;
+use grouped_matches::GroupedMatches;
 use shelving::any_found;
 use taking::take_step;
 
@@ -31,46 +31,39 @@ pub enum Closing {
 // SCOPE, "Least cuts": the new cuts on A are carried to B by every match that spans them. The budget bounds the stack.
 #[cycle(a_step_b_step)]
 pub fn a_step(
-    matches: &MatchColumns<'_>,
-    straight: &[bool],
+    grouped: &GroupedMatches<'_>,
     index_a: &[u32],
     index_b: &[u32],
-    groups: &[usize],
     work: &mut [u32],
     book_a: &mut [usize],
     book_b: &mut [usize],
-    count: usize,
-    sets: usize,
     counts: Counts,
     capacity: usize,
     budget: u32,
 ) -> Result<Closing, TooMany>
-    requires given { Given (columns_in matches.now) straight.now index_a.now index_b.now groups.now count sets }
-    requires opened { Opened (columns_in matches.now) groups.now count sets capacity work.old book_a.old book_b.old
-        counts Side.A }
-    ensures { Goes (columns_in matches.now) groups.now count sets capacity work.old book_a.old book_b.old counts
-        Side.A work.new book_a.new book_b.new result }
+    requires given { Given (columns_in grouped.now.matches) grouped.now.straight.now index_a.now index_b.now
+        grouped.now.groups.now grouped.now.count grouped.now.sets }
+    requires opened { Opened (columns_in grouped.now.matches) grouped.now.groups.now grouped.now.count
+        grouped.now.sets capacity work.old book_a.old book_b.old counts Side.A }
+    ensures { Goes (columns_in grouped.now.matches) grouped.now.groups.now grouped.now.count grouped.now.sets capacity
+        work.old book_a.old book_b.old counts Side.A work.new book_a.new book_b.new result }
 {
     let taken = take_step(
-        matches,
-        straight,
+        grouped,
         index_a,
         index_b,
-        groups,
         book_a,
         work,
         book_b,
-        count,
         1,
         2,
-        sets,
         0,
         2 * capacity,
         2 * capacity,
         4 * capacity,
         counts.over_a,
         counts.along_a,
-        capacity + matches.reversed.len(),
+        capacity + grouped.matches.reversed.len(),
         false,
     )?;
     let next = Counts {
@@ -78,23 +71,19 @@ pub fn a_step(
         along_a: taken.along,
         ..counts
     };
-    if !any_found(book_b, sets) {
+    if !any_found(book_b, grouped.sets) {
         return Ok(Closing::Done);
     }
     if budget == 0 {
         return Ok(Closing::MoreB(next));
     }
     b_step(
-        matches,
-        straight,
+        grouped,
         index_a,
         index_b,
-        groups,
         work,
         book_a,
         book_b,
-        count,
-        sets,
         next,
         capacity,
         budget - 1,
@@ -105,46 +94,39 @@ pub fn a_step(
 // start.
 #[cycle(a_step_b_step)]
 pub fn b_step(
-    matches: &MatchColumns<'_>,
-    straight: &[bool],
+    grouped: &GroupedMatches<'_>,
     index_a: &[u32],
     index_b: &[u32],
-    groups: &[usize],
     work: &mut [u32],
     book_a: &mut [usize],
     book_b: &mut [usize],
-    count: usize,
-    sets: usize,
     counts: Counts,
     capacity: usize,
     budget: u32,
 ) -> Result<Closing, TooMany>
-    requires given { Given (columns_in matches.now) straight.now index_a.now index_b.now groups.now count sets }
-    requires opened { Opened (columns_in matches.now) groups.now count sets capacity work.old book_a.old book_b.old
-        counts Side.B }
-    ensures { Goes (columns_in matches.now) groups.now count sets capacity work.old book_a.old book_b.old counts
-        Side.B work.new book_a.new book_b.new result }
+    requires given { Given (columns_in grouped.now.matches) grouped.now.straight.now index_a.now index_b.now
+        grouped.now.groups.now grouped.now.count grouped.now.sets }
+    requires opened { Opened (columns_in grouped.now.matches) grouped.now.groups.now grouped.now.count
+        grouped.now.sets capacity work.old book_a.old book_b.old counts Side.B }
+    ensures { Goes (columns_in grouped.now.matches) grouped.now.groups.now grouped.now.count grouped.now.sets capacity
+        work.old book_a.old book_b.old counts Side.B work.new book_a.new book_b.new result }
 {
     let taken = take_step(
-        &matches.turned(),
-        straight,
+        &grouped.turned(),
         index_b,
         index_a,
-        groups,
         book_b,
         work,
         book_a,
-        count,
         2,
         1,
-        sets,
         2 * capacity,
         4 * capacity,
         0,
         2 * capacity,
         counts.over_b,
         counts.along_b,
-        capacity + matches.reversed.len(),
+        capacity + grouped.matches.reversed.len(),
         true,
     )?;
     let next = Counts {
@@ -152,23 +134,19 @@ pub fn b_step(
         along_b: taken.along,
         ..counts
     };
-    if !any_found(book_a, sets) {
+    if !any_found(book_a, grouped.sets) {
         return Ok(Closing::Done);
     }
     if budget == 0 {
         return Ok(Closing::MoreA(next));
     }
     a_step(
-        matches,
-        straight,
+        grouped,
         index_a,
         index_b,
-        groups,
         work,
         book_a,
         book_b,
-        count,
-        sets,
         next,
         capacity,
         budget - 1,

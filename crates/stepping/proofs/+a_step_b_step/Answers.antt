@@ -81,7 +81,7 @@ a_step-returns t c =
     λ marks held.
     let fit = grouped-fit given.groups given.fit refl marks in
     goes_on
-    (columns_in a.matches.now) a.groups.now a.count a.sets
+    (columns_in a.grouped.now.matches) a.grouped.now.groups.now a.grouped.now.count a.grouped.now.sets
     a.capacity marks _ _ _ _ _
     (step_less given.groups held fit after (hits_of next) c.in_ok-taken.ensures (λ w. refl) some) c.b_step.result
     (c.b_step.ensures marks
@@ -101,12 +101,13 @@ b_step-overflow_add-capacity t c = let within = halves-within c.requires.opened.
 
 pub b_step-take_step-requires-clause-able : goal.b_step-take_step-requires-clause-able
 b_step-take_step-requires-clause-able t c =
-    rw (c.turned.ensures.reversed) (step-able c.requires.given.groups c.requires.opened.1)
+    rw (c.turned.ensures.reversed, c.turned.ensures.groups, c.turned.ensures.count, c.turned.ensures.sets) (step-able c.requires.given.groups c.requires.opened.1)
 
 pub b_step-returns-then-not-any_found : goal.b_step-returns-then-not-any_found
 b_step-returns-then-not-any_found t c =
     let lent = c.turned.ensures in
-    let taken = rw (lent.lefts, lent.rights, lent.other_lefts, lent.other_rights, lent.reversed) at c.in_ok-taken.ensures in
+    let taken = rw (lent.lefts, lent.rights, lent.other_lefts, lent.other_rights, lent.reversed, lent.groups, lent.count,
+    lent.sets) at c.in_ok-taken.ensures in
     let given = c.requires.given in
     let after = books_of c.take_step.new.book c.take_step.new.from_book in
     let next : Counts = record { over_a = c.args.counts.over_a; over_b = c.in_ok-taken.taken.over; along_a = c.args.counts.along_a; along_b = c.in_ok-taken.taken.along } in
@@ -117,7 +118,8 @@ b_step-returns-then-not-any_found t c =
 pub b_step-returns-then-budget-eq0 : goal.b_step-returns-then-budget-eq0
 b_step-returns-then-budget-eq0 t c =
     let lent = c.turned.ensures in
-    let taken = rw (lent.lefts, lent.rights, lent.other_lefts, lent.other_rights, lent.reversed) at c.in_ok-taken.ensures in
+    let taken = rw (lent.lefts, lent.rights, lent.other_lefts, lent.other_rights, lent.reversed, lent.groups, lent.count,
+    lent.sets) at c.in_ok-taken.ensures in
     let given = c.requires.given in
     let after = books_of c.take_step.new.book c.take_step.new.from_book in
     let next : Counts = record { over_a = c.args.counts.over_a; over_b = c.in_ok-taken.taken.over; along_a = c.args.counts.along_a; along_b = c.in_ok-taken.taken.along } in
@@ -131,7 +133,8 @@ b_step-returns-then-budget-eq0 t c =
 pub b_step-a_step-requires : goal.b_step-a_step-requires
 b_step-a_step-requires t c =
     let lent = c.turned.ensures in
-    let taken = rw (lent.lefts, lent.rights, lent.other_lefts, lent.other_rights, lent.reversed) at c.in_ok-taken.ensures in
+    let taken = rw (lent.lefts, lent.rights, lent.other_lefts, lent.other_rights, lent.reversed, lent.groups, lent.count,
+    lent.sets) at c.in_ok-taken.ensures in
     let given = c.requires.given in
     let after = books_of c.take_step.new.book c.take_step.new.from_book in
     let next : Counts = record { over_a = c.args.counts.over_a; over_b = c.in_ok-taken.taken.over; along_a = c.args.counts.along_a; along_b = c.in_ok-taken.taken.along } in
@@ -149,7 +152,8 @@ b_step-a_step-requires t c =
 pub b_step-returns-in_err-taken : goal.b_step-returns-in_err-taken
 b_step-returns-in_err-taken t c =
     let lent = c.turned.ensures in
-    let taken = rw (lent.lefts, lent.rights, lent.other_lefts, lent.other_rights, lent.reversed) at c.in_err-taken.ensures in
+    let taken = rw (lent.lefts, lent.rights, lent.other_lefts, lent.other_rights, lent.reversed, lent.groups, lent.count,
+    lent.sets) at c.in_err-taken.ensures in
     let given = c.requires.given in
     let p = err_from_is_err_and c.from_residual.result c.from_residual.ensures.1 in
     λ marks held.
@@ -158,7 +162,8 @@ b_step-returns-in_err-taken t c =
 pub b_step-returns : goal.b_step-returns
 b_step-returns t c =
     let lent = c.turned.ensures in
-    let taken = rw (lent.lefts, lent.rights, lent.other_lefts, lent.other_rights, lent.reversed) at c.in_ok-taken.ensures in
+    let taken = rw (lent.lefts, lent.rights, lent.other_lefts, lent.other_rights, lent.reversed, lent.groups, lent.count,
+    lent.sets) at c.in_ok-taken.ensures in
     let a = c.args in
     let given = c.requires.given in
     let after = books_of c.take_step.new.book c.take_step.new.from_book in
@@ -167,7 +172,7 @@ b_step-returns t c =
     λ marks held.
     let fit = grouped-fit given.groups given.fit refl marks in
     goes_on
-    (columns_in a.matches.now) a.groups.now a.count a.sets
+    (columns_in a.grouped.now.matches) a.grouped.now.groups.now a.grouped.now.count a.grouped.now.sets
     a.capacity marks _ _ _ _ _
     (step_less given.groups held fit after (hits_of next) taken (λ w. refl) some) c.a_step.result
     (c.a_step.ensures marks

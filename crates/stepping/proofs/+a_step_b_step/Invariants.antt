@@ -4,7 +4,7 @@ use Rattle.tracks.specs.Engine.{books_of, unused}
 use Rattle.stepping.proofs.+a_step_b_step.Given as goal
 
 abbrev pub decreases-a_step : goal.decreases-a_step
-decreases-a_step l = unused (books_of l.book_a.now l.book_b.now) l.sets l.capacity
+decreases-a_step l = unused (books_of l.book_a.now l.book_b.now) l.grouped.now.sets l.capacity
 
 abbrev pub decreases-b_step : goal.decreases-b_step
-decreases-b_step l = unused (books_of l.book_a.now l.book_b.now) l.sets l.capacity
+decreases-b_step l = unused (books_of l.book_a.now l.book_b.now) l.grouped.now.sets l.capacity
