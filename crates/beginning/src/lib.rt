@@ -1,7 +1,7 @@
 // Where the closure begins: empty sets, the first cuts in them, and the first steps.
 #![tactic(auto)]
 
-ghost use Rattle.std.specs.Prelude.{◌≡◌, false, ◌*◌, ◌≤◌, length, replicate};
+ghost use Rattle.std.specs.Prelude.{◌≡◌, ◌*◌, ◌≤◌, length};
 ghost use Rattle.match_columns.specs.Held.{columns_in};
 ghost use Rattle.shelving.specs.AllSets.{Layable, LaidOut};
 ghost use Rattle.tracks.specs.Tracks.{marks_of};
@@ -12,6 +12,7 @@ ghost use Rattle.beginning.specs.Beginning.{Lent, Sowing};
 
 use carrying_group::TooMany;
 use driving::BUDGET;
+use grouped_matches::GroupedMatches;
 use match_columns::MatchColumns;
 use seeding::{plant, sow_groups, want};
 use shelving::{gather_sets, lay_out};
@@ -143,28 +144,29 @@ fn sow_all(
 
 // Begins: the first cuts are sown, and the first steps go without an index.
 pub fn begin(
-    matches: &MatchColumns<'_>,
-    straight: &[bool],
-    groups: &[usize],
+    grouped: &GroupedMatches<'_>,
     mark_tracks: &[u8],
     mark_positions: &[u32],
     work: &mut [u32],
     book_a: &mut [usize],
     book_b: &mut [usize],
-    count: usize,
-    sets: usize,
     capacity: usize,
 ) -> Result<Closing, TooMany>
-    requires lent { Lent (columns_in matches.now) groups.now mark_tracks.now mark_positions.now count sets }
-    requires reversed_len_bound { length matches.now.reversed.now ≤ 4294967296 }
-    requires straight_value { straight.now ≡ replicate (length matches.now.reversed.now) false }
-    requires sets_bound { sets ≤ 16 }
-    requires book_a_len { length book_a.old ≡ 8 * sets }
-    requires book_b_len { length book_b.old ≡ 8 * sets }
+    requires lent { Lent (columns_in grouped.now.matches) grouped.now.groups.now mark_tracks.now mark_positions.now
+        grouped.now.count grouped.now.sets }
+    requires sets_bound { grouped.now.sets ≤ 16 }
+    requires book_a_len { length book_a.old ≡ 8 * grouped.now.sets }
+    requires book_b_len { length book_b.old ≡ 8 * grouped.now.sets }
     requires capacity_in_bounds { 4 * capacity ≤ length work.old }
-    ensures { Driving (columns_in matches.now) groups.now count (marks_of mark_tracks.now mark_positions.now) sets
-        capacity work.new book_a.new book_b.new result }
+    ensures { Driving (columns_in grouped.now.matches) grouped.now.groups.now grouped.now.count (marks_of
+        mark_tracks.now mark_positions.now) grouped.now.sets capacity work.new book_a.new book_b.new result }
 {
+    let GroupedMatches {
+        groups,
+        count,
+        sets,
+        ..
+    } = *grouped;
     lay_side(groups, work, book_a, count, 1, sets, 0, 2 * capacity);
     lay_side(
         groups,
@@ -177,7 +179,7 @@ pub fn begin(
         4 * capacity,
     );
     if !sow_all(
-        matches,
+        &grouped.matches,
         groups,
         mark_tracks,
         mark_positions,
@@ -197,16 +199,12 @@ pub fn begin(
         along_b: 0,
     };
     a_step(
-        matches,
-        straight,
+        grouped,
         &[],
         &[],
-        groups,
         work,
         book_a,
         book_b,
-        count,
-        sets,
         none,
         capacity,
         BUDGET,

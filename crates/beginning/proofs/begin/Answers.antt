@@ -18,6 +18,6 @@ returns c =
     let begun = sown-open _ _ _ _ _ _ _ c.if-not-sow_all.false c.sow_all.ensures in
     let marks = marks_of a.mark_tracks.now a.mark_positions.now in
     going-driving
-    (columns_in a.matches.now) a.groups.now
-    a.count a.sets a.capacity _ _ _ _ marks c.a_step.result
+    (columns_in a.grouped.now.matches) a.grouped.now.groups.now
+    a.grouped.now.count a.grouped.now.sets a.capacity _ _ _ _ marks c.a_step.result
     (c.a_step.ensures marks (rw (sym no-hits) begun))
