@@ -11,6 +11,7 @@ ghost use Rattle.closing_two.specs.FirstEdition.{two_groups, Closure};
 use carrying_group::TooMany;
 use closing::close;
 use cut_set::CutSet;
+use grouped_matches::GroupedMatches;
 use match_columns::MatchColumns;
 use shelf::load;
 
@@ -38,10 +39,15 @@ fn close_lent(
     ensures { Closure (held_in (columns_in matches.now) (marks_of mark_sides.now mark_positions.now)) capacity
         work.new result }
 {
-    close(
-        matches,
+    let grouped = GroupedMatches {
+        matches: *matches,
         straight,
         groups,
+        count: 1,
+        sets: 2,
+    };
+    close(
+        &grouped,
         mark_sides,
         mark_positions,
         index_a,
@@ -49,8 +55,6 @@ fn close_lent(
         work,
         book_a,
         book_b,
-        1,
-        2,
         capacity,
     )?;
     Ok(load(book_a, 0))

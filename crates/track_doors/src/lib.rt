@@ -10,6 +10,7 @@ ghost use Rattle.tracks.specs.Groups.{Groups, grouped};
 ghost use Rattle.track_doors.specs.Doors.{ClosedBy};
 
 use closing::close;
+use grouped_matches::GroupedMatches;
 use match_columns::MatchColumns;
 
 // Whether all cuts have room. Then they are in the sets that the two books tell.
@@ -56,10 +57,15 @@ pub extern "C" fn close_tracks(
         other_rights: right_b,
         reversed,
     };
-    close(
-        &matches,
+    let grouped_matches = GroupedMatches {
+        matches,
         straight,
         groups,
+        count,
+        sets,
+    };
+    close(
+        &grouped_matches,
         mark_tracks,
         mark_positions,
         index_a,
@@ -67,8 +73,6 @@ pub extern "C" fn close_tracks(
         work,
         book_a,
         book_b,
-        count,
-        sets,
         capacity,
     )
     .is_ok()
