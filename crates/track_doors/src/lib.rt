@@ -15,14 +15,14 @@ use match_columns::MatchColumns;
 
 // Whether all cuts have room. Then they are in the sets that the two books tell.
 #[unsafe(no_mangle)]
-pub extern "C" fn close_tracks(
-    left_a: &[u32],
-    right_a: &[u32],
-    left_b: &[u32],
-    right_b: &[u32],
-    reversed: &[bool],
-    straight: &[bool],
-    groups: &[usize],
+pub extern "C" fn close_tracks<'a>(
+    left_a: &'a [u32],
+    right_a: &'a [u32],
+    left_b: &'a [u32],
+    right_b: &'a [u32],
+    reversed: &'a [bool],
+    straight: &'a [bool],
+    groups: &'a [usize],
     mark_tracks: &[u8],
     mark_positions: &[u32],
     index_a: &mut [u32],

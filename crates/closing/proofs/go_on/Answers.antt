@@ -11,3 +11,8 @@ pub returns : goal.returns
 returns c =
     let a = c.args in
     c.drive-2.ensures (marks_of a.mark_tracks.now a.mark_positions.now) c.requires.driving
+
+pub drive-requires-clause-driven : goal.drive-requires-clause-driven
+drive-requires-clause-driven c =
+    let a = c.args in
+    (marks_of a.mark_tracks.now a.mark_positions.now, c.requires.driving)

@@ -106,8 +106,16 @@ b_step-take_step-requires-clause-able t c =
 pub b_step-returns-then-not-any_found : goal.b_step-returns-then-not-any_found
 b_step-returns-then-not-any_found t c =
     let lent = c.turned.ensures in
-    let taken = rw (lent.lefts, lent.rights, lent.other_lefts, lent.other_rights, lent.reversed, lent.groups, lent.count,
-    lent.sets) at c.in_ok-taken.ensures in
+    let taken = rw (
+      lent.lefts,
+      lent.rights,
+      lent.other_lefts,
+      lent.other_rights,
+      lent.reversed,
+      lent.groups,
+      lent.count,
+      lent.sets,
+    ) at c.in_ok-taken.ensures in
     let given = c.requires.given in
     let after = books_of c.take_step.new.book c.take_step.new.from_book in
     let next : Counts = record { over_a = c.args.counts.over_a; over_b = c.in_ok-taken.taken.over; along_a = c.args.counts.along_a; along_b = c.in_ok-taken.taken.along } in
@@ -118,8 +126,16 @@ b_step-returns-then-not-any_found t c =
 pub b_step-returns-then-budget-eq0 : goal.b_step-returns-then-budget-eq0
 b_step-returns-then-budget-eq0 t c =
     let lent = c.turned.ensures in
-    let taken = rw (lent.lefts, lent.rights, lent.other_lefts, lent.other_rights, lent.reversed, lent.groups, lent.count,
-    lent.sets) at c.in_ok-taken.ensures in
+    let taken = rw (
+      lent.lefts,
+      lent.rights,
+      lent.other_lefts,
+      lent.other_rights,
+      lent.reversed,
+      lent.groups,
+      lent.count,
+      lent.sets,
+    ) at c.in_ok-taken.ensures in
     let given = c.requires.given in
     let after = books_of c.take_step.new.book c.take_step.new.from_book in
     let next : Counts = record { over_a = c.args.counts.over_a; over_b = c.in_ok-taken.taken.over; along_a = c.args.counts.along_a; along_b = c.in_ok-taken.taken.along } in
@@ -133,8 +149,16 @@ b_step-returns-then-budget-eq0 t c =
 pub b_step-a_step-requires : goal.b_step-a_step-requires
 b_step-a_step-requires t c =
     let lent = c.turned.ensures in
-    let taken = rw (lent.lefts, lent.rights, lent.other_lefts, lent.other_rights, lent.reversed, lent.groups, lent.count,
-    lent.sets) at c.in_ok-taken.ensures in
+    let taken = rw (
+      lent.lefts,
+      lent.rights,
+      lent.other_lefts,
+      lent.other_rights,
+      lent.reversed,
+      lent.groups,
+      lent.count,
+      lent.sets,
+    ) at c.in_ok-taken.ensures in
     let given = c.requires.given in
     let after = books_of c.take_step.new.book c.take_step.new.from_book in
     let next : Counts = record { over_a = c.args.counts.over_a; over_b = c.in_ok-taken.taken.over; along_a = c.args.counts.along_a; along_b = c.in_ok-taken.taken.along } in
@@ -152,8 +176,16 @@ b_step-a_step-requires t c =
 pub b_step-returns-in_err-taken : goal.b_step-returns-in_err-taken
 b_step-returns-in_err-taken t c =
     let lent = c.turned.ensures in
-    let taken = rw (lent.lefts, lent.rights, lent.other_lefts, lent.other_rights, lent.reversed, lent.groups, lent.count,
-    lent.sets) at c.in_err-taken.ensures in
+    let taken = rw (
+      lent.lefts,
+      lent.rights,
+      lent.other_lefts,
+      lent.other_rights,
+      lent.reversed,
+      lent.groups,
+      lent.count,
+      lent.sets,
+    ) at c.in_err-taken.ensures in
     let given = c.requires.given in
     let p = err_from_is_err_and c.from_residual.result c.from_residual.ensures.1 in
     λ marks held.
@@ -162,8 +194,16 @@ b_step-returns-in_err-taken t c =
 pub b_step-returns : goal.b_step-returns
 b_step-returns t c =
     let lent = c.turned.ensures in
-    let taken = rw (lent.lefts, lent.rights, lent.other_lefts, lent.other_rights, lent.reversed, lent.groups, lent.count,
-    lent.sets) at c.in_ok-taken.ensures in
+    let taken = rw (
+      lent.lefts,
+      lent.rights,
+      lent.other_lefts,
+      lent.other_rights,
+      lent.reversed,
+      lent.groups,
+      lent.count,
+      lent.sets,
+    ) at c.in_ok-taken.ensures in
     let a = c.args in
     let given = c.requires.given in
     let after = books_of c.take_step.new.book c.take_step.new.from_book in
