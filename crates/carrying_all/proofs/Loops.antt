@@ -2,15 +2,19 @@
 --     Testing          the first loop's invariant: what is tested so far and what is left decide
 --     Writing          the second loop's invariant: the first k numbers are written
 --     writing_step     one number more
+--     decided_behind   a block on the match leaves what is behind it to decide
+--     block_ends       and the positions that make no whole block are those behind it that make none
 -- Assumes nothing.
-use Prim.Native.Nat.{ℕ, suc, ◌+◌, ◌≤◌, ◌<◌}
+use Prim.Native.Nat.{ℕ, suc, ◌+◌, ◌-◌, ◌%◌, ◌≤◌, ◌<◌}
 use mathlib.Core.Path.{◌≡◌, refl, sym, ap₂, ◌∙◌}
-use mathlib.Core.Bool.{Bool, true, false, ◌&&◌}
-use mathlib.Core.List.{List, ◌++◌, map, append_assoc, map-append}
+use mathlib.Core.Bool.{Bool, true, false, ◌&&◌, and_assoc}
+use mathlib.Core.List.{List, [], ◌∷◌, ◌++◌, map, append_assoc, map-append}
 use native.Mathlib.Omega.{arith}
 use native.Mathlib.Numerals.{add-one}
-use lib.ListN.{length, get_or, take, drop, set, length-map, length-set}
+use lib.ListN.{length, get_or, take, drop, set, length-append, length-map, length-set}
 use lib.Seq.{length-take-le, take-suc, drop-cons, set_at}
+use Rattle.std.proofs.Math.Nat.{add-mod_left, mod-le}
+use Rattle.std.proofs.Math.Seq.{drop-append-add}
 use Rattle.positions.specs.CarryingAll.{every}
 
 -- ---- the test
@@ -24,6 +28,34 @@ pub record Testing (test : ℕ → Bool) (positions : List ℕ) (all : Bool) (k 
 next : (test : ℕ → Bool) (positions : List ℕ) {k : ℕ} → k < length positions
     → every test (drop k positions) ≡ (test (get_or positions k 0) && every test (drop (k + 1) positions))
 next test positions {k} inside = rw (drop-cons positions k 0 inside, add-one)
+
+-- ---- the blocks
+
+-- of two parts of a list each decides
+every-parts : (test : ℕ → Bool) (xs ys : List ℕ) → every test (xs ++ ys) ≡ (every test xs && every test ys)
+every-parts test [] ys = refl
+every-parts test (x ∷ xs) ys =
+    rw (every-parts test xs ys) (sym (and_assoc (test x) (every test xs) (every test ys)))
+
+-- what is behind the last whole block of 64
+abbrev pub behind_blocks : List ℕ → List ℕ
+behind_blocks positions = drop (length positions - length positions % 64) positions
+
+module _ {rest : List ℕ} (block rest' : List ℕ) (parted : rest ≡ block ++ rest') where
+  pub decided_behind : (test : ℕ → Bool) (positions : List ℕ) → every test positions ≡ every test rest
+      → every test block ≡ true → every test positions ≡ every test rest'
+  decided_behind test positions decides on = decides ∙ rw parted (every-parts test block rest' ∙ rw on refl)
+
+  pub block_ends : {end end' : List ℕ} → end ≡ behind_blocks rest → end' ≡ end → length block ≡ 64
+      → end' ≡ behind_blocks rest'
+  block_ends behind kept whole =
+      let long : length (block ++ rest') ≡ 64 + length rest' = omega (arith, length-append block rest') in
+      let over : (64 + length rest') % 64 ≡ length rest' % 64 = add-mod_left 64 (length rest') in
+      let less : length rest' % 64 ≤ length rest' = mod-le (length rest') 64 in
+      let from : length (block ++ rest') - length (block ++ rest') % 64
+      ≡ length block + (length rest' - length rest' % 64) =
+      rw long (omega (arith, over, less, whole)) in
+      kept ∙ behind ∙ rw (parted, from) (drop-append-add block rest' (length rest' - length rest' % 64))
 
 -- ---- the numbers
 

